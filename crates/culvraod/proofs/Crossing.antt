@@ -1,0 +1,10 @@
+-- A rule whose answer the method told, at one case of the method's enum: what then crosses the C interface. Assumes nothing.
+use mathlib.Core.Path.{_≡_, sym, ap, _∙_}
+use mathlib.Core.List.{List}
+use Prim.Native.Nat.{ℕ}
+use lib.IntN.{ℤ}
+use Rattle.ranged1d.specs.Answer.{Answer}
+use Rattle.culvraod.specs.Numeric.{keyPointsC}
+
+pub key-points-cross : {A E : Type 0} (tell : E → Answer (A × ℕ)) {rule : Answer (A × ℕ) × List A} {r x : E} (held : List A) (step : A) (count : ℕ) → (tell r, held) ≡ rule → r ≡ x → keyPointsC (tell x, held) step count ≡ keyPointsC rule step count
+key-points-cross {A} {E} tell held step count e q = sym (ap (λ (d : Answer (A × ℕ) × List A). keyPointsC d step count) (sym e ∙ ap (λ (y : E). (tell y, held)) q))

@@ -1,0 +1,15 @@
+-- How a call's answer crosses the C interface. Assumes nothing.
+use lib.IntN.{ℤ, pos, negsuc}
+use Rattle.ranged1d.specs.Answer.{Answer, given, none, refused}
+
+-- what is returned: 0 where the call answered, a refusal's number, −1 for none
+abbrev pub code : {A : Type 0} → Answer A → ℤ
+code (given a) = pos 0
+code none = negsuc 0
+code (refused n) = pos n
+
+-- what lies behind an out pointer afterwards: the part f of an answer; without an answer it is left as it was
+abbrev pub outAfter : {A B : Type 0} → (A → B) → Answer A → B → B
+outAfter f (given a) old = f a
+outAfter f none old = old
+outAfter f (refused n) old = old

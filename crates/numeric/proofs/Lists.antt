@@ -1,0 +1,29 @@
+-- Lists that are made by a rule, `listOf f n`: their length, their entries, and how one is written from the front, one store a turn.
+-- Assumes nothing.
+use mathlib.Core.Path.{_≡_, refl, sym, ap, ap₂, _∙_}
+use mathlib.Core.List.{List, [], _∷_, _++_, append-assoc, map}
+use Prim.Native.Nat.{ℕ, zero, suc, _+_, _<_}
+use native.Mathlib.Omega.{arith}
+use native.Mathlib.Numerals.{add-one}
+use lib.ListN.{length, set, drop, getD, length-append}
+use lib.Seq.{drop-cons, set-at}
+use Rattle.numeric.specs.Marks.{listOf}
+
+module _ {A : Type 0} (f : ℕ → A) where
+  pub length-of : (n : ℕ) → length (listOf f n) ≡ n
+  length-of zero = refl
+  length-of (suc n) = omega (arith, length-append (listOf f n) (f n ∷ []), length-of n)
+
+  -- `d` is any element: it stands where a list has none
+  pub write-more : (d : A) (k : ℕ) (o : List A) → k < length o → set (listOf f k ++ drop k o) k (f k) ≡ listOf f (k + 1) ++ drop (k + 1) o
+  write-more d k o h =
+      rw (add-one, drop-cons o k d)
+      (set-at (listOf f k) (getD o k d) (drop (suc k) o) (f k) k (length-of k) ∙ sym (append-assoc (listOf f k) (f k ∷ []) (drop (suc k) o)))
+
+  pub list-cons : (n : ℕ) → listOf f (suc n) ≡ f 0 ∷ listOf (λ k. f (suc k)) n
+  list-cons zero = refl
+  list-cons (suc n) = ap (λ (l : List A). l ++ (f (suc n) ∷ [])) (list-cons n)
+
+pub list-ext : {A : Type 0} (f g : ℕ → A) (n : ℕ) → ((k : ℕ) → k < n → f k ≡ g k) → listOf f n ≡ listOf g n
+list-ext f g zero e = refl
+list-ext {A} f g (suc n) e = ap₂ (λ (l : List A) (z : A). l ++ (z ∷ [])) (list-ext f g n (λ k h. e k (omega arith))) (e n (omega arith))

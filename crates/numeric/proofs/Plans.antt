@@ -1,0 +1,187 @@
+-- A plan of an axis: the list that `key_points` writes is read off it, and every number on the way fits. Assumes nothing.
+use mathlib.Core.Path.{_≡_, refl, sym, ap, _∙_, subst}
+use mathlib.Core.Bool.{Bool, true, false, cond, not, _&&_}
+use mathlib.Core.List.{List, [], _∷_, _++_, map, map-append}
+use Prim.Native.Nat.{ℕ, zero, suc, _+_, _*_, _≤_, _<_}
+use native.Mathlib.Omega.{arith}
+use lib.Dec.{T, leb, ltb}
+use lib.IntN.{ℤ, pos, negsuc, natAbs, _*ℤ_, pos-ne-negsuc}
+use lib.ListN.{length, drop, length-map}
+use lib.Signed.{leZ, nonNeg}
+use borrow.Author.Tests.{leb-true, leb-false, lt-ltb, le-ltb}
+use Rattle.ranged1d.specs.Answer.{Answer, given, none, refused, _when_, lowest, written}
+use Rattle.ranged1d.specs.Admitted.{wholeAdmitted}
+use Rattle.numeric.specs.declared.KeyPoints.{KeyPoints}
+use Rattle.numeric.specs.Marks.{low, high, distance, chosen, stepAt, firstIndex, lastIndex, howMany, listOf, multiple, noStepFor, noStep, stepFor, stepOf, marksFor, marks}
+use Rattle.numeric.specs.Calls.{wholeKeyPoints, wholePlan, planOf, element, indexMarks, indexKeyPoints}
+use Rattle.numeric.proofs.Lists.{length-of, list-ext}
+use Rattle.numeric.proofs.Steps.{step-pos, step-top}
+use Rattle.numeric.proofs.Bounds.{multiple-element, marks-near, count-near}
+
+-- of the two ends of an admitted axis each is admitted
+pub one-near : (a b : ℤ) → natAbs a ≤ 1000000000 → natAbs b ≤ 1000000000 → (t : Bool) → natAbs (cond t a b) ≤ 1000000000
+one-near a b ha hb true = ha
+one-near a b ha hb false = hb
+
+-- what is known of a plan that was given
+pub record Good (a b : ℤ) (m : ℕ) (p : KeyPoints) : Type 0 where
+  pub ends : (natAbs a ≤ 1000000000) × (natAbs b ≤ 1000000000)
+  pub in-table : chosen (distance (low a b) (high a b)) m < 28
+  pub plan : planOf a b m ≡ p
+  pub marks-are : marks a b m ≡ listOf (element (p .first) (p .step)) (p .count)
+  pub few : p .count ≤ 2000000001
+  pub near : (k : ℕ) → k < p .count → (natAbs (pos k *ℤ p .step) ≤ 2000000000) × (natAbs (element (p .first) (p .step) k) ≤ 2000000000)
+
+module _ (a b : ℤ) (m : ℕ) where
+  good-plan : natAbs a ≤ 1000000000 → natAbs b ≤ 1000000000 → chosen (distance (low a b) (high a b)) m < 28 → Good a b m (planOf a b m)
+  unfolding stepFor marksFor
+  good-plan ha hb h =
+      let k = chosen (distance (low a b) (high a b)) m in
+      let s = stepAt k in
+      let lo = low a b in
+      let hi = high a b in
+      let i = firstIndex lo s in
+      let n = howMany i (lastIndex hi s) in
+      let hl = one-near a b ha hb (leZ a b) in
+      let hh = one-near b a hb ha (leZ a b) in
+      let n-is : length (listOf (multiple i s) n) ≡ n = length-of (multiple i s) n in
+      record {
+        ends = (ha, hb);
+        in-table = h;
+        plan = refl;
+        marks-are = list-ext (multiple i s) (element (i *ℤ pos s) (pos s)) n (λ j l. multiple-element i s j) ∙ ap (λ (c : ℕ). listOf (element (i *ℤ pos s) (pos s)) c) (sym n-is);
+        few = omega (arith, n-is, count-near lo hi s hl hh (step-pos k h) (step-top k h));
+        near = λ j l.
+            let both = marks-near lo hi s hl hh (step-pos k h) (step-top k h) j (omega arith) in
+            (omega (arith, both .0), rw (← multiple-element i s j) (both .1));
+      }
+
+  GoodPlan : Answer KeyPoints → Type 0
+  GoodPlan (given p) = Good a b m p
+  GoodPlan none = Unit {0}
+  GoodPlan (refused n) = Unit {0}
+
+  all-good : GoodPlan (wholePlan a b m)
+  unfolding GoodPlan wholePlan noStepFor
+  all-good = go (wholeAdmitted a) refl (wholeAdmitted b) refl (leb 28 (chosen (distance (low a b) (high a b)) m)) refl
+    where
+      go : (ta : Bool) → wholeAdmitted a ≡ ta → (tb : Bool) → wholeAdmitted b ≡ tb → (t : Bool) → leb 28 (chosen (distance (low a b) (high a b)) m) ≡ t
+          → GoodPlan (lowest (1 when not (ta && tb) ∷ 3 when t ∷ []) (given (planOf a b m)))
+      go true ea true eb false et = good-plan (leb-true _ _ ea) (leb-true _ _ eb) (leb-false _ _ et)
+      go true ea true eb true et = tt
+      go true ea false eb t et = tt
+      go false ea tb eb t et = tt
+
+  pub planned-good : {p : KeyPoints} → wholePlan a b m ≡ given p → Good a b m p
+  unfolding GoodPlan
+  planned-good e = subst GoodPlan e all-good
+
+-- What `key_points` does, by the plan: one law for every element type A, with f from whole numbers to A and `new` the marks as A has
+-- them. The rules of specs/Calls are `ruleBy` at f = λ z. z and at f = natAbs.
+module _ {A : Type 0} (f : ℤ → A) (a b : ℤ) (m : ℕ) (new old : List A) (same : length new ≡ length (marks a b m)) where
+  abbrev pub ruleBy : Answer (A × ℕ) × List A
+  ruleBy =
+      written
+      (lowest (1 when not (wholeAdmitted a && wholeAdmitted b) ∷ 3 when noStep a b m ∷ 13 when ltb (length old) (length new) ∷ []) (given (f (pos (stepOf a b m)), length new)))
+      new
+      old
+
+  byPlan : Answer KeyPoints → Answer (A × ℕ) × List A
+  byPlan (given p) = written (lowest (13 when ltb (length old) (p .count) ∷ []) (given (f (p .step), p .count))) new old
+  byPlan none = (none, old)
+  byPlan (refused n) = (refused n, old)
+
+  by-plan : ruleBy ≡ byPlan (wholePlan a b m)
+  unfolding wholePlan byPlan
+  by-plan = rw same (go (not (wholeAdmitted a && wholeAdmitted b)) (noStep a b m))
+    where
+      go : (t u : Bool) → written (lowest (1 when t ∷ 3 when u ∷ 13 when ltb (length old) (length (marks a b m)) ∷ []) (given (f (pos (stepOf a b m)), length (marks a b m)))) new old
+          ≡ byPlan (lowest (1 when t ∷ 3 when u ∷ []) (given (planOf a b m)))
+      go true u = refl
+      go false true = refl
+      go false false = refl
+
+  pub plan-refused : {n : ℕ} → wholePlan a b m ≡ refused n → ruleBy ≡ (refused n, old)
+  unfolding byPlan
+  plan-refused e = by-plan ∙ ap byPlan e
+
+  module _ {p : KeyPoints} (e : wholePlan a b m ≡ given p) where
+    pub plan-short : length old < p .count → ruleBy ≡ (refused 13, old)
+    unfolding byPlan
+    plan-short h = by-plan ∙ ap byPlan e ∙ rw (lt-ltb (length old) (p .count) h)
+
+    pub plan-written : p .count ≤ length old → ruleBy ≡ (given (f (p .step), p .count), new ++ drop (p .count) old)
+    unfolding byPlan
+    plan-written h =
+        let n-is : length new ≡ p .count = same ∙ ap (λ (q : KeyPoints). q .count) (planned-good a b m e .plan) in
+        by-plan ∙ ap byPlan e ∙ rw (le-ltb (length old) (p .count) h, n-is)
+
+-- on a whole axis
+module _ (a b : ℤ) (m : ℕ) (old : List ℤ) where
+  pub whole-refused : {n : ℕ} → wholePlan a b m ≡ refused n → wholeKeyPoints a b m old ≡ (refused n, old)
+  unfolding wholeKeyPoints
+  whole-refused e = plan-refused (λ z. z) a b m (marks a b m) old refl e
+
+  module _ {p : KeyPoints} (e : wholePlan a b m ≡ given p) where
+    pub whole-short : length old < p .count → wholeKeyPoints a b m old ≡ (refused 13, old)
+    unfolding wholeKeyPoints
+    whole-short h = plan-short (λ z. z) a b m (marks a b m) old refl e h
+
+    pub whole-written : p .count ≤ length old → wholeKeyPoints a b m old ≡ (given (p .step, p .count), listOf (element (p .first) (p .step)) (p .count) ++ drop (p .count) old)
+    unfolding wholeKeyPoints
+    whole-written h = plan-written (λ z. z) a b m (marks a b m) old refl e h ∙ ap (λ (l : List ℤ). (given (p .step, p .count), l ++ drop (p .count) old)) (planned-good a b m e .marks-are)
+
+-- On an index axis: a plan of its ends as whole numbers has nothing below zero.
+pub low-pos : (a b : ℕ) → pos (natAbs (low (pos a) (pos b))) ≡ low (pos a) (pos b)
+low-pos a b = go (leb a b)
+  where
+    go : (t : Bool) → pos (natAbs (cond t (pos a) (pos b))) ≡ cond t (pos a) (pos b)
+    go true = refl
+    go false = refl
+
+first-pos : (z : ℤ) (s : ℕ) → pos (natAbs z) ≡ z → pos (natAbs (firstIndex z s *ℤ pos s)) ≡ firstIndex z s *ℤ pos s
+first-pos (pos n) s e = refl
+first-pos (negsuc n) s e = absurd (pos-ne-negsuc (suc n) n e)
+
+map-list : {A B : Type 0} (f : A → B) (g : ℕ → A) (n : ℕ) → map f (listOf g n) ≡ listOf (λ k. f (g k)) n
+map-list f g zero = refl
+map-list {A} {B} f g (suc n) = map-append f (listOf g n) (g n ∷ []) ∙ ap (λ (l : List B). l ++ (f (g n) ∷ [])) (map-list f g n)
+
+natural-element : (f s : ℤ) (k : ℕ) → pos (natAbs f) ≡ f → pos (natAbs s) ≡ s → natAbs (element f s k) ≡ natAbs f + k * natAbs s
+natural-element (pos x) (pos y) k ef es = refl
+natural-element (pos x) (negsuc y) k ef es = absurd (pos-ne-negsuc (suc y) y es)
+natural-element (negsuc x) s k ef es = absurd (pos-ne-negsuc (suc x) x ef)
+
+pub natural : {z : ℤ} → pos (natAbs z) ≡ z → T (nonNeg z)
+natural e = subst (λ (z : ℤ). T (nonNeg z)) e tt
+
+module _ (a b m : ℕ) (old : List ℕ) where
+  pub index-refused : {n : ℕ} → wholePlan (pos a) (pos b) m ≡ refused n → indexKeyPoints a b m old ≡ (refused n, old)
+  unfolding indexKeyPoints
+  index-refused e = plan-refused natAbs (pos a) (pos b) m (indexMarks a b m) old (length-map (marks (pos a) (pos b) m) natAbs) e
+
+  module _ {p : KeyPoints} (e : wholePlan (pos a) (pos b) m ≡ given p) where
+    pub first-natural : pos (natAbs (p .first)) ≡ p .first
+    first-natural = subst (λ (q : KeyPoints). pos (natAbs (q .first)) ≡ q .first) (planned-good (pos a) (pos b) m e .plan) (first-pos (low (pos a) (pos b)) (stepOf (pos a) (pos b) m) (low-pos a b))
+
+    pub step-natural : pos (natAbs (p .step)) ≡ p .step
+    step-natural = subst (λ (q : KeyPoints). pos (natAbs (q .step)) ≡ q .step) (planned-good (pos a) (pos b) m e .plan) refl
+
+    pub index-marks-are : indexMarks a b m ≡ listOf (λ k. natAbs (p .first) + k * natAbs (p .step)) (p .count)
+    index-marks-are =
+        ap (λ (l : List ℤ). map natAbs l) (planned-good (pos a) (pos b) m e .marks-are)
+        ∙ map-list natAbs (element (p .first) (p .step)) (p .count)
+        ∙ list-ext (λ k. natAbs (element (p .first) (p .step) k)) (λ k. natAbs (p .first) + k * natAbs (p .step)) (p .count) (λ k l. natural-element (p .first) (p .step) k first-natural step-natural)
+
+    pub index-near : (k : ℕ) → k < p .count → natAbs (p .first) + k * natAbs (p .step) ≤ 2000000000
+    index-near k h = rw (← natural-element (p .first) (p .step) k first-natural step-natural) (planned-good (pos a) (pos b) m e .near k h .1)
+
+    pub index-short : length old < p .count → indexKeyPoints a b m old ≡ (refused 13, old)
+    unfolding indexKeyPoints
+    index-short h = plan-short natAbs (pos a) (pos b) m (indexMarks a b m) old (length-map (marks (pos a) (pos b) m) natAbs) e h
+
+    pub index-written : p .count ≤ length old → indexKeyPoints a b m old ≡ (given (natAbs (p .step), p .count), listOf (λ k. natAbs (p .first) + k * natAbs (p .step)) (p .count) ++ drop (p .count) old)
+    unfolding indexKeyPoints
+    index-written h =
+        plan-written natAbs (pos a) (pos b) m (indexMarks a b m) old (length-map (marks (pos a) (pos b) m) natAbs) e h
+        ∙ ap (λ (l : List ℕ). (given (natAbs (p .step), p .count), l ++ drop (p .count) old)) index-marks-are

@@ -1,0 +1,94 @@
+-- What each call of numeric answers, on every input, and what the list lent to it holds afterwards. Assumes nothing.
+use Prim.Native.Nat.{ℕ}
+use mathlib.Core.Bool.{Bool, cond, not, _&&_}
+use mathlib.Core.List.{List, [], _∷_, map}
+use lib.Dec.{ltb}
+use lib.IntN.{ℤ, pos, negsuc, natAbs, _+ℤ_, _*ℤ_}
+use lib.ListN.{length}
+use lib.Signed.{leZ}
+use Rattle.ranged1d.specs.Answer.{Answer, given, none, refused, _when_, lowest, written}
+use Rattle.ranged1d.specs.Refusals.{numberOf}
+use Rattle.ranged1d.specs.Admitted.{wholeAdmitted, indexAdmitted}
+use Rattle.numeric.specs.declared.KeyPoints.{KeyPoints}
+use Rattle.numeric.specs.declared.Marks.{Marks}
+use Rattle.numeric.specs.declared.Marks.the-variants as marks-are
+use Rattle.numeric.specs.declared.IndexMarks.{IndexMarks}
+use Rattle.numeric.specs.declared.IndexMarks.the-variants as index-marks-are
+use Rattle.numeric.specs.declared.Planned.{Planned}
+use Rattle.numeric.specs.declared.Planned.the-variants as planned-is
+use Rattle.numeric.specs.declared.Point.{Point}
+use Rattle.numeric.specs.declared.Point.the-variants as point-is
+use Rattle.numeric.specs.Marks.{low, high, firstIndex, noStep, stepOf, marks}
+
+-- ---- the answers' cases, by 01's numbers and values: step and count; step and count; first mark, step and count; the mark
+abbrev pub tellMarks : Marks → Answer (ℤ × ℕ)
+tellMarks (marks-are.Written s n) = given (s, n)
+tellMarks (marks-are.Refused r) = refused (numberOf r)
+
+abbrev pub tellIndexMarks : IndexMarks → Answer (ℕ × ℕ)
+tellIndexMarks (index-marks-are.Written s n) = given (s, n)
+tellIndexMarks (index-marks-are.Refused r) = refused (numberOf r)
+
+abbrev pub tellPlanned : Planned → Answer KeyPoints
+tellPlanned (planned-is.Points p) = given p
+tellPlanned (planned-is.Refused r) = refused (numberOf r)
+
+abbrev pub tellPoint : Point → Answer ℤ
+tellPoint (point-is.At v) = given v
+tellPoint point-is.Nothing = none
+
+-- ---- RangedCoordi32
+-- `key_points`: 1 where an end is not admitted, 3 where no step serves, 13 where the lent list is too short; else the step and the
+-- number of marks, and the marks at the start of the list
+unfoldable pub wholeKeyPoints : ℤ → ℤ → ℕ → List ℤ → Answer (ℤ × ℕ) × List ℤ
+wholeKeyPoints a b m old =
+    written
+    (lowest (
+    1 when not (wholeAdmitted a && wholeAdmitted b)
+    ∷ 3 when noStep a b m
+    ∷ 13 when ltb (length old) (length (marks a b m))
+    ∷ []
+    ) (given (pos (stepOf a b m), length (marks a b m))))
+    (marks a b m)
+    old
+
+-- `plan`: the same marks unwritten: where the first of them lies, the step to the next, and how many they are. Where there is no
+-- mark, `first` is the multiple that would be the first.
+abbrev pub planOf : ℤ → ℤ → ℕ → KeyPoints
+planOf a b m = record {
+  first = firstIndex (low a b) (stepOf a b m) *ℤ pos (stepOf a b m);
+  step = pos (stepOf a b m);
+  count = length (marks a b m);
+}
+
+unfoldable pub wholePlan : ℤ → ℤ → ℕ → Answer KeyPoints
+wholePlan a b m = lowest (1 when not (wholeAdmitted a && wholeAdmitted b) ∷ 3 when noStep a b m ∷ []) (given (planOf a b m))
+
+-- ---- KeyPoints
+-- `get`: mark i, counted from 0; none from the count on. A value of the struct that no plan gives may lead past the range of an i32:
+-- none there too.
+abbrev pub isI32 : ℤ → Bool
+isI32 z = leZ (negsuc 2_147_483_647) z && leZ z (pos 2_147_483_647)
+
+abbrev pub element : ℤ → ℤ → ℕ → ℤ
+element first step i = first +ℤ pos i *ℤ step
+
+unfoldable pub pointAt : KeyPoints → ℕ → Answer ℤ
+pointAt p i = cond (ltb i (p .count) && isI32 (element (p .first) (p .step) i)) (given (element (p .first) (p .step) i)) none
+
+-- ---- RangedCoordusize: the integer form on usize, whose ends are naturals. Its marks are those of the whole axis with the same ends,
+-- none of which is below zero (`index-whole` of proofs/Index).
+abbrev pub indexMarks : ℕ → ℕ → ℕ → List ℕ
+indexMarks a b m = map natAbs (marks (pos a) (pos b) m)
+
+unfoldable pub indexKeyPoints : ℕ → ℕ → ℕ → List ℕ → Answer (ℕ × ℕ) × List ℕ
+indexKeyPoints a b m old =
+    written
+    (lowest (
+    1 when not (indexAdmitted a && indexAdmitted b)
+    ∷ 3 when noStep (pos a) (pos b) m
+    ∷ 13 when ltb (length old) (length (indexMarks a b m))
+    ∷ []
+    ) (given (stepOf (pos a) (pos b) m, length (indexMarks a b m))))
+    (indexMarks a b m)
+    old

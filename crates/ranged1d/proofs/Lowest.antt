@@ -1,0 +1,40 @@
+-- What `lowest` returns, where the reasons are listed with rising numbers: if a reason applies, a refusal whose number is no higher
+-- than that reason's; if none does, the answer. Assumes nothing.
+use mathlib.Core.Path.{_≡_, refl, sym, ap, _∙_, subst}
+use mathlib.Core.Bool.{Bool, true, false, cond, _&&_}
+use mathlib.Core.List.{List, [], _∷_, List·Memᴰ, List·Memᴰ·head, List·Memᴰ·tail, List·Memᴰ·cases-cons, List·Memᴰ·not-nil}
+use mathlib.Core.Logic.{_⊎_, inl, inr}
+use Prim.Native.Nat.{ℕ, _≤_, _<_}
+use native.Mathlib.Omega.{arith}
+use lib.Dec.{T, ltb, ltb→lt}
+use mir.Facts.{and-yes}
+use Rattle.ranged1d.specs.Answer.{Answer, refused, Reason, lowest}
+
+-- the numbers rise, from above k
+abbrev pub rising : ℕ → List Reason → Bool
+rising k [] = true
+rising k (r ∷ rs) = ltb k (r .number) && rising (r .number) rs
+
+above : (k : ℕ) (rs : List Reason) → T (rising k rs) → (r : Reason) → List·Memᴰ r rs → k < r .number
+above k [] t r m = absurd (List·Memᴰ·not-nil m)
+above k (x ∷ rs) t r m = go (and-yes (ltb k (x .number)) (rising (x .number) rs) t) (List·Memᴰ·cases-cons m) (above (x .number) rs)
+  where
+    go : T (ltb k (x .number)) × T (rising (x .number) rs) → (r ≡ x) ⊎ List·Memᴰ r rs → (T (rising (x .number) rs) → (y : Reason) → List·Memᴰ y rs → x .number < y .number) → k < r .number
+    go both (inl e) rest = rw e (ltb→lt k (x .number) (both .0))
+    go both (inr m) rest = omega (arith, ltb→lt k (x .number) (both .0), rest (both .1) r m)
+
+module _ {A : Type 0} (a : Answer A) where
+  pub lowest-is-least : (k : ℕ) (rs : List Reason) → T (rising k rs) → (r : Reason) → List·Memᴰ r rs → r .applies ≡ true → (n : ℕ) × (lowest rs a ≡ refused n) × (n ≤ r .number)
+  lowest-is-least k [] t r m h = absurd (List·Memᴰ·not-nil m)
+  lowest-is-least k (x ∷ rs) t r m h = go (x .applies) refl (List·Memᴰ·cases-cons m) (lowest-is-least (x .number) rs (and-yes (ltb k (x .number)) (rising (x .number) rs) t .1))
+    where
+      go : (b : Bool) → x .applies ≡ b → (r ≡ x) ⊎ List·Memᴰ r rs → ((y : Reason) → List·Memᴰ y rs → y .applies ≡ true → (n : ℕ) × (lowest rs a ≡ refused n) × (n ≤ y .number))
+          → (n : ℕ) × (cond b (refused (x .number)) (lowest rs a) ≡ refused n) × (n ≤ r .number)
+      go true e (inl q) rest = (x .number, refl, rw q (omega arith))
+      go true e (inr q) rest = let l = above (x .number) rs (and-yes (ltb k (x .number)) (rising (x .number) rs) t .1) r q in (x .number, refl, omega arith)
+      go false e (inl q) rest = absurd (subst T (sym h ∙ ap (λ (s : Reason). s .applies) q ∙ e) tt)
+      go false e (inr q) rest = rest r q h
+
+  pub none-applies : (rs : List Reason) → ((r : Reason) → List·Memᴰ r rs → r .applies ≡ false) → lowest rs a ≡ a
+  none-applies [] h = refl
+  none-applies (x ∷ rs) h = rw (h x (List·Memᴰ·head refl)) (none-applies rs (λ r m. h r (List·Memᴰ·tail m)))

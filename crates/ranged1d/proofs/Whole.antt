@@ -1,0 +1,136 @@
+-- Whole numbers: how far from 0 a sum, a difference, a product or a quotient lies, what fits an i32 or an i64, and what a test of
+-- order says. Assumes nothing.
+use mathlib.Core.Path.{_≡_, refl, sym, ap, _∙_, subst}
+use mathlib.Core.Bool.{Bool, true, false, cond}
+use Prim.Native.Nat.{ℕ, zero, suc, _+_, _-_, _*_, _/_, _≤_, _<_}
+use native.Mathlib.Nat.{div-le-self, zero-mul}
+use native.Mathlib.Omega.{arith}
+use lib.Dec.{T, ltb, leb, leb·zero, leb·suc-zero, leb·suc-suc}
+use lib.IntN.{ℤ, pos, negsuc, negℤ, natAbs, subℕ, _+ℤ_, _-ℤ_, _*ℤ_, +ℤ-idl, negℤ-negℤ}
+use lib.Signed.{leZ, ltZ, quotZ, nonNeg, natAbs-le}
+use borrow.Author.Tests.{ltb-true, ltb-false, leb-true, leb-false, le-leb, lt-leb}
+use mir.Syntax.{w32, w64}
+use mir.Val.{SFits}
+
+-- a − b is below 0 or not
+pub sub-cases : (a b : ℕ) (P : ℤ → Type 0) → (a < b → P (negsuc (b - suc a))) → (b ≤ a → P (pos (a - b))) → P (subℕ a b)
+sub-cases a b P f g = go (ltb a b) refl
+  where
+    go : (t : Bool) → ltb a b ≡ t → P (cond t (negsuc (b - suc a)) (pos (a - b)))
+    go true e = f (ltb-true a b e)
+    go false e = g (ltb-false a b e)
+
+-- ---- distance from 0
+pub sub-far : (a b : ℕ) → natAbs (subℕ a b) ≤ a + b
+sub-far a b = sub-cases a b (λ z. natAbs z ≤ a + b) (λ h. omega arith) (λ h. omega arith)
+
+pub add-far : (x y : ℤ) → natAbs (x +ℤ y) ≤ natAbs x + natAbs y
+add-far (pos a) (pos b) = omega arith
+add-far (pos a) (negsuc b) = sub-far a (suc b)
+add-far (negsuc a) (pos b) = omega (arith, sub-far b (suc a))
+add-far (negsuc a) (negsuc b) = omega arith
+
+pub neg-far : (x : ℤ) → natAbs (negℤ x) ≡ natAbs x
+neg-far (pos zero) = refl
+neg-far (pos (suc n)) = refl
+neg-far (negsuc n) = refl
+
+pub minus-far : (x y : ℤ) → natAbs (x -ℤ y) ≤ natAbs x + natAbs y
+minus-far x y = omega (arith, add-far x (negℤ y), neg-far y)
+
+-- 0 − z
+pub zero-minus-far : (z : ℤ) → natAbs (pos 0 -ℤ z) ≡ natAbs z
+zero-minus-far z = ap natAbs (+ℤ-idl (negℤ z)) ∙ neg-far z
+
+pub quot-far : (x : ℤ) (s : ℕ) → natAbs (quotZ x (pos s)) ≤ natAbs x
+quot-far (pos a) s = div-le-self a s
+quot-far (negsuc a) s = omega (arith, neg-far (pos (suc a / s)), div-le-self (suc a) s)
+
+pub times-far : (z : ℤ) (s : ℕ) → natAbs (z *ℤ pos s) ≡ natAbs z * s
+times-far (pos a) s = refl
+times-far (negsuc a) s = neg-far (pos (suc a * s))
+
+pub pos-times-far : (i : ℕ) (z : ℤ) → natAbs (pos i *ℤ z) ≡ i * natAbs z
+pos-times-far i (pos a) = refl
+pos-times-far i (negsuc a) = neg-far (pos (i * suc a))
+
+-- ---- what fits
+pub fits32 : (z : ℤ) → natAbs z ≤ 2147483647 → SFits w32 z
+fits32 (pos n) h = record { sfits = omega arith }
+fits32 (negsuc n) h = record { sfits = omega arith }
+
+pub fits64 : (z : ℤ) → natAbs z ≤ 9223372036854775807 → SFits w64 z
+fits64 (pos n) h = record { sfits = omega arith }
+fits64 (negsuc n) h = record { sfits = omega arith }
+
+pub far32 : (z : ℤ) → SFits w32 z → natAbs z ≤ 2147483648
+far32 z f = natAbs-le z (f .sfits)
+
+pub range32 : (z : ℤ) → ltZ z (negsuc 2147483647) ≡ false → leZ z (pos 2147483647) ≡ true → SFits w32 z
+range32 (pos n) l u = record { sfits = omega (arith, leb-true n 2147483647 u) }
+range32 (negsuc n) l u = record { sfits = omega (arith, ltb-false 2147483647 n l) }
+
+-- ---- order
+pub not-lt : (x y : ℤ) → ltZ x y ≡ false → leZ y x ≡ true
+not-lt (pos a) (pos b) h = le-leb b a (ltb-false a b h)
+not-lt (pos a) (negsuc b) h = refl
+not-lt (negsuc a) (pos b) h = absurd (subst T h tt)
+not-lt (negsuc a) (negsuc b) h = le-leb a b (ltb-false b a h)
+
+pub lt-not : (x y : ℤ) → ltZ x y ≡ true → leZ y x ≡ false
+lt-not (pos a) (pos b) h = lt-leb b a (ltb-true a b h)
+lt-not (pos a) (negsuc b) h = absurd (subst T (sym h) tt)
+lt-not (negsuc a) (pos b) h = refl
+lt-not (negsuc a) (negsuc b) h = lt-leb a b (ltb-true b a h)
+
+-- hi − lo is not negative
+pub ordered : (lo hi : ℤ) → leZ lo hi ≡ true → T (nonNeg (hi -ℤ lo))
+ordered (pos zero) (pos b) h = tt
+ordered (pos (suc a)) (pos b) h = sub-cases b (suc a) (λ z. T (nonNeg z)) (λ l. omega (arith, leb-true (suc a) b h)) (λ l. tt)
+ordered (pos zero) (negsuc b) h = absurd (subst T (sym h) tt)
+ordered (pos (suc a)) (negsuc b) h = absurd (subst T (sym h) tt)
+ordered (negsuc a) (pos b) h = tt
+ordered (negsuc a) (negsuc b) h = sub-cases (suc a) (suc b) (λ z. T (nonNeg z)) (λ l. omega (arith, leb-true b a h)) (λ l. tt)
+
+pub neg-nonNeg : (z : ℤ) → ltZ z (pos 0) ≡ true → T (nonNeg (negℤ z))
+neg-nonNeg (pos n) h = absurd (omega (arith, ltb-true n 0 h))
+neg-nonNeg (negsuc n) h = tt
+
+pub not-negative : (z : ℤ) → ltZ z (pos 0) ≡ false → T (nonNeg z)
+not-negative (pos n) h = tt
+not-negative (negsuc n) h = subst T h tt
+
+-- of two numbers one is not above the other
+pub other-way : (x y : ℤ) → leZ x y ≡ false → leZ y x ≡ true
+other-way (pos a) (pos b) h = le-leb b a (omega (arith, leb-false a b h))
+other-way (pos a) (negsuc b) h = refl
+other-way (negsuc a) (pos b) h = absurd (subst T h tt)
+other-way (negsuc a) (negsuc b) h = le-leb a b (omega (arith, leb-false b a h))
+
+pub both-ways : (x y : ℤ) → leZ x y ≡ true → leZ y x ≡ true → x ≡ y
+both-ways (pos a) (pos b) h k = ap pos (omega (arith, leb-true a b h, leb-true b a k))
+both-ways (pos a) (negsuc b) h k = absurd (subst T (sym h) tt)
+both-ways (negsuc a) (pos b) h k = absurd (subst T (sym k) tt)
+both-ways (negsuc a) (negsuc b) h k = ap negsuc (omega (arith, leb-true b a h, leb-true a b k))
+
+-- ---- negation
+pub neg-le : (x y : ℤ) → leZ (negℤ x) (negℤ y) ≡ leZ y x
+neg-le (pos zero) (pos zero) = refl
+neg-le (pos zero) (pos (suc b)) = sym (leb·suc-zero b)
+neg-le (pos zero) (negsuc b) = leb·zero (suc b)
+neg-le (pos (suc a)) (pos zero) = sym (leb·zero (suc a))
+neg-le (pos (suc a)) (pos (suc b)) = sym (leb·suc-suc b a)
+neg-le (pos (suc a)) (negsuc b) = refl
+neg-le (negsuc a) (pos zero) = leb·suc-zero a
+neg-le (negsuc a) (pos (suc b)) = refl
+neg-le (negsuc a) (negsuc b) = leb·suc-suc a b
+
+pub neg-lt-zero : (x : ℤ) → ltZ (pos 0) (negℤ x) ≡ ltZ x (pos 0)
+neg-lt-zero (pos zero) = refl
+neg-lt-zero (pos (suc a)) = sym (leb·suc-zero (suc a))
+neg-lt-zero (negsuc a) = leb·suc-suc 0 a ∙ leb·zero a
+
+pub neg-times : (x : ℤ) (s : ℕ) → negℤ x *ℤ pos s ≡ negℤ (x *ℤ pos s)
+neg-times (pos zero) s = ap pos (zero-mul s) ∙ sym (ap (λ (n : ℕ). negℤ (pos n)) (zero-mul s))
+neg-times (pos (suc a)) s = refl
+neg-times (negsuc a) s = sym (negℤ-negℤ (pos (suc a * s)))

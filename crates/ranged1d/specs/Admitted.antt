@@ -1,0 +1,21 @@
+-- 01 "What stays of plotters, and what is written anew": which numbers are admitted. Assumes nothing.
+use Prim.Native.Nat.{ℕ}
+use mathlib.Core.Bool.{Bool, _&&_}
+use lib.Dec.{leb}
+use lib.IntN.{ℤ, natAbs}
+use Rattle.ranged1d.specs.declared.Limit.{Limit}
+
+-- whole ends, values and steps: at most 1,000,000,000 away from zero
+abbrev pub wholeAdmitted : ℤ → Bool
+wholeAdmitted z = leb (natAbs z) 1_000_000_000
+
+-- ends of an index axis, which has nothing below zero: the same bound
+abbrev pub indexAdmitted : ℕ → Bool
+indexAdmitted k = leb k 1_000_000_000
+
+-- pixels and film limits: at most 1,000,000 away from zero
+abbrev pub pixelAdmitted : ℤ → Bool
+pixelAdmitted x = leb (natAbs x) 1_000_000
+
+abbrev pub limitAdmitted : Limit → Bool
+limitAdmitted l = pixelAdmitted (l .0) && pixelAdmitted (l .1)

@@ -1,0 +1,38 @@
+-- The vocabulary of every rule: what a call answers, which refusal it meets first, and what lent memory holds afterwards.
+-- Assumes nothing.
+use Prim.Native.Nat.{ℕ}
+use mathlib.Core.Bool.{Bool, cond}
+use mathlib.Core.List.{List, [], _∷_, _++_}
+use lib.ListN.{length, drop}
+
+-- 01 "Why a call stops": a call gives its answer, or answers that there is none, or is refused with a number. None is no refusal.
+pub data Answer (A : Type 0) : Type 0 where
+  given : A → Answer A
+  none : Answer A
+  refused : ℕ → Answer A
+
+-- A reason to refuse: its number, and whether it applies to these arguments.
+pub record Reason : Type 0 where
+  pub number : ℕ
+  pub applies : Bool
+
+infix 68 _when_
+abbrev pub _when_ : ℕ → Bool → Reason
+n when t = record { number = n; applies = t }
+
+-- 01 "Why a call stops": of the refusals that apply, the lowest is returned. A rule lists its reasons with rising numbers, and the
+-- first that applies decides; `lowest-is-least` of proofs/Lowest says that it is then the lowest.
+abbrev pub lowest : {A : Type 0} → List Reason → Answer A → Answer A
+lowest [] a = a
+lowest (r ∷ rs) a = cond (r .applies) (refused (r .number)) (lowest rs a)
+
+-- Lent memory that held `old`, once a call has this answer: an answer stands at its start and leaves the rest as it was; none and a
+-- refusal write nothing.
+abbrev pub heldAfter : {A B : Type 0} → Answer A → List B → List B → List B
+heldAfter (given a) new old = new ++ drop (length new) old
+heldAfter none new old = old
+heldAfter (refused n) new old = old
+
+-- The whole of what a call with lent memory does: its answer, and what the memory then holds.
+abbrev pub written : {A B : Type 0} → Answer A → List B → List B → Answer A × List B
+written a new old = (a, heldAfter a new old)

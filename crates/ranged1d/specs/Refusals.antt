@@ -1,0 +1,34 @@
+-- 01 "Why a call stops": the number of each refusal. Assumes nothing.
+use Prim.Native.Nat.{ℕ}
+use Rattle.ranged1d.specs.declared.Refusal.{Refusal}
+use Rattle.ranged1d.specs.declared.Refusal.the-variants.{WholeNotAdmitted, LimitNotAdmitted, NoStep, NoSegments, TooFar, StepAgainstAxis, ListTooLong, NotMonotone, NanTarget, AboveI32, NotPrintable, TooManyDecimals, OutTooShort, NotARuler}
+
+abbrev pub numberOf : Refusal → ℕ
+-- a whole end, value, step or list entry that is not admitted
+numberOf WholeNotAdmitted = 1
+-- a limit or a pixel that is not admitted
+numberOf LimitNotAdmitted = 2
+-- none of the 28 steps serves
+numberOf NoStep = 3
+-- segments of an axis with no entries, or of a whole axis with too many
+numberOf NoSegments = 4
+-- a place too far from p
+numberOf TooFar = 5
+-- a step that leads away from b
+numberOf StepAgainstAxis = 6
+-- a stepped list that is too long, or longer than the list lent for it
+numberOf ListTooLong = 7
+-- a searched list that neither rises nor falls throughout
+numberOf NotMonotone = 8
+-- a NaN to search for
+numberOf NanTarget = 9
+-- a value above the largest i32
+numberOf AboveI32 = 10
+-- a number that has no label
+numberOf NotPrintable = 11
+-- more decimals than a label can have
+numberOf TooManyDecimals = 12
+-- bytes or a mark list to be written that are too short
+numberOf OutTooShort = 13
+-- bytes that are no ruler
+numberOf NotARuler = 14
