@@ -40,9 +40,9 @@ pub extern "C" fn culv_index_key_points(
     ensures { λ r. ⌜ (r, now (out .exit), now (step .exit), now (count .exit)) ≡ keyPointsC (indexKeyPoints a b m (now (out .entry))) (now (step .entry)) (now (count .entry)) ⌝ }
 {
     match RangedCoordusize(a, b).key_points(m, out) {
-        IndexMarks::Written(s, n) => {
-            *step = s;
-            *count = n;
+        IndexMarks::Written(t, k) => {
+            *step = t;
+            *count = k;
             0
         }
         IndexMarks::Refused(r) => r.number() as i32,

@@ -4,3 +4,9 @@ pub mod Steps
 pub mod Signs
 pub mod Bounds
 pub mod Plans
+pub mod Worked
+pub mod Reflect
+pub mod Mirror
+pub mod Most
+pub mod NoStep
+pub mod Theorems

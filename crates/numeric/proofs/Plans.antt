@@ -1,7 +1,7 @@
 -- A plan of an axis: the list that `key_points` writes is read off it, and every number on the way fits. Assumes nothing.
 use mathlib.Core.Path.{_≡_, refl, sym, ap, _∙_, subst}
 use mathlib.Core.Bool.{Bool, true, false, cond, not, _&&_}
-use mathlib.Core.List.{List, [], _∷_, _++_, map, map-append}
+use mathlib.Core.List.{List, [], _∷_, _++_, map}
 use Prim.Native.Nat.{ℕ, zero, suc, _+_, _*_, _≤_, _<_}
 use native.Mathlib.Omega.{arith}
 use lib.Dec.{T, leb, ltb}
@@ -14,7 +14,7 @@ use Rattle.ranged1d.specs.Admitted.{wholeAdmitted}
 use Rattle.numeric.specs.declared.KeyPoints.{KeyPoints}
 use Rattle.numeric.specs.Marks.{low, high, distance, chosen, stepAt, firstIndex, lastIndex, howMany, listOf, multiple, noStepFor, noStep, stepFor, stepOf, marksFor, marks}
 use Rattle.numeric.specs.Calls.{wholeKeyPoints, wholePlan, planOf, element, indexMarks, indexKeyPoints}
-use Rattle.numeric.proofs.Lists.{length-of, list-ext}
+use Rattle.numeric.proofs.Lists.{length-of, list-ext, map-list}
 use Rattle.numeric.proofs.Steps.{step-pos, step-top}
 use Rattle.numeric.proofs.Bounds.{multiple-element, marks-near, count-near}
 
@@ -142,10 +142,6 @@ low-pos a b = go (leb a b)
 first-pos : (z : ℤ) (s : ℕ) → pos (natAbs z) ≡ z → pos (natAbs (firstIndex z s *ℤ pos s)) ≡ firstIndex z s *ℤ pos s
 first-pos (pos n) s e = refl
 first-pos (negsuc n) s e = absurd (pos-ne-negsuc (suc n) n e)
-
-map-list : {A B : Type 0} (f : A → B) (g : ℕ → A) (n : ℕ) → map f (listOf g n) ≡ listOf (λ k. f (g k)) n
-map-list f g zero = refl
-map-list {A} {B} f g (suc n) = map-append f (listOf g n) (g n ∷ []) ∙ ap (λ (l : List B). l ++ (f (g n) ∷ [])) (map-list f g n)
 
 natural-element : (f s : ℤ) (k : ℕ) → pos (natAbs f) ≡ f → pos (natAbs s) ≡ s → natAbs (element f s k) ≡ natAbs f + k * natAbs s
 natural-element (pos x) (pos y) k ef es = refl

@@ -1,2 +1,4 @@
 pub mod Marks
 pub mod Calls
+pub mod Mirror
+pub mod Worked

@@ -186,13 +186,13 @@ fn compute_i32_key_points(out: &mut [i32], first: i32, step: i32, n: usize)
     }
 }
 
-fn compute_usize_key_points(out: &mut [usize], first: usize, step: usize, n: usize)
-    requires { ⌜ n ≤ length (now out) ⌝ }
-    requires { ⌜ ((k : ℕ) → k < n → first + k * step ≤ 4294967295) ⌝ }
-    ensures { λ _. ⌜ now (out .exit) ≡ listOf (λ k. first + k * step) n ++ drop n (now (out .entry)) ⌝ }
+fn compute_usize_key_points(out: &mut [usize], first: usize, step: usize, count: usize)
+    requires { ⌜ count ≤ length (now out) ⌝ }
+    requires { ⌜ ((k : ℕ) → k < count → first + k * step ≤ 4294967295) ⌝ }
+    ensures { λ _. ⌜ now (out .exit) ≡ listOf (λ k. first + k * step) count ++ drop count (now (out .entry)) ⌝ }
 {
     let mut k = 0;
-    while k < n {
+    while k < count {
         out[k] = first + k * step;
         k += 1;
     }

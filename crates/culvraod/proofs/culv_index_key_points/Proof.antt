@@ -11,8 +11,8 @@ use Rattle.culvraod.proofs.culv_index_key_points.Tie as tie
 key-points-requires : tie.Need-key-points-requires
 key-points-requires c κs = search needs
 
-enum-known-s : tie.Need-enum-known-s
-enum-known-s c = search needs
+enum-known-t : tie.Need-enum-known-t
+enum-known-t c = search needs
 
 enum-known-r : tie.Need-enum-known-r
 enum-known-r c = search needs
@@ -30,7 +30,7 @@ returns : tie.Need-returns
 returns c =
     let k = c .before .before .before .before .before in
     let at = k .before .before .before in
-    key-points-cross tellIndexMarks (k .key-points .last .1 .1 .0) (at .args .step .now) (at .args .count .now) (k .key-points .ensures) (c .before .s .given .1)
+    key-points-cross tellIndexMarks (k .key-points .last .1 .1 .0) (at .args .step .now) (at .args .count .now) (k .key-points .ensures) (c .before .t .given .1)
 
 same-length-2 : tie.Need-same-length-2
 same-length-2 c = search needs
@@ -47,7 +47,7 @@ culv-index-key-points-spec =
     tie.close
     (tie.spec
     key-points-requires
-    enum-known-s
+    enum-known-t
     enum-known-r
     number-requires
     cast-result

@@ -10,10 +10,10 @@ use Rattle.numeric.proofs.compute_usize_key_points.Statement.{statement
 use Rattle.numeric.proofs.compute_usize_key_points.Tie as tie
 
 abbrev Inv-loop : tie.InvT-loop
-Inv-loop out₀ first step n k₀ out k = (k ≤ n) × (out ≡ listOf (λ j. first + j * step) k ++ drop k out₀) × (length out ≡ length out₀)
+Inv-loop out₀ first step count k₀ out k = (k ≤ count) × (out ≡ listOf (λ j. first + j * step) k ++ drop k out₀) × (length out ≡ length out₀)
 
 abbrev μ-loop : tie.MeasureT-loop
-μ-loop out₀ first step n k₀ out k = n - k
+μ-loop out₀ first step count k₀ out k = count - k
 
 loop-holds : tie.Need-loop-holds Inv-loop μ-loop
 loop-holds c = (omega arith, refl, refl)
@@ -53,7 +53,7 @@ same-length : tie.Need-same-length Inv-loop μ-loop
 same-length c = c .before .loop .inv .2
 
 returns : tie.Need-returns Inv-loop μ-loop
-returns c = let end : c .before .loop .k ≡ c .before .before .args .n = omega arith in rw (← end) (c .before .loop .inv .1)
+returns c = let end : c .before .loop .k ≡ c .before .before .args .count = omega arith in rw (← end) (c .before .loop .inv .1)
 
 pub compute-usize-key-points-spec : {M : Type 1} → statement M
 compute-usize-key-points-spec =

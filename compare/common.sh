@@ -1,0 +1,63 @@
+# Shared by run, bench and vectors, which source it.
+set -euo pipefail
+
+root=$(cd "$(dirname "${BASH_SOURCE[0]}")/.." && pwd)
+built=$root/target/compare
+
+# Where the sources of plotters are: a folder that holds the crate's own paths.
+plotters_src=$(realpath -m "${PLOTTERS_SRC:-$root/../shared/docs/src}")
+plotters_files=(
+    src/coord/ranged1d/mod.rs
+    src/coord/ranged1d/discrete.rs
+    src/coord/ranged1d/types/numeric.rs
+    src/coord/ranged1d/combinators/linspace.rs
+    src/coord/ranged1d/combinators/logarithmic.rs
+    src/data/float.rs
+)
+
+# Where the archive is; without CULVRAOD_LIB_DIR it is built there first.
+archive_dir=$(realpath -m "${CULVRAOD_LIB_DIR:-$root/target/staticlib}")
+
+cd "$root"
+
+# Copies a file if the copy is missing or differs, so that nothing is built again in vain.
+copy() {
+    cmp -s "$1" "$2" || install -D -m 644 "$1" "$2"
+}
+
+# The reference crate: plotters' files as they are, and the cut-down modules above them.
+make_reference() {
+    local file
+    for file in "${plotters_files[@]}"; do
+        if [ ! -r "$plotters_src/$file" ]; then
+            echo "plotters' sources are missing: no $file in $plotters_src (set PLOTTERS_SRC)" >&2
+            exit 2
+        fi
+    done
+    (cd compare/reference && find . -type f) | while read -r file; do
+        copy "compare/reference/$file" "$built/plotters/$file"
+    done
+    for file in "${plotters_files[@]}"; do
+        copy "$plotters_src/$file" "$built/plotters/$file"
+        cmp "$plotters_src/$file" "$built/plotters/$file"
+    done
+}
+
+make_archive() {
+    if [ -z "${CULVRAOD_LIB_DIR:-}" ]; then
+        rt staticlib culvraod
+    fi
+    if [ ! -r "$archive_dir/libculvraod.a" ]; then
+        echo "no libculvraod.a in $archive_dir" >&2
+        exit 2
+    fi
+    export CULVRAOD_LIB_DIR=$archive_dir
+}
+
+# Cargo on one of the crates here, with everything that it makes under target/.
+build() {
+    local command=$1 crate=$2
+    shift 2
+    cargo "$command" --quiet --offline --locked \
+        --manifest-path "$crate/Cargo.toml" --target-dir "$built/cargo" "$@"
+}

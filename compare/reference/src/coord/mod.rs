@@ -1,0 +1,3 @@
+pub mod ranged1d;
+pub use ranged1d::combinators::*;
+pub use ranged1d::types::*;

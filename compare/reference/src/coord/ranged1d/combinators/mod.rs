@@ -1,0 +1,4 @@
+mod linspace;
+pub use linspace::*;
+mod logarithmic;
+pub use logarithmic::*;

@@ -1,0 +1,2 @@
+mod numeric;
+pub use numeric::*;

@@ -1,0 +1,55 @@
+//! Runs plotters and culvraod side by side: `compare`, `bench` or `vectors`.
+//!
+//! Each family of calls has a module with an entry of each name; a new family is added below.
+
+mod numeric;
+mod random;
+mod reference;
+
+#[cfg(feature = "library")]
+mod lent;
+#[cfg(feature = "library")]
+mod tally;
+#[cfg(feature = "library")]
+mod timing;
+
+use std::env;
+use std::process::ExitCode;
+
+/// Runs every family against plotters; true if nothing differs.
+#[cfg(feature = "library")]
+fn compare() -> bool {
+    [numeric::compare()].iter().all(|&agrees| agrees)
+}
+
+/// Times every family beside plotters.
+#[cfg(feature = "library")]
+fn bench() -> bool {
+    println!("{}", timing::HEADING);
+    numeric::bench();
+    true
+}
+
+/// Prints plotters' answers for every family.
+fn vectors() -> bool {
+    print!("{}", include_str!("vectors-heading.txt"));
+    numeric::vectors();
+    true
+}
+
+fn main() -> ExitCode {
+    reference::hush();
+    let done = match env::args().nth(1).as_deref() {
+        #[cfg(feature = "library")]
+        Some("compare") => compare(),
+        #[cfg(feature = "library")]
+        Some("bench") => bench(),
+        Some("vectors") => vectors(),
+        _ => panic!("one of compare, bench, vectors is wanted"),
+    };
+    if done {
+        ExitCode::SUCCESS
+    } else {
+        ExitCode::FAILURE
+    }
+}

@@ -1,0 +1,283 @@
+-- The mirror theorem for marks: `mirror` proves what specs/Mirror states. Assumes nothing.
+use mathlib.Core.Path.{_≡_, refl, sym, ap, ap₂, _∙_, subst}
+use mathlib.Core.Logic.{_⊎_, inl, inr, _↔_}
+use mathlib.Core.Bool.{Bool, true, false, cond, not, _&&_}
+use mathlib.Core.List.{List, [], _∷_, _++_, map, reverse}
+use Prim.Native.Nat.{ℕ, zero, suc, _+_, _-_, _*_, _/_, _%_, _≤_, _<_}
+use native.Mathlib.Nat.{zero-mod, zero-div, suc-mul, div-add-mod', div-mul-le-self, le-div-iff-mul-le, mod-lt, le-trans, mul-le-mul-right}
+use native.Mathlib.Omega.{arith}
+use borrow.Author.Tests.{leb-true, leb-false, ltb-true, eqb-true, eqb-false, lt-ltb, le-leb}
+use lib.Arith.{digits-div}
+use lib.Dec.{T, leb, ltb, eqb}
+use lib.IntN.{ℤ, pos, negsuc, negℤ, natAbs, _+ℤ_, _*ℤ_, +ℤ-comm, negℤ-negℤ}
+use lib.ListN.{length, length-append, length-map, length-reverse}
+use lib.Signed.{leZ, ltZ, quotZ, _≤ℤ_, _<ℤ_}
+use Rattle.ranged1d.specs.Answer.{Answer, given, none, refused, _when_, lowest}
+use Rattle.ranged1d.specs.Admitted.{wholeAdmitted}
+use Rattle.ranged1d.proofs.Whole.{neg-far, other-way, both-ways, neg-le, neg-lt-zero, neg-times}
+use Rattle.numeric.specs.Marks.{low, high, distance, stepAt, chosen, ceilDiv, firstIndex, lastIndex, howMany, multiple, multiples, listOf, noStepFor, stepFor, marksFor, noStep, stepOf, marks}
+use Rattle.numeric.specs.Calls.{wholeKeyPoints}
+use Rattle.numeric.specs.Mirror.{mirrored, nearest, nearestZero, Divides, NextTowardZero, OneMore, stepOnly, tooShort, Mirrored}
+use Rattle.numeric.proofs.Signs.{yes-le, yes-lt, lt-yes, above-neg, neg-order, below-all}
+use Rattle.numeric.proofs.Steps.{step-pos}
+use Rattle.numeric.proofs.Reflect.{reflect, one-more, mirrored-cons}
+
+-- ---- z cut to a multiple of s toward zero, for z below zero and no multiple itself, is the next multiple toward zero
+abbrev cut : ℕ → ℤ → ℤ
+cut s z = quotZ z (pos s) *ℤ pos s
+
+module _ (s : ℕ) (hs : 0 < s) (n : ℕ) (odd : suc n % s ≡ 0 → ⊥) where
+  c : ℕ
+  c = suc n / s
+
+  cut-is : cut s (negsuc n) ≡ negℤ (pos (c * s))
+  unfolding c
+  cut-is = neg-times (pos (suc n / s)) s
+
+  cut-past : c * s < suc n
+  unfolding c
+  cut-past = omega (arith, div-add-mod' (suc n) s)
+
+  no-nearer : (k : ℤ) → negsuc n <ℤ (k *ℤ pos s) → leZ (negℤ (pos (c * s))) (k *ℤ pos s) ≡ true
+  unfolding c
+  no-nearer (pos j) h = below-all (c * s) (j * s)
+  no-nearer (negsuc j) h = neg-order (c * s) (suc j * s) (mul-le-mul-right s fewer)
+    where
+      short : (x : ℕ) → ltZ (negsuc n) (negℤ (pos x)) ≡ true → x ≤ suc n
+      short zero e = omega arith
+      short (suc x) e = omega (arith, ltb-true x n e)
+
+      fewer : suc j ≤ c
+      fewer = le-div-iff-mul-le hs .1 (short (suc j * s) (lt-yes h))
+
+  pub cut-next : NextTowardZero s (negsuc n) (cut s (negsuc n))
+  cut-next = record {
+    multiple = (quotZ (negsuc n) (pos s), refl);
+    past = yes-lt (rw cut-is (above-neg n (c * s) cut-past));
+    toward-zero = yes-le (rw cut-is (below-all (c * s) 0));
+    next = λ k h. yes-le (rw cut-is (no-nearer k h));
+  }
+
+-- ---- an axis from lo to hi, with the step s
+abbrev marksBy : ℤ → ℤ → ℕ → List ℤ
+marksBy lo hi s = multiples (firstIndex lo s) (lastIndex hi s) s
+
+cut-neg : (z : ℤ) (s : ℕ) → quotZ (negℤ z) (pos s) ≡ negℤ (quotZ z (pos s))
+cut-neg (pos zero) s = ap pos (zero-div s) ∙ sym (ap (λ (n : ℕ). negℤ (pos n)) (zero-div s))
+cut-neg (pos (suc a)) s = refl
+cut-neg (negsuc a) s = sym (negℤ-negℤ (pos (suc a / s)))
+
+ceil-even : (n s : ℕ) → 0 < s → n % s ≡ 0 → ceilDiv n s ≡ n / s
+ceil-even n s h e =
+    let whole : n ≡ n / s * s = omega (arith, div-add-mod' n s) in
+    ap (λ (x : ℕ). (x + (s - 1)) / s) whole ∙ digits-div (n / s) {m = s} {r = s - 1} (omega arith)
+
+ceil-odd : (n s : ℕ) → 0 < s → (n % s ≡ 0 → ⊥) → ceilDiv n s ≡ suc (n / s)
+ceil-odd n s h e =
+    let split : n + (s - 1) ≡ suc (n / s) * s + (n % s - 1) = omega (arith, div-add-mod' n s, suc-mul (n / s) s) in
+    ap (λ (x : ℕ). x / s) split ∙ digits-div (suc (n / s)) {m = s} {r = n % s - 1} (omega (arith, mod-lt n h))
+
+module _ (s : ℕ) (hs : 0 < s) where
+  first-zero : firstIndex (pos 0) s ≡ quotZ (pos 0) (pos s)
+  first-zero = ap pos (ceil-even 0 s hs (zero-mod s))
+
+  -- where s divides the needle nearest zero, the first mark on either side is the end cut toward zero
+  first-lo : (lo hi : ℤ) → Divides s (nearest lo hi) → firstIndex lo s ≡ quotZ lo (pos s)
+  first-lo (pos zero) hi e = first-zero
+  first-lo (pos (suc p)) hi e =
+      ap pos (ceil-even (suc p) s hs (subst (λ (t : Bool). Divides s (cond t (pos (suc p)) (cond (ltZ hi (pos 0)) hi (pos 0)))) (lt-ltb 0 (suc p) (omega arith)) e))
+  first-lo (negsuc p) hi e = refl
+
+  first-hi : (lo hi : ℤ) → leZ lo hi ≡ true → Divides s (nearest lo hi) → firstIndex (negℤ hi) s ≡ quotZ (negℤ hi) (pos s)
+  first-hi lo (pos zero) l e = first-zero
+  first-hi lo (pos (suc q)) l e = refl
+  first-hi (pos p) (negsuc q) l e = absurd (subst T (sym l) tt)
+  first-hi (negsuc p) (negsuc q) l e = ap pos (ceil-even (suc q) s hs e)
+
+  even-at : (lo hi : ℤ) → leZ lo hi ≡ true → Divides s (nearest lo hi) → marksBy (negℤ hi) (negℤ lo) s ≡ mirrored (marksBy lo hi s)
+  even-at lo hi l e =
+      ap₂ (λ (f g : ℤ). multiples f g s) (first-hi lo hi l e ∙ cut-neg hi s) (cut-neg lo s)
+      ∙ reflect (quotZ lo (pos s)) (quotZ hi (pos s)) s
+      ∙ ap (λ (f : ℤ). mirrored (multiples f (quotZ hi (pos s)) s)) (sym (first-lo lo hi e))
+
+  grows : (p q : ℕ) → p ≤ q → p / s ≤ q / s
+  grows p q h = le-div-iff-mul-le hs .1 (le-trans (div-mul-le-self p s) h)
+
+  first-neg : (q : ℕ) → firstIndex (negℤ (pos q)) s ≡ negℤ (pos (q / s))
+  first-neg zero = first-zero ∙ cut-neg (pos 0) s
+  first-neg (suc q) = refl
+
+  -- where it does not, and the axis lies above zero, its mirror has one mark more: its end nearest zero, cut toward zero
+  above-at : (p q : ℕ) → p ≤ q → (p % s ≡ 0 → ⊥) → marksBy (negℤ (pos q)) (negℤ (pos p)) s ≡ mirrored (marksBy (pos p) (pos q) s) ++ (cut s (negℤ (pos p)) ∷ [])
+  above-at p q l e =
+      let x = p / s in
+      let y = q / s in
+      ap₂ (λ (f g : ℤ). multiples f g s) (first-neg q) (cut-neg (pos p) s)
+      ∙ reflect (pos x) (pos y) s
+      ∙ ap mirrored (one-more x y s (grows p q l))
+      ∙ mirrored-cons (pos x *ℤ pos s) (multiples (pos (suc x)) (pos y) s)
+      ∙ ap₂ (λ (n : ℕ) (z : ℤ). mirrored (multiples (pos n) (pos y) s) ++ (z ∷ [])) (sym (ceil-odd p s hs e)) (sym (neg-times (pos x) s) ∙ ap (λ (z : ℤ). z *ℤ pos s) (sym (cut-neg (pos p) s)))
+
+  -- the same, for an axis whose ends are any numbers above zero
+  above-more : (lo hi : ℤ) → leZ lo hi ≡ true → (Divides s lo → ⊥) → ltZ (pos 0) lo ≡ true → OneMore s (negℤ lo) (marksBy (negℤ hi) (negℤ lo) s) (marksBy lo hi s)
+  above-more (negsuc p) hi l e u = absurd (subst T (sym u) tt)
+  above-more (pos p) (negsuc q) l e u = absurd (subst T (sym l) tt)
+  above-more (pos zero) (pos q) l e u = absurd (e (zero-mod s))
+  above-more (pos (suc p)) (pos q) l e u = record {
+    extra = cut s (negsuc p);
+    is-next = cut-next s hs p e;
+    others-match = above-at (suc p) q (leb-true (suc p) q l) e;
+  }
+
+-- ---- the ends of the mirror
+-- by the two tests of the ends
+by-ends : (a b : ℤ) (P : Bool → Bool → Type 0) → (a ≡ b → P true true) → P true false → P false true → P (leZ a b) (leZ b a)
+by-ends a b P f g h = go (leZ a b) (leZ b a) refl refl
+  where
+    go : (t u : Bool) → leZ a b ≡ t → leZ b a ≡ u → P t u
+    go true true p q = f (both-ways a b p q)
+    go true false p q = g
+    go false true p q = h
+    go false false p q = absurd (subst T (sym (other-way a b p) ∙ q) tt)
+
+pub low-neg : (a b : ℤ) → low (negℤ a) (negℤ b) ≡ negℤ (high a b)
+low-neg a b =
+    ap (λ (t : Bool). cond t (negℤ a) (negℤ b)) (neg-le a b)
+    ∙ by-ends a b (λ t u. cond u (negℤ a) (negℤ b) ≡ negℤ (cond t b a)) (λ e. ap negℤ e) refl refl
+
+pub high-neg : (a b : ℤ) → high (negℤ a) (negℤ b) ≡ negℤ (low a b)
+high-neg a b =
+    ap (λ (t : Bool). cond t (negℤ b) (negℤ a)) (neg-le a b)
+    ∙ by-ends a b (λ t u. cond u (negℤ b) (negℤ a) ≡ negℤ (cond t a b)) (λ e. ap negℤ (sym e)) refl refl
+
+pub low-high : (a b : ℤ) → leZ (low a b) (high a b) ≡ true
+low-high a b = go (leZ a b) refl
+  where
+    go : (t : Bool) → leZ a b ≡ t → leZ (cond t a b) (cond t b a) ≡ true
+    go true e = e
+    go false e = other-way a b e
+
+pub distance-neg : (lo hi : ℤ) → distance (negℤ hi) (negℤ lo) ≡ distance lo hi
+distance-neg lo hi = ap natAbs (ap (λ (z : ℤ). negℤ lo +ℤ z) (negℤ-negℤ hi) ∙ +ℤ-comm (negℤ lo) hi)
+
+-- ---- the axis with the ends a and b
+-- an answer without its count goes by the same tests
+strip : (t u v : Bool) (z : ℤ) (n : ℕ) → stepOnly (lowest (1 when t ∷ 3 when u ∷ 13 when v ∷ []) (given (z, n))) ≡ lowest (1 when t ∷ 3 when u ∷ 13 when v ∷ []) (given z)
+strip true u v z n = refl
+strip false true v z n = refl
+strip false false true z n = refl
+strip false false false z n = refl
+
+length-mirrored : (l : List ℤ) → length (mirrored l) ≡ length l
+length-mirrored l = length-reverse (map negℤ l) ∙ length-map l negℤ
+
+one-longer : {s : ℕ} {z : ℤ} {more fewer : List ℤ} → OneMore s z more fewer → length more ≡ length fewer + 1
+one-longer {s} {z} {more} {fewer} o = ap length (o .others-match) ∙ length-append (mirrored fewer) (o .extra ∷ []) ∙ ap (λ (n : ℕ). n + 1) (length-mirrored fewer)
+
+by-half : (s : ℕ) (lo hi : ℤ) → (Divides s (nearest lo hi) → ⊥) → (hi <ℤ pos 0) ⊎ (pos 0 <ℤ lo)
+by-half s lo hi e = go (ltZ (pos 0) lo) refl (ltZ hi (pos 0)) refl e
+  where
+    go : (t : Bool) → ltZ (pos 0) lo ≡ t → (u : Bool) → ltZ hi (pos 0) ≡ u → (Divides s (cond t lo (cond u hi (pos 0))) → ⊥) → (hi <ℤ pos 0) ⊎ (pos 0 <ℤ lo)
+    go true p u q f = inr (yes-lt p)
+    go false p true q f = inl (yes-lt q)
+    go false p false q f = absurd (f (zero-mod s))
+
+-- the needle nearest zero of an axis on one side of it
+nearest-above : (lo hi : ℤ) → pos 0 <ℤ lo → nearest lo hi ≡ lo
+nearest-above lo hi h = rw (lt-yes h)
+
+nearest-below : (lo hi : ℤ) → leZ lo hi ≡ true → hi <ℤ pos 0 → nearest lo hi ≡ hi
+nearest-below lo (pos q) l h = absurd (omega (arith, ltb-true q 0 (lt-yes h)))
+nearest-below (pos p) (negsuc q) l h = absurd (subst T (sym l) tt)
+nearest-below (negsuc p) (negsuc q) l h = refl
+
+module _ (a b : ℤ) (m : ℕ) where
+  lo : ℤ
+  lo = low a b
+
+  hi : ℤ
+  hi = high a b
+
+  s : ℕ
+  s = stepOf a b m
+
+  no-step-neg : noStep (negℤ a) (negℤ b) m ≡ noStep a b m
+  unfolding noStepFor
+  no-step-neg = ap₂ (λ (x y : ℤ). leb 28 (chosen (distance x y) m)) (low-neg a b) (high-neg a b) ∙ ap (λ (d : ℕ). leb 28 (chosen d m)) (distance-neg (low a b) (high a b))
+
+  step-neg : stepOf (negℤ a) (negℤ b) m ≡ stepOf a b m
+  unfolding stepFor
+  step-neg = ap₂ (λ (x y : ℤ). stepAt (chosen (distance x y) m)) (low-neg a b) (high-neg a b) ∙ ap (λ (d : ℕ). stepAt (chosen d m)) (distance-neg (low a b) (high a b))
+
+  marks-are : marks a b m ≡ marksBy lo hi s
+  unfolding lo hi s marksFor
+  marks-are = refl
+
+  marks-neg : marks (negℤ a) (negℤ b) m ≡ marksBy (negℤ hi) (negℤ lo) s
+  unfolding lo hi s marksFor
+  marks-neg = ap₂ (λ (x y : ℤ). marksBy x y (stepOf (negℤ a) (negℤ b) m)) (low-neg a b) (high-neg a b) ∙ ap (λ (n : ℕ). marksBy (negℤ hi) (negℤ lo) n) step-neg
+
+  verdict : (old old′ : List ℤ) → tooShort a b m old ≡ tooShort (negℤ a) (negℤ b) m old′ → stepOnly (wholeKeyPoints (negℤ a) (negℤ b) m old′ .0) ≡ stepOnly (wholeKeyPoints a b m old .0)
+  unfolding wholeKeyPoints
+  verdict old old′ e =
+      strip (not (wholeAdmitted (negℤ a) && wholeAdmitted (negℤ b))) (noStep (negℤ a) (negℤ b) m) (tooShort (negℤ a) (negℤ b) m old′) (pos (stepOf (negℤ a) (negℤ b) m)) _
+      ∙ ap₂ (λ (x y : ℕ). by (not (leb x 1_000_000_000 && leb y 1_000_000_000)) (noStep (negℤ a) (negℤ b) m) (tooShort (negℤ a) (negℤ b) m old′) (stepOf (negℤ a) (negℤ b) m)) (neg-far a) (neg-far b)
+      ∙ ap₂ (λ (u : Bool) (n : ℕ). by (not (wholeAdmitted a && wholeAdmitted b)) u (tooShort (negℤ a) (negℤ b) m old′) n) no-step-neg step-neg
+      ∙ ap (λ (v : Bool). by (not (wholeAdmitted a && wholeAdmitted b)) (noStep a b m) v (stepOf a b m)) (sym e)
+      ∙ sym (strip (not (wholeAdmitted a && wholeAdmitted b)) (noStep a b m) (tooShort a b m old) (pos (stepOf a b m)) _)
+    where
+      by : Bool → Bool → Bool → ℕ → Answer ℤ
+      by t u v n = lowest (1 when t ∷ 3 when u ∷ 13 when v ∷ []) (given (pos n))
+
+  -- where a step serves
+  module _ (served : noStep a b m ≡ false) where
+    s-pos : 0 < s
+    unfolding s noStepFor stepFor
+    s-pos = step-pos (chosen (distance (low a b) (high a b)) m) (leb-false _ _ served)
+
+    ends-in-order : leZ lo hi ≡ true
+    unfolding lo hi
+    ends-in-order = low-high a b
+
+    matching : Divides s (nearest lo hi) → marks (negℤ a) (negℤ b) m ≡ mirrored (marks a b m)
+    matching e = marks-neg ∙ even-at s s-pos lo hi ends-in-order e ∙ ap mirrored (sym marks-are)
+
+    more-above : (Divides s (nearest lo hi) → ⊥) → pos 0 <ℤ lo → OneMore s (negℤ lo) (marks (negℤ a) (negℤ b) m) (marks a b m)
+    more-above e h =
+        rw (marks-neg, marks-are)
+        (above-more s s-pos lo hi ends-in-order (λ d. e (rw (nearest-above lo hi h) d)) (lt-yes h))
+
+    more-below : (Divides s (nearest lo hi) → ⊥) → hi <ℤ pos 0 → OneMore s hi (marks a b m) (marks (negℤ a) (negℤ b) m)
+    more-below e h =
+        rw (marks-neg, marks-are)
+        (subst (λ (x : ℤ). OneMore s x (marksBy lo x s) (marksBy (negℤ hi) (negℤ lo) s)) (negℤ-negℤ hi)
+        (subst (λ (x : ℤ). OneMore s (negℤ (negℤ hi)) (marksBy x (negℤ (negℤ hi)) s) (marksBy (negℤ hi) (negℤ lo) s)) (negℤ-negℤ lo)
+        (above-more s s-pos (negℤ hi) (negℤ lo) (neg-le hi lo ∙ ends-in-order)
+        (λ d. e (rw (nearest-below lo hi ends-in-order h) (ap (λ (n : ℕ). n % s) (sym (neg-far hi)) ∙ d)))
+        (neg-lt-zero hi ∙ lt-yes h))))
+
+    divided : marks (negℤ a) (negℤ b) m ≡ mirrored (marks a b m) → Divides s (nearest lo hi)
+    divided e = go (eqb (natAbs (nearest lo hi) % s) 0) refl
+      where
+        same : length (marks (negℤ a) (negℤ b) m) ≡ length (marks a b m)
+        same = ap length e ∙ length-mirrored (marks a b m)
+
+        no-half : (Divides s (nearest lo hi) → ⊥) → (hi <ℤ pos 0) ⊎ (pos 0 <ℤ lo) → ⊥
+        no-half f (inl h) = let n = one-longer (more-below f h) in omega (arith, same)
+        no-half f (inr h) = let n = one-longer (more-above f h) in omega (arith, same)
+
+        go : (t : Bool) → eqb (natAbs (nearest lo hi) % s) 0 ≡ t → Divides s (nearest lo hi)
+        go true q = eqb-true _ _ q
+        go false q = absurd (no-half (eqb-false _ _ q) (by-half s lo hi (eqb-false _ _ q)))
+
+pub mirror : (a b : ℤ) (m : ℕ) → Mirrored a b m
+unfolding lo hi s
+mirror a b m = record {
+  same-verdict = verdict a b m;
+  same-refusal = no-step-neg a b m;
+  same-step = step-neg a b m;
+  match-exactly = λ served. (divided a b m served, matching a b m served);
+  one-half = by-half (stepOf a b m) (low a b) (high a b);
+  one-more-below = more-below a b m;
+  one-more-above = more-above a b m;
+}

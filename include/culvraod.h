@@ -1,0 +1,96 @@
+/*
+ * culvraod: marks, places, readings and labels of axes, as in the axis code
+ * of the Rust crate plotters 0.3.7.
+ *
+ * Every call returns an int32_t:
+ *    0   answered: the answer stands where the pointers point;
+ *   -1   none: there is no such value (only calls that say so);
+ *   1..  refused: the lowest number of those that apply.
+ *
+ * Memory:
+ *   - A list is a pointer and its length in entries. The pointer is valid even
+ *     where the length is 0.
+ *   - What one pointer of a call refers to must not overlap what another does.
+ *   - Unless 0 is returned nothing is written, neither to a list nor through
+ *     any other pointer.
+ *   - On 0 a list is written from its first entry up to the count given back.
+ *     All entries from there on keep their contents.
+ *   - No call allocates or keeps a pointer after it has returned.
+ *
+ * Every combination of numbers may be passed.
+ */
+#ifndef CULVRAOD_H
+#define CULVRAOD_H
+
+#include <stddef.h>
+#include <stdint.h>
+
+#ifdef __cplusplus
+extern "C" {
+#endif
+
+/* What a call returns. Each call lists the refusals that it can give. */
+enum {
+    CULV_NONE = -1,
+    CULV_ANSWERED = 0,
+    CULV_WHOLE_NOT_ADMITTED = 1,  /* a whole end, value, step or list entry is not admitted */
+    CULV_LIMIT_NOT_ADMITTED = 2,  /* a limit or pixel is not admitted */
+    CULV_NO_STEP = 3,             /* none of the 28 steps serves */
+    CULV_NO_SEGMENTS = 4,         /* no segments, or too many of them */
+    CULV_TOO_FAR = 5,             /* the place is too far from the first limit */
+    CULV_STEP_AGAINST_AXIS = 6,   /* the step is zero or leads away from the end */
+    CULV_LIST_TOO_LONG = 7,       /* a stepped list has too many entries */
+    CULV_NOT_MONOTONE = 8,        /* the searched list neither rises nor falls strictly */
+    CULV_NAN_TARGET = 9,          /* the target of the search is NaN */
+    CULV_ABOVE_I32 = 10,          /* the value is above 2147483647 */
+    CULV_NOT_PRINTABLE = 11,      /* NaN, an infinity, or a number of size 2^53 or more */
+    CULV_TOO_MANY_DECIMALS = 12,  /* more decimals asked for than a label can have */
+    CULV_OUT_TOO_SHORT = 13,      /* the list or the bytes to be written are too short */
+    CULV_NOT_A_RULER = 14         /* the bytes are no ruler */
+};
+
+/* ---- Axes of whole numbers and of indices ---- */
+
+/*
+ * Marks on the whole axis from a to b, which may rise or fall, with the mark
+ * limit m.
+ *
+ * Of the 28 steps 1, 2, 5, 10, 20, 50 up to 1000000000 the first is chosen
+ * that divides the axis into at most m parts if it is a power of ten, and into
+ * fewer than m parts otherwise. The marks are the multiples of that step,
+ * ascending, from the least one not below the smaller end, to the larger end
+ * cut to a multiple toward zero. When the larger end is below zero the last
+ * mark may lie past it. There may be no mark, and there are at most m + 1.
+ *
+ * 0: *step is the step, *count the number of marks, out[0] to out[*count - 1]
+ *    are the marks. out[*count] to out[len - 1] are as before.
+ * Refused, with nothing written:
+ *    1: a or b is not within -1000000000 to 1000000000;
+ *    3: no step serves: m is 0 and a is not b, or m is 1 and the ends are more
+ *       than 1000000000 apart;
+ *   13: len is less than the number of marks.
+ */
+int32_t culv_whole_key_points(int32_t a, int32_t b, uint32_t m,
+                              int32_t *out, size_t len,
+                              int32_t *step, size_t *count);
+
+/*
+ * Marks on the index axis from a to b, which may rise or fall, with the mark
+ * limit m. Steps and marks are those of culv_whole_key_points.
+ *
+ * 0: *step is the step, *count the number of marks, out[0] to out[*count - 1]
+ *    are the marks. out[*count] to out[len - 1] are as before.
+ * Refused, with nothing written:
+ *    1: a or b is above 1000000000;
+ *    3: no step serves: m is 0 and a is not b;
+ *   13: len is less than the number of marks.
+ */
+int32_t culv_index_key_points(uint64_t a, uint64_t b, uint32_t m,
+                              uint64_t *out, size_t len,
+                              uint64_t *step, size_t *count);
+
+#ifdef __cplusplus
+}
+#endif
+
+#endif

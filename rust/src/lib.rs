@@ -1,0 +1,22 @@
+//! Safe calls of culvraod, a proved library of axes after plotters 0.3.7.
+//!
+//! Each family of calls has a module, which also declares the C functions that
+//! it rests on. Lists are lent by the caller; a refusal leaves them as they were.
+//!
+//! ```
+//! use culvraod::{RangedCoordi32, Refusal};
+//!
+//! let mut out = [0; 8];
+//! let marks = RangedCoordi32(-15, -3).key_points(4, &mut out).unwrap();
+//! assert_eq!(marks.step, 5);
+//! assert_eq!(out[..marks.count], [-15, -10, -5, 0]);
+//!
+//! let refused = RangedCoordi32(0, 1).key_points(0, &mut out);
+//! assert_eq!(refused, Err(Refusal::NoStep));
+//! ```
+
+pub mod numeric;
+mod refusal;
+
+pub use numeric::{KeyPoints, RangedCoordi32, RangedCoordusize};
+pub use refusal::Refusal;
