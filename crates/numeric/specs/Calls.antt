@@ -1,4 +1,5 @@
--- What each call of numeric answers, on every input, and what the list lent to it holds afterwards. Assumes nothing.
+-- What each call of numeric answers, on every input, and what the list lent to it holds afterwards: 01 "Marks on a whole axis" with the
+-- refusals of 01 "Why a call stops". Assumes nothing.
 use Prim.Native.Nat.{ℕ}
 use mathlib.Core.Bool.{Bool, cond, not, _&&_}
 use mathlib.Core.List.{List, [], _∷_, map}
@@ -39,7 +40,7 @@ tellPoint point-is.Nothing = none
 
 -- ---- RangedCoordi32
 -- `key_points`: 1 where an end is not admitted, 3 where no step serves, 13 where the lent list is too short; else the step and the
--- number of marks, and the marks at the start of the list
+-- number of marks, which is the length of their list, and the marks at the start of the lent list
 unfoldable pub wholeKeyPoints : ℤ → ℤ → ℕ → List ℤ → Answer (ℤ × ℕ) × List ℤ
 wholeKeyPoints a b m old =
     written

@@ -1,0 +1,13 @@
+-- What belongs to no one function: `Laws` has what a later crate may use. Assumes nothing.
+pub mod Quotients
+pub mod Compare
+pub mod Signs
+pub mod Sums
+pub mod Steps
+pub mod Sizes
+pub mod Cuts
+pub mod Bounds
+pub mod Value
+pub mod Order
+pub mod Laws
+pub mod Worked

@@ -1,0 +1,3 @@
+-- The crate's specification. Assumes nothing.
+pub mod Integral
+pub mod Within
