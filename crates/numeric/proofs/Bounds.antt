@@ -65,7 +65,7 @@ first-far (pos n) s h =
     le-of-suc-le-suc (rw (← add-one n) (div-lt-iff-lt-mul h .1 (omega (arith, mul-le-mul-left n h, mul-one n, add-mul n 1 s, one-mul s))))
 first-far (negsuc n) s h = quot-far (negsuc n) s
 
-max-times : (a b s x : ℕ) → a * s ≤ x → b * s ≤ x → max a b * s ≤ x
+pub max-times : (a b s x : ℕ) → a * s ≤ x → b * s ≤ x → max a b * s ≤ x
 max-times a b s x p q = go (decLe a b)
   where
     go : Dec (a ≤ b) → max a b * s ≤ x

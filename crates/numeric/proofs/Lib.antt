@@ -9,4 +9,5 @@ pub mod Reflect
 pub mod Mirror
 pub mod Most
 pub mod NoStep
+pub mod Near
 pub mod Theorems

@@ -58,14 +58,14 @@ serves-few d m k h = go (powerOfTen k) h
     go false e = omega (arith, ltb-true (ceilDiv d (stepAt k)) m e)
 
 -- the distance, by the signs
-apart-pos : (p q : ℕ) → p ≤ q → natAbs (pos q -ℤ pos p) ≡ q - p
+pub apart-pos : (p q : ℕ) → p ≤ q → natAbs (pos q -ℤ pos p) ≡ q - p
 apart-pos zero q h = omega arith
 apart-pos (suc p) q h = sub-cases q (suc p) (λ z. natAbs z ≡ q - suc p) (λ l. omega arith) (λ l. refl)
 
-apart-neg : (p q : ℕ) → q ≤ p → natAbs (negsuc q -ℤ negsuc p) ≡ p - q
+pub apart-neg : (p q : ℕ) → q ≤ p → natAbs (negsuc q -ℤ negsuc p) ≡ p - q
 apart-neg p q h = sub-cases (suc p) (suc q) (λ z. natAbs z ≡ p - q) (λ l. omega arith) (λ l. omega arith)
 
-many-across : (f l : ℕ) → howMany (negℤ (pos f)) (pos l) ≡ l + 1 + f
+pub many-across : (f l : ℕ) → howMany (negℤ (pos f)) (pos l) ≡ l + 1 + f
 many-across f l = ap (λ (z : ℤ). orZero (pos (l + 1) +ℤ z)) (negℤ-negℤ (pos f))
 
 module _ (s : ℕ) (hs : 0 < s) where

@@ -96,7 +96,7 @@ ends-equal a b = go (leZ a b)
     go true e = apart-zero a b e
     go false e = sym (apart-zero b a e)
 
-differ : (a b : ℤ) → (a ≡ b → ⊥) → 0 < distance (low a b) (high a b)
+pub differ : (a b : ℤ) → (a ≡ b → ⊥) → 0 < distance (low a b) (high a b)
 differ a b f = go (decLe 1 (distance (low a b) (high a b)))
   where
     go : Dec (1 ≤ distance (low a b) (high a b)) → 0 < distance (low a b) (high a b)
