@@ -11,3 +11,6 @@ pub mod Most
 pub mod NoStep
 pub mod Near
 pub mod Theorems
+pub mod Readings
+pub mod WorkedReadings
+pub mod Discrete

@@ -2,3 +2,5 @@ pub mod Marks
 pub mod Calls
 pub mod Mirror
 pub mod Worked
+pub mod Whole
+pub mod WorkedReadings

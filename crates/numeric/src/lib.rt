@@ -10,7 +10,13 @@ ghost use lib.Signed.{leZ, nonNeg};
 ghost use Rattle.ranged1d.specs.Answer.{given, _when_, lowest};
 ghost use Rattle.numeric.specs.Marks.{stepAt, serves, chosen, firstIndex, lastIndex, howMany, distance, listOf, noStepFor};
 ghost use Rattle.numeric.specs.Calls.{tellMarks, tellIndexMarks, tellPlanned, tellPoint, wholeKeyPoints, wholePlan, planOf, element, pointAt, indexKeyPoints};
+
+mod whole;
+
 use ranged1d::Refusal;
+pub use whole::Count;
+pub use whole::Index;
+pub use whole::Value;
 
 // An axis with two whole ends, in either order.
 pub struct RangedCoordi32(pub i32, pub i32);

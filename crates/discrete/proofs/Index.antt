@@ -1,0 +1,70 @@
+-- The index at each return of the code, by the tests that led there. Assumes nothing.
+use mathlib.Core.Path.{_≡_, refl, sym, ap, _∙_}
+use mathlib.Core.Bool.{true, false, _&&_}
+use Prim.Native.Nat.{ℕ, zero, suc, _/_, _≤_}
+use native.Mathlib.Nat.{div-le-self}
+use native.Mathlib.Omega.{arith}
+use lib.Dec.{ltb}
+use lib.Pow.{pow-pos}
+use lib.IntN.{ℤ, pos, negsuc, natAbs, _*ℤ_}
+use lib.Signed.{ltZ, quotZ, pos-natAbs}
+use borrow.Author.Tests.{ltb-true}
+use mir.Facts.{toZ-ofZ, toZ-pos}
+use mir.Syntax.{Width}
+use mir.Val.{SFits, hbits, toZ, ofZ}
+use Rattle.ranged1d.specs.Answer.{given, none}
+use Rattle.ranged1d.proofs.Whole.{neg-far, not-negative}
+use Rattle.discrete.specs.Index.{raised, isZero, noIndex, indexBy, indexFor}
+use Rattle.discrete.proofs.Floor.{cut-raised}
+
+-- ---- a test for zero, as the code makes it
+pub zero-is : (z : ℤ) → z ≡ pos 0 → isZero z ≡ true
+zero-is z e = rw e
+
+pub not-zero : (z : ℤ) → (z ≡ pos 0 → ⊥) → isZero z ≡ false
+not-zero (pos zero) h = absurd (h refl)
+not-zero (pos (suc n)) h = refl
+not-zero (negsuc n) h = refl
+
+pub zero-bits : (w : Width) (z : ℤ) → SFits w z → ofZ w z ≡ 0 → z ≡ pos 0
+zero-bits w z f e = sym (toZ-ofZ f) ∙ ap (toZ w) e ∙ toZ-pos w (pow-pos (hbits w))
+
+-- ---- a quotient: how far from 0 it lies, and what it is raised to
+pub quotient-size : (x y : ℤ) → natAbs (quotZ x y) ≡ natAbs x / natAbs y
+quotient-size (pos a) (pos b) = refl
+quotient-size (pos a) (negsuc b) = neg-far (pos (a / suc b))
+quotient-size (negsuc a) (pos b) = neg-far (pos (suc a / b))
+quotient-size (negsuc a) (negsuc b) = refl
+
+pub quotient-far : (x y : ℤ) → natAbs (quotZ x y) ≤ natAbs x
+quotient-far x y = rw (quotient-size x y) (div-le-self (natAbs x) (natAbs y))
+
+below-raised : (z : ℤ) → ltZ z (pos 0) ≡ true → raised z ≡ 0
+below-raised (pos n) h = omega (arith, ltb-true n 0 h)
+below-raised (negsuc n) h = refl
+
+above-raised : (z : ℤ) → ltZ z (pos 0) ≡ false → raised z ≡ natAbs z
+above-raised z h = ap raised (sym (pos-natAbs z (not-negative z h)))
+
+-- ---- the returns
+module _ (d w : ℤ) (n : ℕ) where
+  pub past-limits : isZero w ≡ true → ltZ (pos 0) d ≡ true → ltb 0 n ≡ true → indexFor d w n ≡ none
+  unfolding noIndex indexFor
+  past-limits e h l = rw (e, h, l)
+
+  pub at-limits : isZero w ≡ true → (ltZ (pos 0) d && ltb 0 n) ≡ false → indexFor d w n ≡ given 0
+  unfolding noIndex indexBy indexFor
+  at-limits e h = rw (e, h)
+
+  abbrev pub quotient : ℤ
+  quotient = quotZ (d *ℤ pos n) w
+
+  divided : isZero w ≡ false → indexFor d w n ≡ given (raised quotient)
+  unfolding noIndex indexBy indexFor
+  divided e = rw (e, cut-raised (d *ℤ pos n) w)
+
+  pub below-zero : isZero w ≡ false → ltZ quotient (pos 0) ≡ true → indexFor d w n ≡ given 0
+  below-zero e h = divided e ∙ ap given (below-raised quotient h)
+
+  pub from-zero : isZero w ≡ false → ltZ quotient (pos 0) ≡ false → indexFor d w n ≡ given (natAbs quotient)
+  from-zero e h = divided e ∙ ap given (above-raised quotient h)

@@ -1,0 +1,116 @@
+-- `discrete::pixel_index` meets its contract. Assumes nothing.
+use mathlib.Core.Path.{_≡_, sym, _∙_, subst}
+use mathlib.Core.Bool.{true}
+use Prim.Native.Nat.{_≤_}
+use native.Mathlib.Omega.{arith}
+use borrow.Author.Needs.{needs}
+use borrow.Author.Tests.{leb-true, not-true, not-false}
+use lib.Dec.{T}
+use lib.IntN.{ℤ, natAbs, _-ℤ_}
+use mir.Facts.{toZ-ofZ, and-yes, leb-yes}
+use mir.Syntax.{w32}
+use mir.Val.{SFits, toZ, ofZ}
+use Rattle.ranged1d.specs.Admitted.{pixelAdmitted, limitAdmitted}
+use Rattle.ranged1d.proofs.Whole.{fits32, minus-far}
+use Rattle.discrete.specs.Index.{pixelIndex}
+use Rattle.discrete.proofs.pixel_index.Statement.{statement}
+use Rattle.discrete.proofs.pixel_index.Tie as tie
+
+pixel-admitted-requires : tie.Need-pixel-admitted-requires
+pixel-admitted-requires c κs = search needs
+
+x-told : (c : tie.After-pixel-admitted) → c .pixel-admitted .result ≡ pixelAdmitted (c .before .args .x)
+x-told c = rw (toZ-ofZ (c .before .fits .x)) at (c .pixel-admitted .ensures)
+
+x-admitted : (c : tie.Else1) → pixelAdmitted (c .before .before .args .x) ≡ true
+x-admitted c = sym (x-told (c .before)) ∙ not-false _ (c .if1 .left)
+
+limit-admitted : (c : tie.Else2) → limitAdmitted (c .before .before .before .before .args .limit) ≡ true
+limit-admitted c = sym (c .before .admitted .ensures) ∙ not-false _ (c .if2 .left)
+
+returns : tie.Need-returns
+unfolding pixelIndex
+returns c = rw (sym (x-told (c .before)) ∙ not-true _ (c .if1 .taken))
+
+admitted-requires : tie.Need-admitted-requires
+admitted-requires c κs = search needs
+
+returns-2 : tie.Need-returns-2
+unfolding pixelIndex
+returns-2 c = rw (x-admitted (c .before .before), sym (c .before .admitted .ensures) ∙ not-true _ (c .if2 .taken))
+
+module _ (c : tie.After-struct-told2) where
+  x : ℤ
+  x = c .before .before .before .before .before .before .args .x
+
+  p : ℤ
+  p = c .before .before .before .before .before .before .args .limit .0
+
+  q : ℤ
+  q = c .before .before .before .before .before .before .args .limit .1
+
+  x-is : toZ w32 (ofZ w32 x) ≡ x
+  unfolding x
+  x-is = toZ-ofZ (c .before .before .before .before .before .before .fits .x)
+
+  p-is : toZ w32 (ofZ w32 p) ≡ p
+  unfolding p
+  p-is = toZ-ofZ (record { sfits = c .before .struct-told .given .0 .1 })
+
+  q-is : toZ w32 (ofZ w32 q) ≡ q
+  unfolding q
+  q-is = toZ-ofZ (record { sfits = c .before .struct-told .given .1 .0 .1 })
+
+  near : (natAbs p ≤ 1000000) × (natAbs q ≤ 1000000)
+  unfolding p q
+  near =
+      let both = and-yes (pixelAdmitted p) (pixelAdmitted q) (subst T (sym (limit-admitted (c .before .before))) tt) in
+      (leb-yes (both .0), leb-yes (both .1))
+
+  x-near : natAbs x ≤ 1000000
+  unfolding x
+  x-near = leb-true _ _ (x-admitted (c .before .before .before .before))
+
+  d-far : natAbs (x -ℤ p) ≤ 2000000
+  d-far = omega (arith, minus-far x p, x-near, near .0)
+
+  w-far : natAbs (q -ℤ p) ≤ 2000000
+  w-far = omega (arith, minus-far q p, near .1, near .0)
+
+  d-fits : SFits w32 (x -ℤ p)
+  d-fits = fits32 _ (omega (arith, d-far))
+
+  w-fits : SFits w32 (q -ℤ p)
+  w-fits = fits32 _ (omega (arith, w-far))
+
+sub-index-within : tie.Need-sub-index-within
+unfolding x p
+sub-index-within c = rw (x-is c, p-is c) (d-fits c)
+
+sub-index-within-2 : tie.Need-sub-index-within-2
+unfolding p q
+sub-index-within-2 c = rw (q-is c, p-is c) (w-fits c)
+
+index-within-requires : tie.Need-index-within-requires
+unfolding x p q
+index-within-requires c κs = rw (x-is c, p-is c, q-is c, toZ-ofZ (d-fits c), toZ-ofZ (w-fits c)) (d-far c, w-far c)
+
+returns-3 : tie.Need-returns-3
+unfolding x p q pixelIndex
+returns-3 c =
+    let s = c .before in
+    rw (x-admitted (s .before .before .before .before), limit-admitted (s .before .before))
+    (rw (x-is s, p-is s, q-is s, toZ-ofZ (d-fits s), toZ-ofZ (w-fits s)) at (c .index-within .ensures))
+
+pub pixel-index-spec : {M : Type 1} → statement M
+pixel-index-spec =
+    tie.close
+    (tie.spec
+    pixel-admitted-requires
+    returns
+    admitted-requires
+    returns-2
+    sub-index-within
+    sub-index-within-2
+    index-within-requires
+    returns-3)

@@ -1,0 +1,10 @@
+-- The worked readings, checked by one equation that antt computes over the table. Assumes nothing.
+use mathlib.Core.Path.{_≡_, refl}
+use mathlib.Core.List.{map}
+use Rattle.discrete.specs.Index.{floorDiv, noIndex, indexBy}
+use Rattle.numeric.specs.Whole.{countOf, wholeReading}
+use Rattle.numeric.specs.WorkedReadings.{Reading, readings}
+
+pub worked : map (λ (r : Reading). wholeReading (r .a) (r .b) (r .x) (r .limit)) readings ≡ map (λ (r : Reading). r .says) readings
+unfolding floorDiv noIndex indexBy countOf wholeReading
+worked = refl

@@ -1,0 +1,119 @@
+// The whole axis as a discrete one, after `impl_discrete_trait` of types/numeric.rs and `unmap` of discrete.rs: its count, the index of
+// a value, the value at an index, and the value that a pixel is read as.
+ghost use mathlib.Core.Path.{_≡_};
+ghost use mathlib.Core.Bool.{true};
+ghost use Rattle.numeric.specs.Whole.{endsAdmitted, tellCount, tellIndex, tellValue, wholeSize, wholeIndexOf, wholeFromIndex, wholeReading, countOf, valueFrom};
+use crate::RangedCoordi32;
+use crate::span;
+use discrete::PixelIndex;
+use ranged1d::Limit;
+use ranged1d::Refusal;
+
+pub enum Count {
+    Of(u64),
+    Refused(Refusal),
+}
+
+pub enum Index {
+    At(u64),
+    Nothing,
+    Refused(Refusal),
+}
+
+pub enum Value {
+    At(i32),
+    Nothing,
+    Refused(Refusal),
+}
+
+impl RangedCoordi32 {
+    // Whether both ends are admitted.
+    fn admitted(self) -> bool
+        ensures { λ r. ⌜ r ≡ endsAdmitted (self .0) (self .1) ⌝ }
+    {
+        if ranged1d::whole_admitted(self.0) {
+            return ranged1d::whole_admitted(self.1);
+        }
+        false
+    }
+
+    // How many values there are: at most 2,000,000,001.
+    fn len(self) -> u32
+        requires { ⌜ endsAdmitted (self .0) (self .1) ≡ true ⌝ }
+        ensures { λ r. ⌜ r ≡ countOf (self .0) (self .1) ⌝ }
+    {
+        let a = self.0;
+        let b = self.1;
+        if b < a {
+            return 0;
+        }
+        span(a, b) + 1
+    }
+
+    // The value at index k. An i64 has room for the sum, an i32 has not.
+    fn value_at(self, k: u64) -> Value
+        requires { ⌜ endsAdmitted (self .0) (self .1) ≡ true ⌝ }
+        ensures { λ r. ⌜ tellValue r ≡ valueFrom (self .0) k ⌝ }
+    {
+        if 2147483647 < k {
+            return Value::Nothing;
+        }
+        let a = self.0;
+        let v = (a as i64) + (k as i64);
+        if 2147483647 < v {
+            return Value::Refused(Refusal::AboveI32);
+        }
+        Value::At(v as i32)
+    }
+
+    // The count of the values.
+    pub fn size(self) -> Count
+        ensures { λ r. ⌜ tellCount r ≡ wholeSize (self .0) (self .1) ⌝ }
+    {
+        if !self.admitted() {
+            return Count::Refused(Refusal::WholeNotAdmitted);
+        }
+        Count::Of(self.len() as u64)
+    }
+
+    // Which value v is, counted from 0; it may lie past the end.
+    pub fn index_of(self, v: i32) -> Index
+        ensures { λ r. ⌜ tellIndex r ≡ wholeIndexOf (self .0) (self .1) v ⌝ }
+    {
+        if !self.admitted() {
+            return Index::Refused(Refusal::WholeNotAdmitted);
+        }
+        if !ranged1d::whole_admitted(v) {
+            return Index::Refused(Refusal::WholeNotAdmitted);
+        }
+        let a = self.0;
+        if v < a {
+            return Index::Nothing;
+        }
+        Index::At((v - a) as u64)
+    }
+
+    // The value at index k, past the end too.
+    pub fn from_index(self, k: u64) -> Value
+        ensures { λ r. ⌜ tellValue r ≡ wholeFromIndex (self .0) (self .1) k ⌝ }
+    {
+        if !self.admitted() {
+            return Value::Refused(Refusal::WholeNotAdmitted);
+        }
+        self.value_at(k)
+    }
+
+    // The value that pixel x is read as.
+    pub fn unmap(self, x: i32, limit: Limit) -> Value
+        ensures { λ r. ⌜ tellValue r ≡ wholeReading (self .0) (self .1) x limit ⌝ }
+    {
+        if !self.admitted() {
+            return Value::Refused(Refusal::WholeNotAdmitted);
+        }
+        match discrete::pixel_index(x, limit, self.len()) {
+            PixelIndex::Refused(r) => Value::Refused(r),
+            PixelIndex::Nothing => Value::Nothing,
+            PixelIndex::At(k) => self.value_at(k),
+        }
+    }
+}
