@@ -89,6 +89,109 @@ int32_t culv_index_key_points(uint64_t a, uint64_t b, uint32_t m,
                               uint64_t *out, size_t len,
                               uint64_t *step, size_t *count);
 
+/* ---- Places on the film ---- */
+
+/*
+ * The pixel of the value v on the whole axis from a to b, which may rise or
+ * fall, on a film from p to q, which may too. v may lie outside the axis.
+ *
+ * If a is b, the place is q - p halved and cut toward zero; p is not added.
+ * Otherwise t is (v - a) / (b - a). If p is q, the place is q. If q is above
+ * p, it is p plus the floor of (q - p) * t + 0.001; if below, p plus the
+ * ceiling of (q - p) * t - 0.001. Every operation is rounded as a double.
+ *
+ * 0: *pixel is the place.
+ * Refused, with nothing written:
+ *    1: a, b or v is not within -1000000000 to 1000000000;
+ *    2: p or q is not within -1000000 to 1000000;
+ *    5: the whole number added to p is not within -1000000000 to 1000000000.
+ */
+int32_t culv_whole_map(int32_t a, int32_t b, int32_t v, int32_t p, int32_t q,
+                       int32_t *pixel);
+
+/*
+ * The pixel of the value v on the real axis from a to b. All doubles may be
+ * passed, and -0.0 is 0.0. The place is that of culv_whole_map, and besides,
+ * unless a is b or p is q: where t is infinite, the place is q, or p if t is
+ * below zero; where t is NaN, the whole number added to p is 0.
+ *
+ * 0: *pixel is the place.
+ * Refused, with nothing written:
+ *    2: p or q is not within -1000000 to 1000000;
+ *    5: the whole number added to p is not within -1000000000 to 1000000000.
+ */
+int32_t culv_real_map(double a, double b, double v, int32_t p, int32_t q,
+                      int32_t *pixel);
+
+/* ---- Counts and indices of whole axes ---- */
+
+/*
+ * The number of values of the whole axis from a to b: b - a + 1, or 0 if b is
+ * below a.
+ *
+ * 0: *n is the number.
+ * Refused, with nothing written:
+ *    1: a or b is not within -1000000000 to 1000000000.
+ */
+int32_t culv_whole_size(int32_t a, int32_t b, uint64_t *n);
+
+/*
+ * The index of the value v on the whole axis from a to b: v - a, even if v is
+ * above b.
+ *
+ * 0: *k is the index.
+ * None, with nothing written: v is below a.
+ * Refused, with nothing written:
+ *    1: a, b or v is not within -1000000000 to 1000000000.
+ */
+int32_t culv_whole_index_of(int32_t a, int32_t b, int32_t v, uint64_t *k);
+
+/*
+ * The value at the index k on the whole axis from a to b: a + k, even if that
+ * is above b.
+ *
+ * 0: *v is the value.
+ * None, with nothing written: k is above 2147483647.
+ * Refused, with nothing written:
+ *    1: a or b is not within -1000000000 to 1000000000;
+ *   10: k is at most 2147483647, but a + k is above it.
+ */
+int32_t culv_whole_from_index(int32_t a, int32_t b, uint64_t k, int32_t *v);
+
+/* ---- Readings ---- */
+
+/*
+ * The value of the whole axis from a to b at the pixel x of a film from p to
+ * q, which may rise or fall.
+ *
+ * With n as in culv_whole_size, its index is the floor of
+ * (x - p) * n / (q - p), worked out exactly, and 0 where that is below zero;
+ * the value is then that of culv_whole_from_index. If p is q, the index is 0,
+ * but there is none where x is above p and n is not 0.
+ *
+ * 0: *v is the value.
+ * None, with nothing written: the index is above 2147483647, or there is none.
+ * Refused, with nothing written:
+ *    1: a or b is not within -1000000000 to 1000000000;
+ *    2: x, p or q is not within -1000000 to 1000000;
+ *   10: the index is at most 2147483647, but a plus the index is above it.
+ */
+int32_t culv_whole_unmap(int32_t a, int32_t b, int32_t x, int32_t p, int32_t q,
+                         int32_t *v);
+
+/*
+ * The value of the real axis from a to b at the pixel x of a film from p to
+ * q, which may rise or fall: (b - a) * ((x - p) / (q - p)) + a, every
+ * operation rounded as a double. All doubles may be passed.
+ *
+ * 0: *v is the value, which may be infinite or NaN.
+ * None, with nothing written: x is not from p to q, or p is q.
+ * Refused, with nothing written:
+ *    2: x, p or q is not within -1000000 to 1000000.
+ */
+int32_t culv_real_unmap(double a, double b, int32_t x, int32_t p, int32_t q,
+                        double *v);
+
 #ifdef __cplusplus
 }
 #endif

@@ -1,9 +1,15 @@
 //! Memory to be lent, filled with a pattern by which a stray write shows.
 
+use crate::number;
+
 /// A number that a pattern can be made of.
 pub trait Fill: Copy + PartialEq {
     /// The pattern's number at a position.
     fn fill(at: usize) -> Self;
+
+    fn same(self, other: Self) -> bool {
+        self == other
+    }
 }
 
 impl Fill for i32 {
@@ -15,6 +21,22 @@ impl Fill for i32 {
 impl Fill for usize {
     fn fill(at: usize) -> usize {
         (at + 1).wrapping_mul(0x9e37_79b9_7f4a_7c15) ^ 0x5a5a_5a5a_5a5a_5a5a
+    }
+}
+
+impl Fill for u64 {
+    fn fill(at: usize) -> u64 {
+        usize::fill(at) as u64
+    }
+}
+
+impl Fill for f64 {
+    fn fill(at: usize) -> f64 {
+        usize::fill(at) as f64
+    }
+
+    fn same(self, other: f64) -> bool {
+        number::same(self, other)
     }
 }
 
@@ -56,6 +78,9 @@ impl<N: Fill> Lent<N> {
         let (list, behind) = rest.split_at(written.len());
         let kept =
             |cells: &[N], start: usize| (start..).zip(cells).all(|(at, &n)| n == N::fill(at));
-        kept(before, 0) && list == written && kept(behind, EDGE + written.len())
+        let mut pairs = list.iter().zip(written);
+        kept(before, 0)
+            && pairs.all(|(&n, &wanted)| n.same(wanted))
+            && kept(behind, EDGE + written.len())
     }
 }

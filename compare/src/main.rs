@@ -2,10 +2,21 @@
 //!
 //! Each family of calls has a module with an entry of each name; a new family is added below.
 
+mod counts;
 mod numeric;
+mod places;
+mod readings;
+
+mod admitted;
+mod call;
+mod cases;
+mod lines;
+mod number;
 mod random;
 mod reference;
 
+#[cfg(feature = "library")]
+mod beside;
 #[cfg(feature = "library")]
 mod lent;
 #[cfg(feature = "library")]
@@ -19,7 +30,13 @@ use std::process::ExitCode;
 /// Runs every family against plotters; true if nothing differs.
 #[cfg(feature = "library")]
 fn compare() -> bool {
-    [numeric::compare()].iter().all(|&agrees| agrees)
+    let agrees = [
+        numeric::compare(),
+        places::compare(),
+        counts::compare(),
+        readings::compare(),
+    ];
+    agrees.iter().all(|&agrees| agrees)
 }
 
 /// Times every family beside plotters.
@@ -27,6 +44,9 @@ fn compare() -> bool {
 fn bench() -> bool {
     println!("{}", timing::HEADING);
     numeric::bench();
+    places::bench();
+    counts::bench();
+    readings::bench();
     true
 }
 
@@ -34,6 +54,9 @@ fn bench() -> bool {
 fn vectors() -> bool {
     print!("{}", include_str!("vectors-heading.txt"));
     numeric::vectors();
+    places::vectors();
+    counts::vectors();
+    readings::vectors();
     true
 }
 

@@ -5,6 +5,15 @@ use std::fmt::Display;
 /// How many differing inputs are printed.
 const SHOWN: usize = 5;
 
+/// What is to hold, and what to say if it does not.
+pub fn ensure(holds: bool, what: impl FnOnce() -> String) -> Result<(), String> {
+    if holds {
+        Ok(())
+    } else {
+        Err(what())
+    }
+}
+
 pub struct Tally {
     call: String,
     compared: u64,

@@ -4,7 +4,9 @@ use std::time::Instant;
 
 pub const HEADING: &str = "\
 # Medians of 21 repetitions, both sides in turns, all built for release. Lists lent to ours are
-# made once and not cleared between calls; plotters makes a new Vec in every call.";
+# made once and not cleared between calls; plotters makes a new Vec in every call. Calls that
+# answer with one number are timed in a batch of a million ordinary inputs, the same for both;
+# the compiler may inline what plotters does, but not a C function.";
 
 const REPETITIONS: usize = 21;
 const AT_LEAST: f64 = 2e6;
@@ -30,17 +32,36 @@ fn median(mut times: Vec<f64>) -> f64 {
     times[times.len() / 2]
 }
 
-/// Prints the times of both sides; each is told how often to make its call.
-pub fn report(title: &str, mut ours: impl FnMut(u64), mut plotters: impl FnMut(u64)) {
-    let (n, k) = (enough(&mut ours), enough(&mut plotters));
+/// A side's number of calls, and what makes them.
+type Side<'a> = (u64, &'a mut dyn FnMut(u64));
+
+fn in_turns(title: &str, (n, ours): Side, (k, plotters): Side) {
     let (mut left, mut right) = (Vec::new(), Vec::new());
     for _ in 0..REPETITIONS {
-        left.push(time(n, &mut ours));
-        right.push(time(k, &mut plotters));
+        left.push(time(n, ours));
+        right.push(time(k, plotters));
     }
     let (left, right) = (median(left), median(right));
     println!(
         "{title}: ours {left:.1} ns, plotters {right:.1} ns, ratio {:.2}",
         left / right
     );
+}
+
+/// Prints the times of both sides; each is told how often to make its call.
+pub fn report(title: &str, mut ours: impl FnMut(u64), mut plotters: impl FnMut(u64)) {
+    let (n, k) = (enough(&mut ours), enough(&mut plotters));
+    in_turns(title, (n, &mut ours), (k, &mut plotters));
+}
+
+/// The same with sides that make `n` calls, whatever they are told.
+pub fn report_batch(title: &str, n: u64, mut ours: impl FnMut(), mut plotters: impl FnMut()) {
+    in_turns(title, (n, &mut |_| ours()), (n, &mut |_| plotters()));
+}
+
+/// Prints the time of one call.
+pub fn report_alone(title: &str, mut call: impl FnMut(u64)) {
+    let n = enough(&mut call);
+    let times = (0..REPETITIONS).map(|_| time(n, &mut call)).collect();
+    println!("{title}: {:.1} ns", median(times));
 }

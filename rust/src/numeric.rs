@@ -1,4 +1,4 @@
-//! Axes of whole numbers and of indices.
+//! Axes of whole numbers, of indices and of reals, and the marks of the first two.
 
 use crate::refusal::{answered, Refusal};
 
@@ -92,6 +92,10 @@ impl RangedCoordusize {
         answered("culv_index_key_points", code).map(|()| KeyPoints { step, count })
     }
 }
+
+/// A real axis: its two ends, any numbers, rising or falling.
+#[derive(Clone, Copy, Debug, PartialEq)]
+pub struct RangedCoordf64(pub f64, pub f64);
 
 #[cfg(test)]
 mod tests {

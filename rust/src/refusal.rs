@@ -106,6 +106,17 @@ pub(crate) fn answered(call: &str, code: i32) -> Result<(), Refusal> {
     }
 }
 
+/// Reads what a call that may answer none has returned, beside the value it wrote if it did.
+///
+/// # Panics
+/// If the code is none that such a call returns.
+pub(crate) fn answered_or_none<T>(call: &str, code: i32, value: T) -> Result<Option<T>, Refusal> {
+    match code {
+        -1 => Ok(None),
+        _ => answered(call, code).map(|()| Some(value)),
+    }
+}
+
 #[cfg(test)]
 mod tests {
     use super::*;
@@ -116,6 +127,13 @@ mod tests {
         assert_eq!(Refusal::from_number(13), Some(OutTooShort));
         assert_eq!(answered("call", 0), Ok(()));
         assert_eq!(answered("call", 14), Err(NotARuler));
+    }
+
+    #[test]
+    fn none_is_told_from_answers_and_refusals() {
+        assert_eq!(answered_or_none("call", -1, 7), Ok(None));
+        assert_eq!(answered_or_none("call", 0, 7), Ok(Some(7)));
+        assert_eq!(answered_or_none("call", 10, 7), Err(AboveI32));
     }
 
     #[test]

@@ -8,7 +8,7 @@ use super::cases::{fewer, large, small, Case, LONG};
 use super::rule::BOUND;
 use crate::lent::{Fill, Lent};
 use crate::random::Random;
-use crate::tally::Tally;
+use crate::tally::{ensure, Tally};
 
 /// Cases with more marks than this are not drawn at random.
 const MOST: usize = 200_000;
@@ -23,14 +23,6 @@ fn no_step(case: Case) -> bool {
 
 /// What a call must give: the step and the marks, or the number of its refusal.
 type Wanted<'a, N> = Result<(N, &'a [N]), i32>;
-
-fn ensure(holds: bool, what: impl FnOnce() -> String) -> Result<(), String> {
-    if holds {
-        Ok(())
-    } else {
-        Err(what())
-    }
-}
 
 /// What is lent in one call.
 struct Memory<N> {

@@ -1,0 +1,135 @@
+//! A call of culvraod that answers with one number, beside the rule and plotters.
+
+use culvraod::Refusal;
+use std::hint::black_box;
+
+use crate::call::{wanted, Answer, Call, Shown, Told};
+use crate::cases::{all, Cases};
+use crate::lent::{Fill, Lent};
+use crate::number::Number;
+use crate::random::Random;
+use crate::tally::{ensure, Tally};
+use crate::timing::report_batch;
+
+/// How many random inputs of a call are compared, and how many beside their mirror.
+const DRAWN: usize = 100_000_000;
+const MIRRORED: usize = 30_000_000;
+
+/// How many calls are timed.
+const BATCH: usize = 1_000_000;
+
+/// A call as culvraod has it: the safe one, and the C function itself.
+pub trait Library: Call<Number: Fill> {
+    const CALL: &'static str;
+
+    fn safe(self) -> Result<Option<Self::Number>, Refusal>;
+
+    /// # Safety
+    /// `out` must point to a number.
+    unsafe fn function(self, out: *mut Self::Number) -> i32;
+}
+
+fn told<N: Into<Number>>(safe: Result<Option<N>, Refusal>) -> Told {
+    let answer: Answer<N> = safe.map_err(Refusal::number);
+    answer.into()
+}
+
+/// Calls the C function and holds its answer and all memory in reach against what is wanted.
+fn by_function<C: Library>(
+    call: C,
+    cell: &mut Lent<C::Number>,
+    wanted: Told,
+) -> Result<(), String> {
+    cell.refill(1);
+    // SAFETY: the pointer is that of a list of one number.
+    let code = unsafe { call.function(cell.pointer()) };
+    let given = cell.list()[0];
+    let found = |what: &str| match code {
+        0 => format!("gave {}, wanted {wanted}{what}", given.into()),
+        _ => format!("returned {code}, wanted {wanted}{what}"),
+    };
+    ensure(code == wanted.code(), || found(""))?;
+    let kept = match wanted {
+        Told::Given(number) => {
+            ensure(given.into() == number, || found(""))?;
+            cell.holds(&[given])
+        }
+        _ => cell.holds(&[]),
+    };
+    ensure(kept, || found("; memory was written to"))
+}
+
+fn check<C: Library>(call: C, cell: &mut Lent<C::Number>) -> Result<(), String> {
+    let wanted = wanted(call)?;
+    by_function(call, cell, wanted)?;
+    let safe = told(call.safe());
+    ensure(safe == wanted, || {
+        format!("safe call: {safe}, wanted {wanted}")
+    })
+}
+
+fn size<C: Call>(call: C) -> u128 {
+    call.fields().map(|(_, number)| number.size()).sum()
+}
+
+/// All corners, all small inputs, and so many at random.
+fn inputs<C: Cases>(drawn: usize) -> impl Iterator<Item = C> {
+    let mut random = Random::new();
+    let worked = C::WORKED.iter().copied();
+    let picked = all(|pick| C::corner(pick)).chain(all(|pick| C::small(pick)));
+    let drawn = (0..drawn).map(move |_| C::drawn(&mut random));
+    worked.chain(picked).chain(drawn)
+}
+
+pub fn compare<C: Library + Cases>() -> bool {
+    let mut tally = Tally::new(C::CALL);
+    let cell = &mut Lent::new();
+    inputs::<C>(DRAWN).for_each(|call| tally.count(size(call), Shown(call), check(call, cell)));
+    tally.close()
+}
+
+/// A call that the mirror theorem covers.
+pub trait Mirrored: Library + Cases {
+    /// The mirrored input, if the type can hold it.
+    fn mirror(self) -> Option<Self>;
+}
+
+fn check_mirror<C: Mirrored>(call: C, mirror: C) -> Result<(), String> {
+    let (one, other) = (told(call.safe()), told(mirror.safe()));
+    let holds = match (one, other) {
+        (Told::Given(one), Told::Given(other)) => one.mirrors(other),
+        _ => one == other,
+    };
+    ensure(holds, || format!("{one}, mirror {other}"))
+}
+
+/// The mirror theorem on culvraod's own answers.
+pub fn compare_mirror<C: Mirrored>() -> bool {
+    let mut tally = Tally::new(format!("{} beside its mirror", C::CALL));
+    inputs::<C>(MIRRORED)
+        .filter_map(|call| call.mirror().map(|mirror| (call, mirror)))
+        .for_each(|(call, mirror)| {
+            tally.count(size(call), Shown(call), check_mirror(call, mirror));
+        });
+    tally.close()
+}
+
+/// Times a batch of ordinary calls, the C function beside plotters.
+pub fn bench<C: Library + Cases>() {
+    let mut random = Random::fixed(1);
+    let batch: Vec<C> = (0..BATCH).map(|_| C::ordinary(&mut random)).collect();
+    let ours = || {
+        for call in black_box(&batch) {
+            let mut out = C::Number::fill(0);
+            // SAFETY: the pointer is that of a local number.
+            black_box(unsafe { call.function(&mut out) });
+            black_box(out);
+        }
+    };
+    let plotters = || {
+        for call in black_box(&batch) {
+            black_box(call.plotters());
+        }
+    };
+    report_batch(C::CALL, BATCH as u64, ours, plotters);
+}

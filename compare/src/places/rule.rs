@@ -1,0 +1,55 @@
+//! The rule for places, from the scope document's own words.
+
+use super::Place;
+use crate::admitted::{self, BOUND};
+use crate::call::Answer;
+
+/// The greatest whole number that is not above it; far out, any number far out.
+fn floor(x: f64) -> i128 {
+    let cut = x.clamp(-1e30, 1e30) as i128;
+    if cut as f64 > x {
+        cut - 1
+    } else {
+        cut
+    }
+}
+
+fn ceil(x: f64) -> i128 {
+    -floor(-x)
+}
+
+fn place(equal_ends: bool, t: f64, p: i32, q: i32) -> Answer<i32> {
+    let length = q - p;
+    if equal_ends {
+        return Ok(Some(length / 2));
+    }
+    if length == 0 || t == f64::INFINITY {
+        return Ok(Some(q));
+    }
+    if t == f64::NEG_INFINITY {
+        return Ok(Some(p));
+    }
+    let product = f64::from(length) * t;
+    let added = match length {
+        _ if t.is_nan() => 0,
+        1.. => floor(product + 0.001),
+        _ => ceil(product - 0.001),
+    };
+    if added.unsigned_abs() > BOUND as u128 {
+        return Err(5);
+    }
+    Ok(Some(p + added as i32))
+}
+
+pub fn whole(input: Place<i32>) -> Answer<i32> {
+    let Place { a, b, v, p, q } = input;
+    admitted::whole([a, b, v])?;
+    admitted::film([p, q])?;
+    place(a == b, f64::from(v - a) / f64::from(b - a), p, q)
+}
+
+pub fn real(input: Place<f64>) -> Answer<i32> {
+    let Place { a, b, v, p, q } = input;
+    admitted::film([p, q])?;
+    place(a == b, (v - a) / (b - a), p, q)
+}

@@ -1,0 +1,79 @@
+//! Readings: the value at a pixel.
+
+use crate::refusal::{answered_or_none, Refusal};
+use crate::{Limit, RangedCoordf64, RangedCoordi32};
+
+// The C functions, as include/culvraod.h declares and describes them.
+extern "C" {
+    pub fn culv_whole_unmap(a: i32, b: i32, x: i32, p: i32, q: i32, v: *mut i32) -> i32;
+
+    pub fn culv_real_unmap(a: f64, b: f64, x: i32, p: i32, q: i32, v: *mut f64) -> i32;
+}
+
+impl RangedCoordi32 {
+    /// The value whose share of the film holds pixel `x`, the first one before the film.
+    ///
+    /// None if its index is above `i32::MAX`, as it is behind a film of no length.
+    /// Refused as [`Refusal::WholeNotAdmitted`], [`Refusal::LimitNotAdmitted`] or
+    /// [`Refusal::AboveI32`].
+    pub fn unmap(self, x: i32, limit: Limit) -> Result<Option<i32>, Refusal> {
+        let mut v = 0;
+        // SAFETY: the result is a local.
+        let code = unsafe { culv_whole_unmap(self.0, self.1, x, limit.0, limit.1, &mut v) };
+        answered_or_none("culv_whole_unmap", code, v)
+    }
+}
+
+impl RangedCoordf64 {
+    /// The value at pixel `x`; none outside the limits, or if they are equal.
+    ///
+    /// Refused as [`Refusal::LimitNotAdmitted`].
+    pub fn unmap(self, x: i32, limit: Limit) -> Result<Option<f64>, Refusal> {
+        let mut v = 0.0;
+        // SAFETY: the result is a local.
+        let code = unsafe { culv_real_unmap(self.0, self.1, x, limit.0, limit.1, &mut v) };
+        answered_or_none("culv_real_unmap", code, v)
+    }
+}
+
+#[cfg(test)]
+mod tests {
+    use super::*;
+
+    const FILM: Limit = Limit(0, 100);
+
+    #[test]
+    fn whole_readings() {
+        let axis = RangedCoordi32(0, 9);
+        assert_eq!(axis.unmap(99, FILM), Ok(Some(9)));
+        assert_eq!(axis.unmap(100, FILM), Ok(Some(10)));
+        assert_eq!(axis.unmap(-1, FILM), Ok(Some(0)));
+        assert_eq!(RangedCoordi32(9, 0).unmap(50, FILM), Ok(Some(9)));
+        assert_eq!(axis.unmap(6, Limit(5, 5)), Ok(None));
+        assert_eq!(axis.unmap(5, Limit(5, 5)), Ok(Some(0)));
+    }
+
+    #[test]
+    fn real_readings() {
+        let read = RangedCoordf64(0.0, 49.0).unmap(1, Limit(0, 49));
+        assert_eq!(read, Ok(Some(1.0f64.next_down())));
+        let axis = RangedCoordf64(-1.0, 1.0);
+        assert_eq!(axis.unmap(25, Limit(100, 0)), Ok(Some(0.5)));
+        assert_eq!(axis.unmap(101, FILM), Ok(None));
+        assert_eq!(axis.unmap(5, Limit(5, 5)), Ok(None));
+    }
+
+    #[test]
+    fn refusals() {
+        let beyond = Limit(0, 1_000_001);
+        let whole = |a, x, limit| RangedCoordi32(a, 1_000_000_000).unmap(x, limit);
+        assert_eq!(
+            whole(1_000_000_001, 0, beyond),
+            Err(Refusal::WholeNotAdmitted)
+        );
+        assert_eq!(whole(0, 0, beyond), Err(Refusal::LimitNotAdmitted));
+        assert_eq!(whole(500_000_000, 4, Limit(0, 1)), Err(Refusal::AboveI32));
+        let real = RangedCoordf64(0.0, 1.0).unmap(-1_000_001, FILM);
+        assert_eq!(real, Err(Refusal::LimitNotAdmitted));
+    }
+}
