@@ -1,0 +1,45 @@
+-- The word before a list's first blank. Assumes nothing.
+use mathlib.Core.Path.{_≡_, refl, sym, ap, _∙_}
+use mathlib.Core.Bool.{Bool, true, false, cond}
+use mathlib.Core.List.{List, [], _∷_}
+use Prim.Native.Nat.{ℕ, zero, suc, _+_, _≤_, _<_}
+use native.Mathlib.Numerals.{add-one}
+use native.Mathlib.Omega.{arith}
+use borrow.Author.Tests.{eq-eqb, ne-eqb}
+use lib.Dec.{eqb}
+use lib.ListN.{length, getD, take, drop, drop-of-length-le}
+use lib.Seq.{drop-cons}
+use Rattle.decimal.specs.Print.{blank}
+use Rattle.line.specs.Line.{word}
+
+module _ (s : List ℕ) (i : ℕ) where
+  pub word-blank : i < length s → getD s i 0 ≡ 32 → length (word (drop i s)) ≡ 0
+  unfolding word
+  word-blank h e = rw (drop-cons s i 0, eq-eqb (getD s i 0) 32 e)
+
+  pub word-more : i < length s → (getD s i 0 ≡ 32 → ⊥) → length (word (drop i s)) ≡ suc (length (word (drop (i + 1) s)))
+  unfolding word
+  word-more h f = rw (add-one, drop-cons s i 0, ne-eqb (getD s i 0) 32 f)
+
+  pub word-end : length s ≤ i → length (word (drop i s)) ≡ 0
+  unfolding word
+  word-end h = rw (drop-of-length-le s h)
+
+-- it is the front of the list
+pub word-front : (s : List ℕ) → take (length (word s)) s ≡ word s
+unfolding word
+word-front [] = refl
+word-front (c ∷ cs) = go (eqb c 32) (word-front cs)
+  where
+    go : (t : Bool) → take (length (word cs)) cs ≡ word cs → take (length (cond t [] (c ∷ word cs))) (c ∷ cs) ≡ cond t [] (c ∷ word cs)
+    go true r = refl
+    go false r = ap (λ (l : List ℕ). c ∷ l) r
+
+pub word-short : (s : List ℕ) → length (word s) ≤ length s
+unfolding word
+word-short [] = omega arith
+word-short (c ∷ cs) = go (eqb c 32) (word-short cs)
+  where
+    go : (t : Bool) → length (word cs) ≤ length cs → length (cond t [] (c ∷ word cs)) ≤ suc (length cs)
+    go true r = omega arith
+    go false r = omega arith
