@@ -2,14 +2,19 @@
 ghost use mathlib.Core.Path.{_≡_};
 ghost use Rattle.numeric.specs.Calls.{wholeKeyPoints, indexKeyPoints};
 ghost use Rattle.numeric.specs.Whole.{wholeSize, wholeIndexOf, wholeFromIndex, wholeReading};
+ghost use Rattle.real.specs.Place.{wholePlace, realPlace};
+ghost use Rattle.real.specs.Reading.{realReading};
 ghost use Rattle.culvraod.specs.Boundary.{single, limitOf};
 ghost use Rattle.culvraod.specs.Numeric.{keyPointsC};
 use numeric::Count;
 use numeric::Index;
 use numeric::IndexMarks;
 use numeric::Marks;
+use numeric::Place;
+use numeric::RangedCoordf64;
 use numeric::RangedCoordi32;
 use numeric::RangedCoordusize;
+use numeric::RealReading;
 use numeric::Value;
 use ranged1d::Limit;
 
@@ -107,5 +112,45 @@ pub extern "C" fn culv_whole_unmap(a: i32, b: i32, x: i32, p: i32, q: i32, v: &m
         }
         Value::Nothing => -1,
         Value::Refused(r) => r.number() as i32,
+    }
+}
+
+#[no_mangle]
+pub extern "C" fn culv_whole_map(a: i32, b: i32, v: i32, p: i32, q: i32, pixel: &mut i32) -> i32
+    ensures { λ r. ⌜ (r, now (pixel .exit)) ≡ single (wholePlace a b v (limitOf p q)) (now (pixel .entry)) ⌝ }
+{
+    match RangedCoordi32(a, b).map(v, Limit(p, q)) {
+        Place::At(y) => {
+            *pixel = y;
+            0
+        }
+        Place::Refused(r) => r.number() as i32,
+    }
+}
+
+#[no_mangle]
+pub extern "C" fn culv_real_map(a: f64, b: f64, v: f64, p: i32, q: i32, pixel: &mut i32) -> i32
+    ensures { λ r. ⌜ (r, now (pixel .exit)) ≡ single (realPlace a b v (limitOf p q)) (now (pixel .entry)) ⌝ }
+{
+    match RangedCoordf64(a, b).map(v, Limit(p, q)) {
+        Place::At(y) => {
+            *pixel = y;
+            0
+        }
+        Place::Refused(r) => r.number() as i32,
+    }
+}
+
+#[no_mangle]
+pub extern "C" fn culv_real_unmap(a: f64, b: f64, x: i32, p: i32, q: i32, v: &mut f64) -> i32
+    ensures { λ r. ⌜ (r, now (v .exit)) ≡ single (realReading a b x (limitOf p q)) (now (v .entry)) ⌝ }
+{
+    match RangedCoordf64(a, b).unmap(x, Limit(p, q)) {
+        RealReading::At(w) => {
+            *v = w;
+            0
+        }
+        RealReading::Nothing => -1,
+        RealReading::Refused(r) => r.number() as i32,
     }
 }

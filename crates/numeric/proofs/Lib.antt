@@ -10,6 +10,7 @@ pub mod Mirror
 pub mod Most
 pub mod NoStep
 pub mod Near
+pub mod Places
 pub mod Theorems
 pub mod Readings
 pub mod WorkedReadings

@@ -14,6 +14,9 @@ ghost use Rattle.numeric.specs.Calls.{tellMarks, tellIndexMarks, tellPla
 mod whole;
 
 use ranged1d::Refusal;
+pub use real::Place;
+pub use real::RangedCoordf64;
+pub use real::RealReading;
 pub use whole::Count;
 pub use whole::Index;
 pub use whole::Value;

@@ -1,13 +1,16 @@
 // The whole axis as a discrete one, after `impl_discrete_trait` of types/numeric.rs and `unmap` of discrete.rs: its count, the index of
-// a value, the value at an index, and the value that a pixel is read as.
+// a value, the value at an index, the place of a value, and the value that a pixel is read as.
 ghost use mathlib.Core.Path.{_≡_};
 ghost use mathlib.Core.Bool.{true};
+ghost use Rattle.real.specs.Place.{tellPlace, wholePlace};
 ghost use Rattle.numeric.specs.Whole.{endsAdmitted, tellCount, tellIndex, tellValue, wholeSize, wholeIndexOf, wholeFromIndex, wholeReading, countOf, valueFrom};
 use crate::RangedCoordi32;
 use crate::span;
 use discrete::PixelIndex;
 use ranged1d::Limit;
 use ranged1d::Refusal;
+use real::Place;
+use real::RangedCoordf64;
 
 pub enum Count {
     Of(u64),
@@ -101,6 +104,21 @@ impl RangedCoordi32 {
             return Value::Refused(Refusal::WholeNotAdmitted);
         }
         self.value_at(k)
+    }
+
+    // The place of v on the film, by the rule of the real axis: an f64 holds every i32.
+    pub fn map(self, v: i32, limit: Limit) -> Place
+        ensures { λ r. ⌜ tellPlace r ≡ wholePlace (self .0) (self .1) v limit ⌝ }
+    {
+        if !self.admitted() {
+            return Place::Refused(Refusal::WholeNotAdmitted);
+        }
+        if !ranged1d::whole_admitted(v) {
+            return Place::Refused(Refusal::WholeNotAdmitted);
+        }
+        let a = self.0;
+        let b = self.1;
+        RangedCoordf64(a as f64, b as f64).map(v as f64, limit)
     }
 
     // The value that pixel x is read as.

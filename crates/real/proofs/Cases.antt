@@ -1,0 +1,125 @@
+-- The rules case by case, from the tests that the code makes. Assumes nothing.
+use mathlib.Core.Path.{_≡_, refl, sym, ap, _∙_}
+use mathlib.Core.Bool.{Bool, true, false, _&&_, true≢false}
+use Prim.Native.Nat.{ℕ, zero, suc, _*_, _^_, _≤_, _<_, zero-le}
+use native.Mathlib.Nat.{le-refl, zero-mul, mul-pos}
+use native.Mathlib.Omega.{arith}
+use lib.IntN.{ℤ, pos, negsuc, natAbs}
+use lib.Signed.{ltZ, leZ}
+use lib.Ieee.{Float, nan, inf, fin, binary64, up, down, unlike, add, mul, eq, ofInt}
+use lib.Ieee.Fits.{down-pos}
+use lib.Ieee.Exact.{HasValue}
+use mir.Syntax.{w32}
+use mir.Val.{SFits, ofZ}
+use borrow.Author.Tests.{lt-ltb, le-leb, leb-true, ne-eqb}
+use Rattle.ranged1d.specs.declared.Limit.{Limit}
+use Rattle.ranged1d.specs.Admitted.{pixelAdmitted, limitAdmitted}
+use Rattle.ranged1d.proofs.Whole.{both-ways, far32}
+use Rattle.rounding.specs.Integral.{Way}
+use Rattle.rounding.specs.Within.{within}
+use Rattle.rounding.specs.declared.Whole.{Whole}
+use Rattle.rounding.specs.declared.Whole.the-variants.{Number, Beyond}
+use Rattle.rounding.proofs.Bounds.{Held, within-held}
+use Rattle.real.specs.Place.{farthest, along, plus, orEnd, product, rising, falling, isBeyond, number}
+use Rattle.real.specs.Reading.{same}
+use Rattle.real.proofs.Signs.{int-value}
+
+-- ---- `along`
+pub along-none : (p q l : ℤ) (t : Float) → l ≡ pos 0 → along p q l t ≡ Number q
+unfolding along
+along-none p q l t e = rw e
+
+-- a number that is not 0, as the code tests its bits
+abbrev pub Some : ℤ → Type 0
+Some l = ofZ w32 l ≡ 0 → ⊥
+
+pub along-up : (p q l : ℤ) (t : Float) → ltZ (pos 0) l ≡ true → along p q l t ≡ orEnd p q t (plus p (rising l t))
+unfolding along
+along-up p q (pos zero) t u = absurd (true≢false (sym u))
+along-up p q (pos (suc l)) t u = refl
+along-up p q (negsuc l) t u = absurd (true≢false (sym u))
+
+pub along-down : (p q l : ℤ) (t : Float) → Some l → ltZ (pos 0) l ≡ false → along p q l t ≡ orEnd p q t (plus p (falling l t))
+unfolding along
+along-down p q (pos zero) t n u = absurd (n refl)
+along-down p q (pos (suc l)) t n u = absurd (true≢false (sym (lt-ltb 0 (suc l) (omega arith)) ∙ u))
+along-down p q (negsuc l) t n u = refl
+
+-- ---- The whole number that is added to p, within a bound b: w is `floors` and d a thousandth, or w is `ceils` and d minus that
+abbrev pub steps : Way → ℕ → Float → ℤ → Float → Whole
+steps w b d l t = within w b (add binary64 (product l t) d)
+
+pub steps-near : (w : Way) (b : ℕ) (x : Float) → b ≤ farthest → natAbs (number (within w b x)) ≤ farthest
+steps-near w b x l = go (within w b x) (within-held w b x)
+  where
+    go : (v : Whole) → Held b v → natAbs (number v) ≤ farthest
+    go (Number z) h = omega arith
+    go Beyond h = zero-le
+
+pub some-size : (z : ℤ) → (z ≡ pos 0 → ⊥) → 0 < natAbs z
+some-size (pos zero) n = absurd (n refl)
+some-size (pos (suc k)) n = omega arith
+some-size (negsuc k) n = omega arith
+
+-- an infinite t leads beyond, unless L is 0
+times-inf : (x : Float) (s : Bool) (k : ℕ) (u : Bool) → HasValue x s k 1 → 0 < k → (v : Bool) × (mul binary64 x (inf u) ≡ inf v)
+unfolding mul
+times-inf (fin w m e) s k u h p = (unlike w u, rw (ne-eqb m 0 (λ z. no z)))
+  where
+    no : m ≡ 0 → ⊥
+    no z = let d : 0 < k * down e = mul-pos p (down-pos e) in let a : m * up e ≡ 0 = ap (λ (i : ℕ). i * up e) z ∙ zero-mul (up e) in omega (arith, h .1)
+
+product-inf : (l : ℤ) (u : Bool) → natAbs l ≤ 2 ^ 53 → 0 < natAbs l → (v : Bool) × (product l (inf u) ≡ inf v)
+product-inf l u h p = let x = int-value l h in times-inf (ofInt binary64 l) (x .0) (natAbs l) u (x .1) p
+
+is-inf : (t : Float) (u : Bool) → eq t (inf u) ≡ true → t ≡ inf u
+unfolding eq
+is-inf nan u h = absurd (true≢false (sym h))
+is-inf (inf true) true h = refl
+is-inf (inf true) false h = absurd (true≢false (sym h))
+is-inf (inf false) true h = absurd (true≢false (sym h))
+is-inf (inf false) false h = refl
+is-inf (fin s m e) u h = absurd (true≢false (sym h))
+
+module _ (w : Way) (b : ℕ) (s : Bool) (m : ℕ) (e : ℤ) (l : ℤ) (fits : SFits w32 l) (some : Some l) where
+  steps-inf : (u : Bool) → isBeyond (steps w b (fin s m e) l (inf u)) ≡ true
+  unfolding within add
+  steps-inf u = rw (product-inf l u (omega (arith, far32 l fits)) (some-size l (λ e. some (ap (ofZ w32) e))) .1)
+
+  -- so that a t that does not is not infinite
+  pub no-end : (t : Float) → isBeyond (steps w b (fin s m e) l t) ≡ false → (u : Bool) → eq t (inf u) ≡ false
+  no-end t n u = go (eq t (inf u)) refl
+    where
+      go : (c : Bool) → eq t (inf u) ≡ c → c ≡ false
+      go true h = absurd (true≢false (sym (steps-inf u) ∙ sym (ap (λ (y : Float). isBeyond (steps w b (fin s m e) l y)) (is-inf t u h)) ∙ n))
+      go false h = refl
+
+-- ---- admitted limits are near 0
+pub near : (x : ℤ) → pixelAdmitted x ≡ true → natAbs x ≤ 1_000_000
+near x h = leb-true (natAbs x) 1_000_000 h
+
+both : (a b : Bool) → a && b ≡ true → (a ≡ true) × (b ≡ true)
+both true true h = (refl, refl)
+both true false h = absurd (true≢false (sym h))
+both false b h = absurd (true≢false (sym h))
+
+pub near-limits : (limit : Limit) → limitAdmitted limit ≡ true → (natAbs (limit .0) ≤ 1_000_000) × (natAbs (limit .1) ≤ 1_000_000)
+near-limits limit h =
+    let w = both (pixelAdmitted (limit .0)) (pixelAdmitted (limit .1)) h in
+    (near (limit .0) (w .0), near (limit .1) (w .1))
+
+-- ---- `same`
+le-self : (x : ℤ) → leZ x x ≡ true
+le-self (pos n) = le-leb n n (le-refl n)
+le-self (negsuc n) = le-leb n n (le-refl n)
+
+pub same-yes : (p q : ℤ) → p ≡ q → same p q ≡ true
+same-yes p q e = rw (e, le-self q)
+
+pub same-no : (p q : ℤ) → (p ≡ q → ⊥) → same p q ≡ false
+same-no p q n = go (leZ p q) (leZ q p) refl refl
+  where
+    go : (a b : Bool) → leZ p q ≡ a → leZ q p ≡ b → a && b ≡ false
+    go true true h k = absurd (n (both-ways p q h k))
+    go true false h k = refl
+    go false b h k = refl

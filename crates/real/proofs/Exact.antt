@@ -1,0 +1,63 @@
+-- Whole numbers as floats: their differences are exact, so that the share of a whole axis is one quotient. Assumes nothing.
+use mathlib.Core.Path.{_≡_, refl, sym, ap, _∙_}
+use mathlib.Core.Bool.{Bool, true, false, not, true≢false}
+use Prim.Native.Nat.{ℕ, zero, suc, _+_, _-_, _*_, _^_, _≤_}
+use native.Mathlib.Nat.{add-zero}
+use native.Mathlib.Omega.{arith}
+use lib.IntN.{ℤ, pos, negsuc, natAbs, _+ℤ_, _-ℤ_, -ℤ-+ℤ-cancel, +ℤ-idl, +ℤ-idr}
+use lib.Dec.{T}
+use lib.Ieee.{Float, nan, inf, fin, binary64, up, down, round, neg, sum, add, sub, div, eq, ofInt, isNan}
+use lib.Ieee.Exact.{HasValue}
+use lib.Ieee.Back.{round-whole}
+use borrow.Author.Tests.{le-ltb}
+use Rattle.rounding.proofs.Signs.{round-neg}
+use Rattle.rounding.proofs.Sums.{add-whole, whole-sum}
+use Rattle.real.specs.Place.{share}
+use Rattle.real.proofs.Signs.{level-same, int-value, int-neg}
+
+-- x - 0
+minus-none : (x : ℤ) → natAbs x ≤ 2 ^ 53 → add binary64 (ofInt binary64 x) (round binary64 true 0 1) ≡ ofInt binary64 x
+unfolding ofInt sum
+minus-none (pos n) h =
+    add-whole binary64 (round binary64 false n 1) (round binary64 true 0 1) false true n 0 (round-whole binary64 false n h) (round-whole binary64 true 0 (omega arith))
+    ∙ rw (le-ltb n 0 (omega arith)) (let e : n - 0 ≡ n = omega arith in ap (λ (k : ℕ). round binary64 false k 1) e)
+minus-none (negsuc n) h =
+    add-whole binary64 (round binary64 true (suc n) 1) (round binary64 true 0 1) true true (suc n) 0 (round-whole binary64 true (suc n) h) (round-whole binary64 true 0 (omega arith))
+    ∙ ap (λ (k : ℕ). round binary64 true k 1) (add-zero (suc n))
+
+none-turned : neg (ofInt binary64 (pos 0)) ≡ round binary64 true 0 1
+unfolding ofInt
+none-turned = sym (round-neg binary64 false 0 1)
+
+pub less-int : (x y : ℤ) → natAbs x ≤ 2 ^ 53 → natAbs y ≤ 2 ^ 53 → sub binary64 (ofInt binary64 x) (ofInt binary64 y) ≡ ofInt binary64 (x -ℤ y)
+unfolding sub
+less-int x (pos zero) h k = ap (add binary64 (ofInt binary64 x)) none-turned ∙ minus-none x h ∙ ap (ofInt binary64) (sym (+ℤ-idr x))
+less-int x (pos (suc n)) h k = ap (add binary64 (ofInt binary64 x)) (sym (int-neg (pos (suc n)) (λ e. omega (arith, ap natAbs e)))) ∙ whole-sum binary64 x (negsuc n) h k
+less-int x (negsuc n) h k = ap (add binary64 (ofInt binary64 x)) (sym (int-neg (negsuc n) (λ e. omega (arith, ap natAbs e)))) ∙ whole-sum binary64 x (pos (suc n)) h k
+
+-- every number but NaN equals itself
+pub eq-self : (x : Float) → T (not (isNan x)) → eq x x ≡ true
+unfolding eq isNan
+eq-self nan h = absurd h
+eq-self (inf true) h = refl
+eq-self (inf false) h = refl
+eq-self (fin s m e) h = level-same s s (m * up e * down e) (m * up e * down e) refl refl
+
+valued : (x : Float) (s : Bool) (k : ℕ) → HasValue x s k 1 → eq x x ≡ true
+unfolding isNan
+valued (fin u m e) s k v = eq-self (fin u m e) tt
+
+-- whole numbers that differ as floats differ
+int-self : (z : ℤ) → natAbs z ≤ 2 ^ 53 → eq (ofInt binary64 z) (ofInt binary64 z) ≡ true
+int-self z h = let x = int-value z h in valued (ofInt binary64 z) (x .0) (natAbs z) (x .1)
+
+pub differ : (a b : ℤ) → natAbs a ≤ 2 ^ 53 → eq (ofInt binary64 a) (ofInt binary64 b) ≡ false → a ≡ b → ⊥
+differ a b h n e = true≢false (sym (int-self a h) ∙ ap (λ (z : ℤ). eq (ofInt binary64 a) (ofInt binary64 z)) e ∙ n)
+
+pub no-difference : (a b : ℤ) → b -ℤ a ≡ pos 0 → a ≡ b
+no-difference a b e = sym (sym (-ℤ-+ℤ-cancel b a) ∙ ap (λ (z : ℤ). z +ℤ a) e ∙ +ℤ-idl a)
+
+-- the share, as one quotient of whole numbers
+pub whole-share : (a b v : ℤ) → natAbs a ≤ 2 ^ 53 → natAbs b ≤ 2 ^ 53 → natAbs v ≤ 2 ^ 53
+    → share (ofInt binary64 a) (ofInt binary64 b) (ofInt binary64 v) ≡ div binary64 (ofInt binary64 (v -ℤ a)) (ofInt binary64 (b -ℤ a))
+whole-share a b v ha hb hv = rw (less-int v a hv ha, less-int b a hb ha)

@@ -1,0 +1,122 @@
+-- The mirror of a real reading. Assumes nothing.
+use mathlib.Core.Path.{_≡_, refl, sym, ap, _∙_, subst}
+use mathlib.Core.Logic.{inl, inr}
+use mathlib.Core.Bool.{Bool, true, false, not, cond, _&&_, _||_, true≢false}
+use Prim.Native.Nat.{ℕ}
+use lib.Dec.{leb}
+use lib.IntN.{ℤ, pos, negℤ, negℤ-negℤ, negℤ-+ℤ, _-ℤ_}
+use lib.Signed.{ltZ, leZ}
+use lib.Ieee.{Float, nan, inf, fin, binary64, neg, add, sub, mul, eq, ofInt, isNan}
+use Rattle.ranged1d.specs.Answer.{given, none, refused}
+use Rattle.ranged1d.specs.Admitted.{pixelAdmitted, limitAdmitted}
+use Rattle.ranged1d.specs.declared.Limit.{Limit}
+use Rattle.ranged1d.proofs.Whole.{neg-far, neg-le, not-lt, lt-not, other-way, both-ways}
+use Rattle.real.specs.Reading.{lower, upper, outside, same, offset, valueAt, realReading}
+use Rattle.real.specs.Mirror.{mirrored, Same, Opposite, values, both-none, both-refused}
+use Rattle.real.proofs.Signs.{Alike, alike-on, alike-through, turns-alike, add-turns, sub-turns, mul-neg, mul-alike, div-alike, add-left, int-neg, int-alike}
+use Rattle.real.proofs.Cases.{same-yes}
+use Rattle.real.proofs.Exact.{eq-self, no-difference}
+
+-- ---- what is admitted
+pub pixel-neg : (x : ℤ) → pixelAdmitted (negℤ x) ≡ pixelAdmitted x
+pixel-neg x = ap (λ (n : ℕ). leb n 1_000_000) (neg-far x)
+
+pub limit-neg : (limit : Limit) → limitAdmitted (mirrored limit) ≡ limitAdmitted limit
+limit-neg limit = rw (pixel-neg (limit .0), pixel-neg (limit .1))
+
+-- ---- which pixels can be read
+lt-le : (x y : ℤ) → ltZ x y ≡ not (leZ y x)
+lt-le x y = go (ltZ x y) refl
+  where
+    go : (b : Bool) → ltZ x y ≡ b → b ≡ not (leZ y x)
+    go true h = rw (lt-not x y h)
+    go false h = rw (not-lt x y h)
+
+neg-lt : (x y : ℤ) → ltZ (negℤ x) (negℤ y) ≡ ltZ y x
+neg-lt x y = lt-le (negℤ x) (negℤ y) ∙ ap not (neg-le y x) ∙ sym (lt-le y x)
+
+-- the lower of the mirrored limits is the upper one's mirror
+lower-neg : (p q : ℤ) → lower (negℤ p) (negℤ q) ≡ negℤ (upper p q)
+lower-neg p q = rw (neg-lt p q) (go (ltZ q p) (ltZ p q) refl refl)
+  where
+    go : (a b : Bool) → ltZ q p ≡ a → ltZ p q ≡ b → cond a (negℤ p) (negℤ q) ≡ negℤ (cond b q p)
+    go true true h k = absurd (true≢false (sym (other-way q p (lt-not p q k)) ∙ lt-not q p h))
+    go true false h k = refl
+    go false true h k = refl
+    go false false h k = ap negℤ (both-ways q p (not-lt p q k) (not-lt q p h))
+
+upper-neg : (p q : ℤ) → upper (negℤ p) (negℤ q) ≡ negℤ (lower p q)
+upper-neg p q =
+    let e : lower p q ≡ negℤ (upper (negℤ p) (negℤ q)) = rw (negℤ-negℤ p, negℤ-negℤ q) at (lower-neg (negℤ p) (negℤ q)) in
+    sym (ap negℤ e ∙ negℤ-negℤ (upper (negℤ p) (negℤ q)))
+
+or-swap : (a b : Bool) → a || b ≡ b || a
+or-swap true true = refl
+or-swap true false = refl
+or-swap false true = refl
+or-swap false false = refl
+
+and-swap : (a b : Bool) → a && b ≡ b && a
+and-swap true true = refl
+and-swap true false = refl
+and-swap false true = refl
+and-swap false false = refl
+
+outside-neg : (x p q : ℤ) → outside (negℤ x) (negℤ p) (negℤ q) ≡ outside x p q
+outside-neg x p q =
+    rw (lower-neg p q, upper-neg p q, neg-lt x (upper p q), neg-lt (lower p q) x) (or-swap (ltZ (upper p q) x) (ltZ x (lower p q)))
+
+same-neg : (p q : ℤ) → same (negℤ p) (negℤ q) ≡ same p q
+same-neg p q = rw (neg-le p q, neg-le q p) (and-swap (leZ q p) (leZ p q))
+
+-- ---- the value
+pub length-neg : (p q : ℤ) → negℤ q -ℤ negℤ p ≡ negℤ (q -ℤ p)
+length-neg p q = sym (negℤ-+ℤ q (negℤ p))
+
+offset-alike : (x p q : ℤ) → same p q ≡ false → Alike (offset (negℤ x) (negℤ p) (negℤ q)) (offset x p q)
+offset-alike x p q n =
+    rw (length-neg p x, length-neg p q)
+    (div-alike (ofInt binary64 (x -ℤ p)) (ofInt binary64 (q -ℤ p)) (int-alike (x -ℤ p))
+    (int-neg (q -ℤ p) (λ e. true≢false (sym (same-yes p q (no-difference p q e)) ∙ n))))
+
+value-alike : (a b t' t : Float) → Alike t' t → Alike (valueAt (neg a) (neg b) t') (neg (valueAt a b t))
+value-alike a b t' t w =
+    let d = sub binary64 b a in
+    let m = mul binary64 d t in
+    let m' = mul binary64 (sub binary64 (neg b) (neg a)) t' in
+    let turned : Alike m' (neg m) = rw (sym (mul-neg d t)) (mul-alike (turns-alike (sub-turns b a)) w) in
+    alike-on (alike-through (λ (z : Float). add binary64 z (neg a)) (add-left (neg a)) turned) (turns-alike (add-turns m a))
+
+same-self : (x : Float) → Same x x
+unfolding isNan
+same-self nan = inl (refl, refl)
+same-self (inf s) = inr (eq-self (inf s) tt)
+same-self (fin s m e) = inr (eq-self (fin s m e) tt)
+
+alike-same : {x y : Float} → Alike x y → Same x y
+unfolding eq
+alike-same {x} (inl e) = subst (Same x) e (same-self x)
+alike-same (inr w) = rw (w .0 .1, w .1 .1) (inr (zeros-equal (w .0 .0) (w .1 .0)))
+  where
+    zeros-equal : (s t : Bool) → eq (fin s 0 (pos 0)) (fin t 0 (pos 0)) ≡ true
+    zeros-equal true true = refl
+    zeros-equal true false = refl
+    zeros-equal false true = refl
+    zeros-equal false false = refl
+
+pub readings : (limit : Limit) (a b : Float) (x : ℤ) → Opposite (realReading (neg a) (neg b) (negℤ x) (mirrored limit)) (realReading a b x limit)
+unfolding realReading
+readings limit a b x =
+    let p = limit .0 in
+    let q = limit .1 in
+    rw (limit-neg limit, pixel-neg x, outside-neg x p q, same-neg p q)
+    (go (limitAdmitted limit && pixelAdmitted x) (outside x p q) (same p q) refl)
+  where
+    go : (c o e : Bool) → same (limit .0) (limit .1) ≡ e
+        → Opposite
+        (cond (not c) (refused 2) (cond (o || e) none (given (valueAt (neg a) (neg b) (offset (negℤ x) (negℤ (limit .0)) (negℤ (limit .1)))))))
+        (cond (not c) (refused 2) (cond (o || e) none (given (valueAt a b (offset x (limit .0) (limit .1))))))
+    go false o e h = both-refused
+    go true true e h = both-none
+    go true false true h = both-none
+    go true false false h = values (alike-same (value-alike a b _ _ (offset-alike x (limit .0) (limit .1) h)))

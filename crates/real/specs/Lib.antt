@@ -1,0 +1,4 @@
+-- The crate's specification. Assumes nothing.
+pub mod Place
+pub mod Reading
+pub mod Mirror

@@ -1,0 +1,50 @@
+-- The value that a real axis has at a pixel of the film, and which calls for a reading are refused. Assumes nothing.
+use mathlib.Core.Bool.{Bool, not, cond, _&&_, _||_}
+use mathlib.Core.List.{[], _∷_}
+use lib.IntN.{ℤ, _-ℤ_}
+use lib.Signed.{ltZ, leZ}
+use lib.Ieee as Ieee
+use lib.Ieee.{Float, binary64}
+use Rattle.ranged1d.specs.Answer.{Answer, given, none, refused, _when_, lowest}
+use Rattle.ranged1d.specs.Refusals.{numberOf}
+use Rattle.ranged1d.specs.Admitted.{pixelAdmitted, limitAdmitted}
+use Rattle.ranged1d.specs.declared.Limit.{Limit}
+use Rattle.real.specs.declared.RealReading.{RealReading}
+use Rattle.real.specs.declared.RealReading.the-variants as reading-is
+
+-- ---- the answer's cases, by 01's numbers and values: the value; that there is none; the number of the refusal
+abbrev pub tellReading : RealReading → Answer Float
+tellReading (reading-is.At y) = given y
+tellReading reading-is.Nothing = none
+tellReading (reading-is.Refused r) = refused (numberOf r)
+
+-- ---- 01 "Mirroring, real reading, stepped axes": which pixels can be read
+-- the limits in order, whichever way the film runs
+abbrev pub lower : ℤ → ℤ → ℤ
+lower p q = cond (ltZ p q) p q
+
+abbrev pub upper : ℤ → ℤ → ℤ
+upper p q = cond (ltZ p q) q p
+
+-- x lies before both limits or past both
+abbrev pub outside : ℤ → ℤ → ℤ → Bool
+outside x p q = ltZ x (lower p q) || ltZ (upper p q) x
+
+-- the film has no length
+abbrev pub same : ℤ → ℤ → Bool
+same p q = leZ p q && leZ q p
+
+-- ---- 01 "Mirroring, real reading, stepped axes": the value
+-- the share of the film at which x lies
+abbrev pub offset : ℤ → ℤ → ℤ → Float
+offset x p q = Ieee.div binary64 (Ieee.ofInt binary64 (x -ℤ p)) (Ieee.ofInt binary64 (q -ℤ p))
+
+-- the value at that share t of the axis: difference, product and sum, each rounded, with the operands in the source's order
+abbrev pub valueAt : Float → Float → Float → Float
+valueAt a b t = Ieee.add binary64 (Ieee.mul binary64 (Ieee.sub binary64 b a) t) a
+
+-- ---- 01 "Why a call stops": the call. 2 where a limit or the pixel is not admitted; then none off the film and on a film without length
+unfoldable pub realReading : Float → Float → ℤ → Limit → Answer Float
+realReading a b x limit =
+    lowest (2 when not (limitAdmitted limit && pixelAdmitted x) ∷ [])
+    (cond (outside x (limit .0) (limit .1) || same (limit .0) (limit .1)) none (given (valueAt a b (offset x (limit .0) (limit .1)))))
