@@ -1,96 +1,119 @@
 // Replays plotters' answers: each line of standard input is a call, its arguments and what plotters gave (compare/vectors writes the
 // list). Prints for each call how many lines matched, and then how many lines did not.
 ghost use mathlib.Core.Path.{_≡_};
+ghost use Prim.Native.Nat.{_≤_};
 ghost use lib.ListN.{length};
 
+mod bits;
+mod calls;
 mod marks;
 mod text;
 
 use libc::STDIN_FILENO;
 use libc::STDOUT_FILENO;
 
-// What a line is, or which call it matched.
-pub enum Verdict {
-    Comment,
-    Whole,
-    Index,
-    Differs,
+// The calls have numbers from 0 on; after them come the lines that differ and the comments. A total is kept of each.
+const DIFFERS: usize = 9;
+
+const COMMENT: usize = 10;
+
+fn call_of(word: &[u8]) -> usize {
+    if text::equal(word, b"whole") {
+        return 0;
+    }
+    if text::equal(word, b"index") {
+        return 1;
+    }
+    if text::equal(word, b"wmap") {
+        return 2;
+    }
+    if text::equal(word, b"rmap") {
+        return 3;
+    }
+    if text::equal(word, b"size") {
+        return 4;
+    }
+    if text::equal(word, b"index_of") {
+        return 5;
+    }
+    if text::equal(word, b"from_index") {
+        return 6;
+    }
+    if text::equal(word, b"unmap") {
+        return 7;
+    }
+    if text::equal(word, b"runmap") {
+        return 8;
+    }
+    DIFFERS
 }
 
-// The calls have names of five letters, which the first letter tells apart.
-fn judge(line: &[u8], numbers: &mut [u64], whole: &mut [i32], index: &mut [usize]) -> Verdict {
+// Whether the call answers as the line of n numbers has it.
+fn matched(call: usize, numbers: &[u64], n: usize, whole: &mut [i32], index: &mut [usize]) -> bool
+    requires { ⌜ n ≤ length (now numbers) ⌝ }
+{
+    match call {
+        0 => marks::whole(numbers, n, whole),
+        1 => marks::index(numbers, n, index),
+        2 => calls::whole_map(numbers, n),
+        3 => calls::real_map(numbers, n),
+        4 => calls::size(numbers, n),
+        5 => calls::index_of(numbers, n),
+        6 => calls::from_index(numbers, n),
+        7 => calls::whole_unmap(numbers, n),
+        8 => calls::real_unmap(numbers, n),
+        _ => false,
+    }
+}
+
+fn judge(line: &[u8], numbers: &mut [u64], whole: &mut [i32], index: &mut [usize]) -> usize {
     if line.len() == 0 {
-        return Verdict::Differs;
+        return DIFFERS;
     }
-    let first = line[0];
-    if first == b'#' {
-        return Verdict::Comment;
+    if line[0] == b'#' {
+        return COMMENT;
     }
-    let n = text::numbers(line, 6, numbers);
-    if n < 4 {
-        return Verdict::Differs;
+    let end = text::find(line, 0, b' ');
+    let call = call_of(&line[0..end]);
+    let n = text::numbers(line, end + 1, numbers);
+    if matched(call, numbers, n, whole, index) {
+        return call;
     }
-    if first == b'w' {
-        if marks::whole(numbers, n, whole) {
-            return Verdict::Whole;
-        }
-        return Verdict::Differs;
-    }
-    if first == b'i' {
-        if marks::index(numbers, n, index) {
-            return Verdict::Index;
-        }
-        return Verdict::Differs;
-    }
-    Verdict::Differs
+    DIFFERS
 }
 
-// How many lines matched a call, and how many differ. Each stops at the largest u32.
-pub struct Totals {
-    pub whole: u32,
-    pub index: u32,
-    pub differ: u32,
-}
-
-fn more(n: u32) -> u32 {
-    if n < 4294967295 { n + 1 } else { n }
-}
-
-fn counted(t: Totals, v: Verdict) -> Totals {
-    match v {
-        Verdict::Comment => t,
-        Verdict::Whole => Totals {
-            whole: more(t.whole),
-            index: t.index,
-            differ: t.differ,
-        },
-        Verdict::Index => Totals {
-            whole: t.whole,
-            index: more(t.index),
-            differ: t.differ,
-        },
-        Verdict::Differs => Totals {
-            whole: t.whole,
-            index: t.index,
-            differ: more(t.differ),
-        },
+// One more of that total, which stops at the largest u32.
+fn count(totals: &mut [u32], which: usize) {
+    if totals.len() <= which {
+        return;
+    }
+    if totals[which] < 4294967295 {
+        totals[which] += 1;
     }
 }
 
 // Every line of s, each ended by a newline or by the end.
-fn replay(s: &[u8], numbers: &mut [u64], whole: &mut [i32], index: &mut [usize]) -> Totals {
+fn replay(
+    s: &[u8],
+    numbers: &mut [u64],
+    whole: &mut [i32],
+    index: &mut [usize],
+    totals: &mut [u32],
+) {
     let mut at = 0;
-    let mut t = Totals {
-        whole: 0,
-        index: 0,
-        differ: 0,
-    };
     while at < s.len() {
-        let end = text::line_end(s, at);
-        t = counted(t, judge(&s[at..end], numbers, whole, index));
+        let end = text::find(s, at, b'\n');
+        count(totals, judge(&s[at..end], numbers, whole, index));
         at = end + 1;
     }
-    t
+}
+
+fn total(totals: &[u32], which: usize) -> u32 {
+    if which < totals.len() {
+        totals[which]
+    } else {
+        0
+    }
 }
 
 fn report(name: &[u8], n: u32) {
@@ -98,16 +121,30 @@ fn report(name: &[u8], n: u32) {
     io::print_decimal(STDOUT_FILENO, n as u64);
 }
 
-fn report_all(t: Totals) {
-    report(b"whole_key_points matched: ", t.whole);
-    report(b"\nindex_key_points matched: ", t.index);
-    report(b"\nlines that differ: ", t.differ);
+fn report_all(totals: &[u32]) {
+    report(b"whole_key_points matched: ", total(totals, 0));
+    report(b"\nindex_key_points matched: ", total(totals, 1));
+    report(b"\nwhole_map matched: ", total(totals, 2));
+    report(b"\nreal_map matched: ", total(totals, 3));
+    report(b"\nwhole_size matched: ", total(totals, 4));
+    report(b"\nwhole_index_of matched: ", total(totals, 5));
+    report(b"\nwhole_from_index matched: ", total(totals, 6));
+    report(b"\nwhole_unmap matched: ", total(totals, 7));
+    report(b"\nreal_unmap matched: ", total(totals, 8));
+    report(b"\nlines that differ: ", total(totals, DIFFERS));
     io::write_all(STDOUT_FILENO, b"\n");
 }
 
-fn lend(space: &mut [u8], numbers: &mut [u64], whole: &mut [i32], index: &mut [usize]) {
+fn lend(
+    space: &mut [u8],
+    numbers: &mut [u64],
+    whole: &mut [i32],
+    index: &mut [usize],
+    totals: &mut [u32],
+) {
     let n = io::read_full(STDIN_FILENO, space);
-    report_all(replay(&space[..n], numbers, whole, index));
+    replay(&space[..n], numbers, whole, index, totals);
+    report_all(totals);
 }
 
 // Room for the whole list.
@@ -122,5 +159,12 @@ fn main() {
     let mut numbers = [0u64; 64];
     let mut whole = [0i32; 64];
     let mut index = [0usize; 64];
-    lend(&mut space, &mut numbers, &mut whole, &mut index);
+    let mut totals = [0u32; 11];
+    lend(
+        &mut space,
+        &mut numbers,
+        &mut whole,
+        &mut index,
+        &mut totals,
+    );
 }

@@ -7,21 +7,21 @@ use Rattle.vectors.proofs.replay.Statement.{statement}
 use Rattle.vectors.proofs.replay.Tie as tie
 use Rattle.vectors.proofs.replay.Reads as reads
 use Rattle.vectors.proofs.replay.Lts as lts
-use Rattle.vectors.proofs.counted.Reads as counted-reads
+use Rattle.vectors.proofs.count.Reads as count-reads
 use Rattle.vectors.proofs.judge.Reads as judge-reads
-use Rattle.vectors.proofs.text.line_end.Reads as line-end-reads
+use Rattle.vectors.proofs.text.find.Reads as find-reads
 
 abbrev Inv-loop : tie.InvT-loop
-Inv-loop s numbers₀ whole₀ index₀ at₀ t₀ numbers whole index at t = (length numbers ≡ length numbers₀) × (length whole ≡ length whole₀) × (length index ≡ length index₀)
+Inv-loop s numbers₀ whole₀ index₀ totals₀ at₀ numbers whole index totals at = (length numbers ≡ length numbers₀) × (length whole ≡ length whole₀) × (length index ≡ length index₀) × (length totals ≡ length totals₀)
 
 abbrev μ-loop : tie.MeasureT-loop
-μ-loop s numbers₀ whole₀ index₀ at₀ t₀ numbers whole index at t = length s - at
+μ-loop s numbers₀ whole₀ index₀ totals₀ at₀ numbers whole index totals at = length s - at
 
 loop-holds : tie.Need-loop-holds Inv-loop μ-loop
 loop-holds c = search needs
 
-line-end-requires : tie.Need-line-end-requires Inv-loop μ-loop
-line-end-requires c κs = search needs
+find-requires : tie.Need-find-requires Inv-loop μ-loop
+find-requires c κs = search needs
 
 sub-judge : tie.Need-sub-judge Inv-loop μ-loop
 sub-judge c = search needs
@@ -35,8 +35,8 @@ part-judge-end c = search needs
 judge-requires : tie.Need-judge-requires Inv-loop μ-loop
 judge-requires c κs = search needs
 
-counted-requires : tie.Need-counted-requires Inv-loop μ-loop
-counted-requires c κs = search needs
+count-requires : tie.Need-count-requires Inv-loop μ-loop
+count-requires c κs = search needs
 
 add-at : tie.Need-add-at Inv-loop μ-loop
 add-at c = search needs
@@ -56,6 +56,9 @@ same-length-2 c = search needs
 same-length-3 : tie.Need-same-length-3 Inv-loop μ-loop
 same-length-3 c = search needs
 
+same-length-4 : tie.Need-same-length-4 Inv-loop μ-loop
+same-length-4 c = search needs
+
 returns : tie.Need-returns Inv-loop μ-loop
 returns c = search needs
 
@@ -66,16 +69,17 @@ replay-spec =
     Inv-loop
     μ-loop
     loop-holds
-    line-end-requires
+    find-requires
     sub-judge
     part-judge-start
     part-judge-end
     judge-requires
-    counted-requires
+    count-requires
     add-at
     loop-less
     loop-again
     same-length
     same-length-2
     same-length-3
+    same-length-4
     returns)

@@ -5,7 +5,7 @@ use Rattle.vectors.proofs.marks.same_whole.Statement.{statement}
 use Rattle.vectors.proofs.marks.same_whole.Tie as tie
 use Rattle.vectors.proofs.marks.same_whole.Reads as reads
 use Rattle.vectors.proofs.marks.same_whole.Lts as lts
-use Rattle.vectors.proofs.marks.bits.Reads as bits-reads
+use Rattle.vectors.proofs.bits.bits.Reads as bits-reads
 use Rattle.vectors.proofs.marks.same_head.Reads as same-head-reads
 
 abbrev Inv-loop : tie.InvT-loop

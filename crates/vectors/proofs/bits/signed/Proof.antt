@@ -1,4 +1,4 @@
--- `vectors::marks::signed` meets its contract. Assumes nothing.
+-- `vectors::bits::signed` meets its contract. Assumes nothing.
 use mathlib.Core.Path.{_≡_}
 use Prim.Native.Nat.{ℕ, zero, suc, _-_, _≤_}
 use native.Mathlib.Omega.{arith}
@@ -8,10 +8,10 @@ use mir.Syntax.{w32}
 use mir.Val.{SFits, toZ}
 use Rattle.ranged1d.proofs.Whole.{fits32, zero-minus-far}
 use borrow.Author.Needs.{needs}
-use Rattle.vectors.proofs.marks.signed.Statement.{statement}
-use Rattle.vectors.proofs.marks.signed.Tie as tie
-use Rattle.vectors.proofs.marks.signed.Reads as reads
-use Rattle.vectors.proofs.marks.signed.Lts as lts
+use Rattle.vectors.proofs.bits.signed.Statement.{statement}
+use Rattle.vectors.proofs.bits.signed.Tie as tie
+use Rattle.vectors.proofs.bits.signed.Reads as reads
+use Rattle.vectors.proofs.bits.signed.Lts as lts
 
 cast-result : tie.Need-cast-result
 cast-result c = search needs

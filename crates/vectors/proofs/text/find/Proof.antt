@@ -1,17 +1,17 @@
--- `vectors::text::line_end` meets its contract. Assumes nothing.
+-- `vectors::text::find` meets its contract. Assumes nothing.
 use Prim.Native.Nat.{_-_, _≤_}
 use lib.ListN.{length}
 use borrow.Author.Needs.{needs}
-use Rattle.vectors.proofs.text.line_end.Statement.{statement}
-use Rattle.vectors.proofs.text.line_end.Tie as tie
-use Rattle.vectors.proofs.text.line_end.Reads as reads
-use Rattle.vectors.proofs.text.line_end.Lts as lts
+use Rattle.vectors.proofs.text.find.Statement.{statement}
+use Rattle.vectors.proofs.text.find.Tie as tie
+use Rattle.vectors.proofs.text.find.Reads as reads
+use Rattle.vectors.proofs.text.find.Lts as lts
 
 abbrev Inv-loop : tie.InvT-loop
-Inv-loop s at i₀ i = (at ≤ i) × (i ≤ length s)
+Inv-loop s at b i₀ i = (at ≤ i) × (i ≤ length s)
 
 abbrev μ-loop : tie.MeasureT-loop
-μ-loop s at i₀ i = length s - i
+μ-loop s at b i₀ i = length s - i
 
 loop-holds : tie.Need-loop-holds Inv-loop μ-loop
 loop-holds c = search needs
@@ -34,8 +34,8 @@ loop-again c = search needs
 returns-2 : tie.Need-returns-2 Inv-loop μ-loop
 returns-2 c = search needs
 
-pub line-end-spec : {M : Type 1} → statement M
-line-end-spec =
+pub find-spec : {M : Type 1} → statement M
+find-spec =
     tie.close
     (tie.spec
     Inv-loop
