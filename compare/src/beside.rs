@@ -114,6 +114,12 @@ pub fn compare_mirror<C: Mirrored>() -> bool {
     tally.close()
 }
 
+/// plotters' call where the compiler may not inline it, as it may not the C function.
+#[inline(never)]
+fn behind_a_call<C: Call>(call: &C) -> Option<C::Number> {
+    call.plotters()
+}
+
 /// Times a batch of ordinary calls, the C function beside plotters.
 pub fn bench<C: Library + Cases>() {
     let mut random = Random::fixed(1);
@@ -131,5 +137,10 @@ pub fn bench<C: Library + Cases>() {
             black_box(call.plotters());
         }
     };
-    report_batch(C::CALL, BATCH as u64, ours, plotters);
+    let behind = || {
+        for call in black_box(&batch) {
+            black_box(behind_a_call(call));
+        }
+    };
+    report_batch(C::CALL, BATCH as u64, [&mut { ours }, &mut { plotters }, &mut { behind }]);
 }

@@ -5,8 +5,9 @@ use std::time::Instant;
 pub const HEADING: &str = "\
 # Medians of 21 repetitions, both sides in turns, all built for release. Lists lent to ours are
 # made once and not cleared between calls; plotters makes a new Vec in every call. Calls that
-# answer with one number are timed in a batch of a million ordinary inputs, the same for both;
-# the compiler may inline what plotters does, but not a C function.";
+# answer with one number are timed in a batch of a million ordinary inputs, the same for both.
+# The compiler may inline what plotters does, but not a C function; so plotters is timed behind a
+# call as well.";
 
 const REPETITIONS: usize = 21;
 const AT_LEAST: f64 = 2e6;
@@ -32,31 +33,38 @@ fn median(mut times: Vec<f64>) -> f64 {
     times[times.len() / 2]
 }
 
-/// A side's number of calls, and what makes them.
-type Side<'a> = (u64, &'a mut dyn FnMut(u64));
-
-fn in_turns(title: &str, (n, ours): Side, (k, plotters): Side) {
-    let (mut left, mut right) = (Vec::new(), Vec::new());
+/// The median time of each side, which are timed in turns.
+fn in_turns<const N: usize>(calls: [u64; N], mut sides: [&mut dyn FnMut(u64); N]) -> [f64; N] {
+    let mut times = [(); N].map(|()| Vec::new());
     for _ in 0..REPETITIONS {
-        left.push(time(n, ours));
-        right.push(time(k, plotters));
+        for ((times, n), side) in times.iter_mut().zip(calls).zip(&mut sides) {
+            times.push(time(n, side));
+        }
     }
-    let (left, right) = (median(left), median(right));
-    println!(
-        "{title}: ours {left:.1} ns, plotters {right:.1} ns, ratio {:.2}",
-        left / right
-    );
+    times.map(median)
 }
 
 /// Prints the times of both sides; each is told how often to make its call.
 pub fn report(title: &str, mut ours: impl FnMut(u64), mut plotters: impl FnMut(u64)) {
-    let (n, k) = (enough(&mut ours), enough(&mut plotters));
-    in_turns(title, (n, &mut ours), (k, &mut plotters));
+    let calls = [enough(&mut ours), enough(&mut plotters)];
+    let [ours, plotters] = in_turns(calls, [&mut ours, &mut plotters]);
+    let ratio = ours / plotters;
+    println!("{title}: ours {ours:.1} ns, plotters {plotters:.1} ns, ratio {ratio:.2}");
 }
 
-/// The same with sides that make `n` calls, whatever they are told.
-pub fn report_batch(title: &str, n: u64, mut ours: impl FnMut(), mut plotters: impl FnMut()) {
-    in_turns(title, (n, &mut |_| ours()), (n, &mut |_| plotters()));
+/// The same with sides that make `n` calls whatever they are told: ours, plotters inlined, and
+/// plotters behind a call.
+pub fn report_batch(title: &str, n: u64, sides: [&mut dyn FnMut(); 3]) {
+    let [ours, plotters, behind] = sides;
+    let [ours, plotters, behind] = in_turns(
+        [n; 3],
+        [&mut |_| ours(), &mut |_| plotters(), &mut |_| behind()],
+    );
+    let (ratio, fair) = (ours / plotters, ours / behind);
+    println!(
+        "{title}: ours {ours:.1} ns, plotters {plotters:.1} ns, ratio {ratio:.2}; \
+         plotters behind a call {behind:.1} ns, ratio {fair:.2}"
+    );
 }
 
 /// Prints the time of one call.

@@ -1,15 +1,20 @@
 -- Places of whole axes: by the tests that lead to each answer, and that every mark has one. Assumes nothing.
-use mathlib.Core.Path.{_≡_, refl, sym, subst, _∙_}
+use mathlib.Core.Path.{_≡_, refl, sym, ap, _∙_}
 use mathlib.Core.Bool.{Bool, true, false, not, _&&_}
 use mathlib.Core.List.{[], _∷_}
-use Prim.Native.Nat.{ℕ, _<_}
-use lib.IntN.{ℤ}
-use lib.Ieee.{binary64, ofInt}
+use Prim.Native.Nat.{ℕ, _≤_, _<_}
+use lib.IntN.{ℤ, pos, natAbs, _-ℤ_}
+use lib.Signed.{quotZ}
+use lib.Ieee.{binary64, div, eq, ofInt}
+use native.Mathlib.Omega.{arith}
 use borrow.Author.Tests.{le-leb}
 use Rattle.ranged1d.specs.Answer.{Answer, given, _when_, lowest}
 use Rattle.ranged1d.specs.Admitted.{wholeAdmitted, limitAdmitted}
 use Rattle.ranged1d.specs.declared.Limit.{Limit}
-use Rattle.real.specs.Place.{realPlace, wholePlace}
+use Rattle.rounding.specs.declared.Whole.the-variants.{Number}
+use Rattle.real.specs.Place.{along, spot, realPlace, wholeSpot, wholePlace}
+use Rattle.real.proofs.Cases.{answered}
+use Rattle.real.proofs.Exact.{int-self, same-int, whole-share}
 use Rattle.real.proofs.Placed.{Placed, whole-is-real, whole-placed}
 use Rattle.numeric.specs.declared.KeyPoints.{KeyPoints}
 use Rattle.numeric.specs.Calls.{wholePlan, element}
@@ -25,6 +30,26 @@ by-tests a b v limit t u e f = whole-is-real a b v limit ∙ rw (e, f, grouped (
     grouped : (x y z : Bool) → x && y && z ≡ (x && y) && z
     grouped true y z = refl
     grouped false y z = refl
+
+-- past all tests it is the place of the rule, or 5
+pub past-tests : (a b v : ℤ) (limit : Limit) → true ≡ endsAdmitted a b → true ≡ wholeAdmitted v → limitAdmitted limit ≡ true → wholePlace a b v limit ≡ answered (wholeSpot a b v limit)
+unfolding realPlace
+past-tests a b v limit e f h = by-tests a b v limit true true e f ∙ rw h
+
+-- ---- the rule's place: of ends that are equal, and by the whole differences of others
+pub level-spot : (a b v : ℤ) (limit : Limit) → natAbs a ≤ 1000000000 → a ≡ b → wholeSpot a b v limit ≡ Number (quotZ (limit .1 -ℤ limit .0) (pos 2))
+unfolding spot
+level-spot a b v limit h e = rw (ap (λ (z : ℤ). eq (ofInt binary64 a) (ofInt binary64 z)) (sym e) ∙ int-self a (omega arith))
+
+pub sloped-spot : (a b v : ℤ) (limit : Limit) → natAbs a ≤ 1000000000 → natAbs b ≤ 1000000000 → natAbs v ≤ 1000000000 → (a ≡ b → ⊥)
+    → wholeSpot a b v limit ≡ along (limit .0) (limit .1) (limit .1 -ℤ limit .0) (div binary64 (ofInt binary64 (v -ℤ a)) (ofInt binary64 (b -ℤ a)))
+unfolding spot
+sloped-spot a b v limit ha hb hv n =
+    rw (differ (eq (ofInt binary64 a) (ofInt binary64 b)) refl) (ap (along (limit .0) (limit .1) (limit .1 -ℤ limit .0)) (whole-share a b v (omega arith) (omega arith) (omega arith)))
+  where
+    differ : (t : Bool) → eq (ofInt binary64 a) (ofInt binary64 b) ≡ t → eq (ofInt binary64 a) (ofInt binary64 b) ≡ false
+    differ true e = absurd (n (same-int a b (omega arith) (omega arith) e))
+    differ false e = e
 
 -- every mark that a plan streams has a place on every film: 5 does not arise
 pub mark-placed : (a b : ℤ) (m : ℕ) {p : KeyPoints} → wholePlan a b m ≡ given p → (limit : Limit) → limitAdmitted limit ≡ true

@@ -2,7 +2,8 @@
 // a value, the value at an index, the place of a value, and the value that a pixel is read as.
 ghost use mathlib.Core.Path.{_≡_};
 ghost use mathlib.Core.Bool.{true};
-ghost use Rattle.real.specs.Place.{tellPlace, wholePlace};
+ghost use Rattle.ranged1d.specs.Admitted.{wholeAdmitted, limitAdmitted};
+ghost use Rattle.real.specs.Place.{tellPlace, wholeSpot, wholePlace};
 ghost use Rattle.numeric.specs.Whole.{endsAdmitted, tellCount, tellIndex, tellValue, wholeSize, wholeIndexOf, wholeFromIndex, wholeReading, countOf, valueFrom};
 use crate::RangedCoordi32;
 use crate::span;
@@ -10,7 +11,7 @@ use discrete::PixelIndex;
 use ranged1d::Limit;
 use ranged1d::Refusal;
 use real::Place;
-use real::RangedCoordf64;
+use rounding::Whole;
 
 pub enum Count {
     Of(u64),
@@ -106,7 +107,27 @@ impl RangedCoordi32 {
         self.value_at(k)
     }
 
-    // The place of v on the film, by the rule of the real axis: an f64 holds every i32.
+    // The place of v on the film, or that it is too far, by the rule of the real axis. Differences of whole numbers are exact as f64,
+    // so they are taken before the numbers become f64.
+    fn spot_of(self, v: i32, limit: Limit) -> Whole
+        requires { ⌜ endsAdmitted (self .0) (self .1) ≡ true ⌝ }
+        requires { ⌜ wholeAdmitted v ≡ true ⌝ }
+        requires { ⌜ limitAdmitted limit ≡ true ⌝ }
+        ensures { λ r. ⌜ r ≡ wholeSpot (self .0) (self .1) v limit ⌝ }
+    {
+        let a = self.0;
+        let b = self.1;
+        let p = limit.0;
+        let q = limit.1;
+        let l = q - p;
+        if a == b {
+            return Whole::Number((l / 2) as i64);
+        }
+        let t = ((v - a) as f64) / ((b - a) as f64);
+        real::place_along(p, q, l, t)
+    }
+
+    // The place of v on the film.
     pub fn map(self, v: i32, limit: Limit) -> Place
         ensures { λ r. ⌜ tellPlace r ≡ wholePlace (self .0) (self .1) v limit ⌝ }
     {
@@ -116,9 +137,13 @@ impl RangedCoordi32 {
         if !ranged1d::whole_admitted(v) {
             return Place::Refused(Refusal::WholeNotAdmitted);
         }
-        let a = self.0;
-        let b = self.1;
-        RangedCoordf64(a as f64, b as f64).map(v as f64, limit)
+        if !limit.admitted() {
+            return Place::Refused(Refusal::LimitNotAdmitted);
+        }
+        match self.spot_of(v, limit) {
+            Whole::Number(z) => Place::At(z as i32),
+            Whole::Beyond => Place::Refused(Refusal::TooFar),
+        }
     }
 
     // The value that pixel x is read as.

@@ -1,6 +1,7 @@
 -- The rules case by case, from the tests that the code makes. Assumes nothing.
 use mathlib.Core.Path.{_≡_, refl, sym, ap, _∙_}
-use mathlib.Core.Bool.{Bool, true, false, _&&_, true≢false}
+use mathlib.Core.Bool.{Bool, true, false, cond, _&&_, _||_, true≢false}
+use mathlib.Core.List.{[], _∷_}
 use Prim.Native.Nat.{ℕ, zero, suc, _*_, _^_, _≤_, _<_, zero-le}
 use native.Mathlib.Nat.{le-refl, zero-mul, mul-pos}
 use native.Mathlib.Omega.{arith}
@@ -12,16 +13,17 @@ use lib.Ieee.Exact.{HasValue}
 use mir.Syntax.{w32}
 use mir.Val.{SFits, ofZ}
 use borrow.Author.Tests.{lt-ltb, le-leb, leb-true, ne-eqb}
+use Rattle.ranged1d.specs.Answer.{Answer, given, _when_, lowest}
 use Rattle.ranged1d.specs.declared.Limit.{Limit}
 use Rattle.ranged1d.specs.Admitted.{pixelAdmitted, limitAdmitted}
-use Rattle.ranged1d.proofs.Whole.{both-ways, far32}
+use Rattle.ranged1d.proofs.Whole.{both-ways, far32, not-lt}
 use Rattle.rounding.specs.Integral.{Way}
 use Rattle.rounding.specs.Within.{within}
 use Rattle.rounding.specs.declared.Whole.{Whole}
 use Rattle.rounding.specs.declared.Whole.the-variants.{Number, Beyond}
 use Rattle.rounding.proofs.Bounds.{Held, within-held}
 use Rattle.real.specs.Place.{farthest, along, plus, orEnd, product, rising, falling, isBeyond, number}
-use Rattle.real.specs.Reading.{same}
+use Rattle.real.specs.Reading.{lower, upper, outside, same}
 use Rattle.real.proofs.Signs.{int-value}
 
 -- ---- `along`
@@ -94,6 +96,10 @@ module _ (w : Way) (b : ℕ) (s : Bool) (m : ℕ) (e : ℤ) (l : ℤ) (fits : SF
       go true h = absurd (true≢false (sym (steps-inf u) ∙ sym (ap (λ (y : Float). isBeyond (steps w b (fin s m e) l y)) (is-inf t u h)) ∙ n))
       go false h = refl
 
+-- ---- what a call with admitted arguments answers
+abbrev pub answered : Whole → Answer ℤ
+answered w = lowest (5 when isBeyond w ∷ []) (given (number w))
+
 -- ---- admitted limits are near 0
 pub near : (x : ℤ) → pixelAdmitted x ≡ true → natAbs x ≤ 1_000_000
 near x h = leb-true (natAbs x) 1_000_000 h
@@ -123,3 +129,28 @@ same-no p q n = go (leZ p q) (leZ q p) refl refl
     go true true h k = absurd (n (both-ways p q h k))
     go true false h k = refl
     go false b h k = refl
+
+-- ---- a pixel between the limits is as near 0 as they are
+between-far : (k : ℕ) (lo x hi : ℤ) → leZ lo x ≡ true → leZ x hi ≡ true → natAbs lo ≤ k → natAbs hi ≤ k → natAbs x ≤ k
+between-far k lo (pos n) (pos m) g h a b = omega (arith, leb-true n m h)
+between-far k lo (pos n) (negsuc m) g h a b = absurd (true≢false (sym h))
+between-far k (negsuc m) (negsuc n) hi g h a b = omega (arith, leb-true n m g)
+between-far k (pos m) (negsuc n) hi g h a b = absurd (true≢false (sym g))
+
+neither : (a b : Bool) → a || b ≡ false → (a ≡ false) × (b ≡ false)
+neither true b h = absurd (true≢false h)
+neither false b h = (refl, h)
+
+chosen-far : (k : ℕ) (c : Bool) (x y : ℤ) → natAbs x ≤ k → natAbs y ≤ k → natAbs (cond c x y) ≤ k
+chosen-far k true x y a b = a
+chosen-far k false x y a b = b
+
+pub inside-admitted : (x : ℤ) (limit : Limit) → limitAdmitted limit ≡ true → outside x (limit .0) (limit .1) ≡ false → pixelAdmitted x ≡ true
+inside-admitted x limit h o =
+    let p = limit .0 in
+    let q = limit .1 in
+    let n = near-limits limit h in
+    let w = neither (ltZ x (lower p q)) (ltZ (upper p q) x) o in
+    le-leb (natAbs x) 1_000_000
+    (between-far 1_000_000 (lower p q) x (upper p q) (not-lt x (lower p q) (w .0)) (not-lt (upper p q) x (w .1))
+    (chosen-far 1_000_000 (ltZ p q) p q (n .0) (n .1)) (chosen-far 1_000_000 (ltZ p q) q p (n .1) (n .0)))

@@ -1,14 +1,17 @@
 -- Whole numbers as floats: their differences are exact, so that the share of a whole axis is one quotient. Assumes nothing.
-use mathlib.Core.Path.{_≡_, refl, sym, ap, _∙_}
-use mathlib.Core.Bool.{Bool, true, false, not, true≢false}
+use mathlib.Core.Path.{_≡_, refl, sym, ap, ap₂, subst, _∙_}
+use mathlib.Core.Bool.{Bool, true, false, not, _||_, Bool·beq, true≢false}
+use mathlib.Core.Logic.{_⊎_, inl, inr}
 use Prim.Native.Nat.{ℕ, zero, suc, _+_, _-_, _*_, _^_, _≤_}
-use native.Mathlib.Nat.{add-zero}
+use native.Mathlib.Nat.{add-zero, mul-one, zero-mul, mul-right-comm, eq-of-mul-eq-mul-right}
 use native.Mathlib.Omega.{arith}
 use lib.IntN.{ℤ, pos, negsuc, natAbs, _+ℤ_, _-ℤ_, -ℤ-+ℤ-cancel, +ℤ-idl, +ℤ-idr}
-use lib.Dec.{T}
+use lib.Dec.{T, eqb, eqb→eq}
 use lib.Ieee.{Float, nan, inf, fin, binary64, up, down, round, neg, sum, add, sub, div, eq, ofInt, isNan}
 use lib.Ieee.Exact.{HasValue}
 use lib.Ieee.Back.{round-whole}
+use lib.Ieee.Fits.{down-pos}
+use mir.Facts.{and-yes, or-yes}
 use borrow.Author.Tests.{le-ltb}
 use Rattle.rounding.proofs.Signs.{round-neg}
 use Rattle.rounding.proofs.Sums.{add-whole, whole-sum}
@@ -48,11 +51,44 @@ unfolding isNan
 valued (fin u m e) s k v = eq-self (fin u m e) tt
 
 -- whole numbers that differ as floats differ
-int-self : (z : ℤ) → natAbs z ≤ 2 ^ 53 → eq (ofInt binary64 z) (ofInt binary64 z) ≡ true
+pub int-self : (z : ℤ) → natAbs z ≤ 2 ^ 53 → eq (ofInt binary64 z) (ofInt binary64 z) ≡ true
 int-self z h = let x = int-value z h in valued (ofInt binary64 z) (x .0) (natAbs z) (x .1)
 
 pub differ : (a b : ℤ) → natAbs a ≤ 2 ^ 53 → eq (ofInt binary64 a) (ofInt binary64 b) ≡ false → a ≡ b → ⊥
 differ a b h n e = true≢false (sym (int-self a h) ∙ ap (λ (z : ℤ). eq (ofInt binary64 a) (ofInt binary64 z)) e ∙ n)
+
+-- floats with whole values that are equal: the values are, and the signs, except at 0
+one-value : (x y : Float) (s t : Bool) (m n : ℕ) → HasValue x s m 1 → HasValue y t n 1 → eq x y ≡ true → (m ≡ n) × (Bool·beq s t ≡ false → m ≡ 0)
+unfolding eq
+one-value (fin u j e) (fin w k d) s t m n hx hy h =
+    let A = j * up e * down d in
+    let B = k * up d * down e in
+    let told = and-yes (eqb A B) (Bool·beq u w || eqb A 0) (subst T (sym h) tt) in
+    let left : A ≡ m * down e * down d = ap (λ (i : ℕ). i * down d) (sym (mul-one (j * up e)) ∙ hx .1) in
+    let right : B ≡ n * down d * down e = ap (λ (i : ℕ). i * down e) (sym (mul-one (k * up d)) ∙ hy .1) in (
+      cancel m n (sym left ∙ eqb→eq A B (told .0) ∙ right ∙ mul-right-comm n (down d) (down e)),
+      λ f. cancel m 0 (sym left ∙ nothing A (told .1) f ∙ sym (ap (λ (i : ℕ). i * down d) (zero-mul (down e)) ∙ zero-mul (down d))),
+    )
+  where
+    cancel : (i l : ℕ) → i * down e * down d ≡ l * down e * down d → i ≡ l
+    cancel i l q = eq-of-mul-eq-mul-right (down e) (down-pos e) i l (eq-of-mul-eq-mul-right (down d) (down-pos d) (i * down e) (l * down e) q)
+
+    nothing : (A : ℕ) → T (Bool·beq u w || eqb A 0) → Bool·beq s t ≡ false → A ≡ 0
+    nothing A r f = go (or-yes (Bool·beq u w) (eqb A 0) r)
+      where
+        go : T (Bool·beq u w) ⊎ T (eqb A 0) → A ≡ 0
+        go (inl q) = absurd (subst T (ap₂ Bool·beq (hx .0) (hy .0) ∙ f) q)
+        go (inr q) = eqb→eq A 0 q
+
+-- whole numbers that are equal as floats are equal
+pub same-int : (a b : ℤ) → natAbs a ≤ 2 ^ 53 → natAbs b ≤ 2 ^ 53 → eq (ofInt binary64 a) (ofInt binary64 b) ≡ true → a ≡ b
+unfolding ofInt
+same-int (pos m) (pos n) h k e = ap pos (one-value _ _ false false m n (round-whole binary64 false m h) (round-whole binary64 false n k) e .0)
+same-int (pos m) (negsuc n) h k e = let v = one-value _ _ false true m (suc n) (round-whole binary64 false m h) (round-whole binary64 true (suc n) k) e in absurd (omega (arith, v .0, v .1 refl))
+same-int (negsuc m) (pos n) h k e = let v = one-value _ _ true false (suc m) n (round-whole binary64 true (suc m) h) (round-whole binary64 false n k) e in absurd (omega (arith, v .1 refl))
+same-int (negsuc m) (negsuc n) h k e =
+    let v : suc m ≡ suc n = one-value _ _ true true (suc m) (suc n) (round-whole binary64 true (suc m) h) (round-whole binary64 true (suc n) k) e .0 in
+    ap negsuc (omega arith)
 
 pub no-difference : (a b : ℤ) → b -ℤ a ≡ pos 0 → a ≡ b
 no-difference a b e = sym (sym (-ℤ-+ℤ-cancel b a) ∙ ap (λ (z : ℤ). z +ℤ a) e ∙ +ℤ-idl a)

@@ -19,9 +19,9 @@ use Rattle.rounding.specs.declared.Whole.{Whole}
 use Rattle.rounding.specs.declared.Whole.the-variants.{Number, Beyond}
 use Rattle.rounding.proofs.Laws.{ceil-within-neg}
 use Rattle.rounding.proofs.Signs as whole
-use Rattle.real.specs.Place.{farthest, milli, share, rising, falling, plus, orEnd, along, spot, answered, realPlace, wholePlace, wholeSpot}
+use Rattle.real.specs.Place.{farthest, milli, share, rising, falling, plus, orEnd, along, spot, realPlace, wholePlace, wholeSpot}
 use Rattle.real.specs.Mirror.{mirrored, negated, Mirrored}
-use Rattle.real.proofs.Cases.{steps}
+use Rattle.real.proofs.Cases.{answered, steps}
 use Rattle.real.proofs.Signs.{zeroOf, Alike, same-through, Turns, turns-alike, eq-neg, add-turns, sub-turns, mul-neg, mul-right, div-alike, eq-alike, int-neg, int-alike}
 use Rattle.real.proofs.Exact.{differ, no-difference, whole-share}
 use Rattle.real.proofs.Readings.{limit-neg, length-neg, readings}

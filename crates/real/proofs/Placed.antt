@@ -18,8 +18,8 @@ use Rattle.rounding.specs.Integral.{Way, floors, ceils}
 use Rattle.rounding.specs.declared.Whole.{Whole}
 use Rattle.rounding.specs.declared.Whole.the-variants.{Number, Beyond}
 use Rattle.rounding.proofs.Value.{Told}
-use Rattle.real.specs.Place.{farthest, milli, share, product, rising, falling, plus, orEnd, along, spot, number, answered, realPlace, wholePlace}
-use Rattle.real.proofs.Cases.{near-limits, some-size, steps, steps-near}
+use Rattle.real.specs.Place.{farthest, milli, share, product, rising, falling, plus, orEnd, along, spot, number, realPlace, wholePlace}
+use Rattle.real.proofs.Cases.{answered, near-limits, some-size, steps, steps-near}
 use Rattle.real.proofs.Exact.{differ, no-difference, whole-share}
 use Rattle.real.proofs.Sizes.{Small, small-neg, small-int, small-add, small-mul, small-quotient, small-told}
 
@@ -65,7 +65,7 @@ plus-near : (p : ℤ) (w : Whole) → natAbs p ≤ 1_000_000 → natAbs (number 
 plus-near p (Number n) hp hn = omega (arith, add-far p n)
 plus-near p Beyond hp hn = zero-le
 
-spot-near : (a b v : Float) (limit : Limit) → limitAdmitted limit ≡ true → natAbs (number (spot a b v limit)) ≤ 1_001_000_000
+pub spot-near : (a b v : Float) (limit : Limit) → limitAdmitted limit ≡ true → natAbs (number (spot a b v limit)) ≤ 1_001_000_000
 spot-near a b v limit h =
     spot-by (λ (w : Whole). natAbs (number w) ≤ 1_001_000_000) limit h (λ z n. omega arith) a b v
     (λ e w d s. plus-near (limit .0) (steps w farthest d _ _) (near-limits limit h .0) (steps-near w farthest _ (lit≤ tt)))

@@ -1,20 +1,21 @@
 -- `real::RangedCoordf64::map` meets its contract. Assumes nothing.
 use borrow.Author.Needs.{needs}
 use borrow.Author.Tests.{not-true, not-false}
-use mathlib.Core.Path.{_≡_, sym, _∙_}
+use mathlib.Core.Path.{_≡_, sym, ap, _∙_, subst}
 use mathlib.Core.Bool.{true}
 use Prim.Native.Nat.{_≤_}
 use native.Mathlib.Omega.{arith}
-use lib.Dec.{lit<}
-use lib.IntN.{ℤ, pos, natAbs, _-ℤ_}
-use lib.Signed.{quotZ}
-use mir.Syntax.{w32}
-use mir.Val.{SFits, toZ, ofZ}
-use mir.Facts.{toZ-ofZ}
+use lib.IntN.{ℤ, natAbs}
+use mir.Syntax.{w32, w64}
+use mir.Val.{SFits}
+use mir.Facts.{toZ-ofZ, sfits-widen}
 use Rattle.ranged1d.specs.Admitted.{limitAdmitted}
-use Rattle.ranged1d.proofs.Whole.{fits32, minus-far, quot-far}
-use Rattle.real.specs.Place.{spot, realPlace}
-use Rattle.real.proofs.Cases.{near-limits}
+use Rattle.ranged1d.proofs.Whole.{fits32}
+use Rattle.rounding.specs.declared.Whole.{Whole}
+use Rattle.rounding.specs.declared.Whole.the-variants.{Number}
+use Rattle.real.specs.Place.{spot, number, realPlace}
+use Rattle.real.proofs.Cases.{answered}
+use Rattle.real.proofs.Placed.{spot-near}
 use Rattle.real.proofs.RangedCoordf64.map.Statement.{statement}
 use Rattle.real.proofs.RangedCoordf64.map.Tie as tie
 
@@ -25,60 +26,63 @@ returns : tie.Need-returns
 unfolding realPlace
 returns c = rw (sym (c .before .admitted .ensures) ∙ not-true _ (c .if1 .taken))
 
--- past the test of the limits: they are admitted, and near 0
-module _ (c : tie.After-struct-told2) where
+allowed : (c : tie.Else1) → limitAdmitted (c .before .before .args .limit) ≡ true
+allowed c = sym (c .before .admitted .ensures) ∙ not-false _ (c .if1 .left)
+
+spot-of-requires : tie.Need-spot-of-requires
+spot-of-requires c κs = allowed c
+
+-- ---- a place
+module _ (c : tie.After-known-told) where
+  abbrev E : tie.Else1
+  E = c .before .before .before .before
+
   abbrev S : tie.Start
-  S = c .before .before .before .before
+  S = E .before .before
 
-  abbrev p : ℤ
-  p = S .args .limit .0
+  abbrev z : ℤ
+  z = c .before .z .given .0 .0
 
-  abbrev q : ℤ
-  q = S .args .limit .1
+  is-place : spot (S .args .self .0) (S .args .self .1) (S .args .v) (S .args .limit) ≡ Number z
+  is-place = sym (c .before .before .before .spot-of .ensures) ∙ c .before .z .given .1
 
-  p-is : toZ w32 (ofZ w32 p) ≡ p
-  p-is = toZ-ofZ (record { sfits = c .struct-told2 .given .0 .1 })
+  near : natAbs z ≤ 1_001_000_000
+  near = subst (λ (w : Whole). natAbs (number w) ≤ 1_001_000_000) is-place (spot-near (S .args .self .0) (S .args .self .1) (S .args .v) (S .args .limit) (allowed E))
 
-  q-is : toZ w32 (ofZ w32 q) ≡ q
-  q-is = toZ-ofZ (record { sfits = c .struct-told2 .given .1 .0 .1 })
+  z32 : SFits w32 z
+  z32 = fits32 z (omega (arith, near))
 
-  allowed : limitAdmitted (S .args .limit) ≡ true
-  allowed = sym (c .before .before .before .admitted .ensures) ∙ not-false _ (c .before .before .if1 .left)
+  z64 : SFits w64 z
+  z64 = sfits-widen tt z32
 
-  p-near : natAbs p ≤ 1_000_000
-  p-near = near-limits (S .args .limit) allowed .0
+enum-known-z : tie.Need-enum-known-z
+enum-known-z c = search needs
 
-  l-near : natAbs (q -ℤ p) ≤ 2_000_000
-  l-near = omega (arith, minus-far q p, p-near, near-limits (S .args .limit) allowed .1)
+cast-t10 : tie.Need-cast-t10
+cast-t10 c = rw (toZ-ofZ (z64 c)) (z32 c)
 
-  l-fits : SFits w32 (q -ℤ p)
-  l-fits = fits32 (q -ℤ p) (omega (arith, l-near))
-
-  half-fits : SFits w32 (quotZ (q -ℤ p) (pos 2))
-  half-fits = fits32 (quotZ (q -ℤ p) (pos 2)) (omega (arith, quot-far (q -ℤ p) 2, l-near))
-
-sub-l : tie.Need-sub-l
-sub-l c = rw (q-is c, p-is c) (l-fits c)
-
-div-t13 : tie.Need-div-t13
-div-t13 c = let at = c .before in (lit< tt, rw (q-is at, p-is at, toZ-ofZ (l-fits at)) (half-fits at))
+enum-told : tie.Need-enum-told
+enum-told c = search needs
 
 returns-2 : tie.Need-returns-2
-unfolding realPlace spot
-returns-2 c =
-    let at = c .before in
-    rw (q-is at, p-is at, toZ-ofZ (l-fits at), toZ-ofZ (half-fits at), allowed at, c .if2 .taken)
-
-place-along-requires : tie.Need-place-along-requires
-place-along-requires c κs = let at = c .before in rw (p-is at) (p-near at)
+unfolding realPlace
+returns-2 c = rw (toZ-ofZ (z64 c), toZ-ofZ (z32 c), allowed (E c)) (ap answered (sym (is-place c)))
 
 returns-3 : tie.Need-returns-3
-unfolding realPlace spot
+unfolding realPlace
 returns-3 c =
-    let at = c .before .before in
-    rw (allowed at, c .before .if2 .left) (rw (p-is at, q-is at, toZ-ofZ (l-fits at)) at (c .place-along .ensures))
+    let s = c .before .before in
+    rw (allowed (s .before)) (ap answered (sym (sym (s .spot-of .ensures) ∙ c .enum-told .given .1)))
 
 pub map-spec : {M : Type 1} → statement M
 map-spec =
     tie.close
-    (tie.spec admitted-requires returns sub-l div-t13 returns-2 place-along-requires returns-3)
+    (tie.spec
+    admitted-requires
+    returns
+    spot-of-requires
+    enum-known-z
+    cast-t10
+    enum-told
+    returns-2
+    returns-3)

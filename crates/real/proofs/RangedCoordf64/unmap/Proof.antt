@@ -2,7 +2,7 @@
 use borrow.Author.Needs.{needs}
 use borrow.Author.Tests.{not-true, not-false}
 use mathlib.Core.Path.{_≡_, sym, ap, _∙_}
-use mathlib.Core.Bool.{true}
+use mathlib.Core.Bool.{true, false}
 use native.Mathlib.Omega.{arith}
 use lib.IntN.{ℤ, _-ℤ_}
 use mir.Syntax.{w32}
@@ -11,7 +11,7 @@ use mir.Facts.{toZ-ofZ}
 use Rattle.ranged1d.specs.Admitted.{pixelAdmitted, limitAdmitted}
 use Rattle.ranged1d.proofs.Whole.{fits32, minus-far}
 use Rattle.real.specs.Reading.{outside, realReading}
-use Rattle.real.proofs.Cases.{near, near-limits, same-yes, same-no}
+use Rattle.real.proofs.Cases.{near, near-limits, same-yes, same-no, inside-admitted}
 use Rattle.real.proofs.RangedCoordf64.unmap.Statement.{statement}
 use Rattle.real.proofs.RangedCoordf64.unmap.Tie as tie
 
@@ -22,26 +22,10 @@ returns : tie.Need-returns
 unfolding realReading
 returns c = rw (sym (c .before .admitted .ensures) ∙ not-true _ (c .if1 .taken))
 
-pixel-admitted-requires : tie.Need-pixel-admitted-requires
-pixel-admitted-requires c κs = search needs
-
-limit-allowed : (c : tie.Else1) → limitAdmitted (c .before .before .args .limit) ≡ true
-limit-allowed c = sym (c .before .admitted .ensures) ∙ not-false _ (c .if1 .left)
-
-x-told : (c : tie.After-pixel-admitted) → c .pixel-admitted .result ≡ pixelAdmitted (c .before .before .before .args .x)
-x-told c = rw (toZ-ofZ (c .before .before .before .fits .x)) at (c .pixel-admitted .ensures)
-
-returns-2 : tie.Need-returns-2
-unfolding realReading
-returns-2 c = rw (limit-allowed (c .before .before), sym (x-told (c .before)) ∙ not-true _ (c .if2 .taken))
-
--- past the tests of what is admitted: limits and pixel are near 0
+-- past the test of the limits
 module _ (c : tie.After-struct-told2) where
-  abbrev E : tie.Else1
-  E = c .before .before .before .before
-
   abbrev S : tie.Start
-  S = E .before .before
+  S = c .before .before .before .before
 
   abbrev x : ℤ
   x = S .args .x
@@ -61,16 +45,11 @@ module _ (c : tie.After-struct-told2) where
   q-is : toZ w32 (ofZ w32 q) ≡ q
   q-is = toZ-ofZ (record { sfits = c .struct-told2 .given .1 .0 .1 })
 
-  x-allowed : pixelAdmitted x ≡ true
-  x-allowed = sym (x-told (c .before .before .before)) ∙ not-false _ (c .before .before .if2 .left)
-
-  from-p-fits : SFits w32 (x -ℤ p)
-  from-p-fits = fits32 (x -ℤ p) (omega (arith, minus-far x p, near x x-allowed, near-limits (S .args .limit) (limit-allowed E) .0))
+  allowed : limitAdmitted (S .args .limit) ≡ true
+  allowed = sym (c .before .before .before .admitted .ensures) ∙ not-false _ (c .before .before .if1 .left)
 
   l-fits : SFits w32 (q -ℤ p)
-  l-fits =
-      let w = near-limits (S .args .limit) (limit-allowed E) in
-      fits32 (q -ℤ p) (omega (arith, minus-far q p, w .0, w .1))
+  l-fits = let w = near-limits (S .args .limit) allowed in fits32 (q -ℤ p) (omega (arith, minus-far q p, w .0, w .1))
 
 outside-limit-requires : tie.Need-outside-limit-requires
 outside-limit-requires c κs = search needs
@@ -78,28 +57,54 @@ outside-limit-requires c κs = search needs
 outside-told : (c : tie.After-outside-limit) → c .outside-limit .result ≡ outside (x (c .before)) (p (c .before)) (q (c .before))
 outside-told c = let at = c .before in rw (x-is at, p-is at, q-is at) at (c .outside-limit .ensures)
 
+-- ---- off the film
+pixel-admitted-requires : tie.Need-pixel-admitted-requires
+pixel-admitted-requires c κs = search needs
+
+x-told : (c : tie.After-pixel-admitted) → c .pixel-admitted .result ≡ pixelAdmitted (x (c .before .before .before))
+x-told c = rw (x-is (c .before .before .before)) at (c .pixel-admitted .ensures)
+
+returns-2 : tie.Need-returns-2
+unfolding realReading
+returns-2 c =
+    let out = c .before .before in
+    rw (allowed (out .before .before), sym (x-told (c .before)) ∙ c .if3 .taken, sym (outside-told (out .before)) ∙ out .if2 .taken)
+
 returns-3 : tie.Need-returns-3
 unfolding realReading
-returns-3 c =
-    let at = c .before .before in
-    rw (limit-allowed (E at), x-allowed at, sym (outside-told (c .before)) ∙ c .if3 .taken)
+returns-3 c = rw (allowed (c .before .before .before .before), sym (x-told (c .before)) ∙ c .if3 .left)
+
+-- ---- between the limits, where every pixel is admitted
+module _ (c : tie.Else2) where
+  abbrev At : tie.After-struct-told2
+  At = c .before .before
+
+  inside : outside (x At) (p At) (q At) ≡ false
+  inside = sym (outside-told (c .before)) ∙ c .if2 .left
+
+  x-allowed : pixelAdmitted (x At) ≡ true
+  x-allowed = inside-admitted (x At) (S At .args .limit) (allowed At) inside
+
+  from-p-fits : SFits w32 (x At -ℤ p At)
+  from-p-fits =
+      fits32 (x At -ℤ p At) (omega (arith, minus-far (x At) (p At), near (x At) x-allowed, near-limits (S At .args .limit) (allowed At) .0))
 
 returns-4 : tie.Need-returns-4
 unfolding realReading
 returns-4 c =
-    let off = c .before .before in
-    let at = off .before in
-    let e : p at ≡ q at = sym (p-is at) ∙ ap (toZ w32) (c .if4 .taken) ∙ q-is at in
-    rw (limit-allowed (E at), x-allowed at, sym (outside-told off) ∙ c .before .if3 .left, same-yes (p at) (q at) e)
+    let e = c .before in
+    let at = At e in
+    let one : p at ≡ q at = sym (p-is at) ∙ ap (toZ w32) (c .if4 .taken) ∙ q-is at in
+    rw (allowed at, x-allowed e, inside e, same-yes (p at) (q at) one)
 
 sub-t : tie.Need-sub-t
-sub-t c = let at = c .before .before .before in rw (x-is at, p-is at) (from-p-fits at)
+sub-t c = let at = At (c .before) in rw (x-is at, p-is at) (from-p-fits (c .before))
 
 int-to-float-t : tie.Need-int-to-float-t
 int-to-float-t c = search needs
 
 sub-t-2 : tie.Need-sub-t-2
-sub-t-2 c = let at = c .before .before .before .before in rw (q-is at, p-is at) (l-fits at)
+sub-t-2 c = let at = At (c .before .before) in rw (q-is at, p-is at) (l-fits at)
 
 int-to-float-t-2 : tie.Need-int-to-float-t-2
 int-to-float-t-2 c = search needs
@@ -107,18 +112,19 @@ int-to-float-t-2 c = search needs
 returns-5 : tie.Need-returns-5
 unfolding realReading
 returns-5 c =
-    let off = c .before .before .before .before in
-    let at = off .before in
+    let two = c .before .before in
+    let e = two .before in
+    let at = At e in
     rw (
       x-is at,
       p-is at,
       q-is at,
-      toZ-ofZ (from-p-fits at),
+      toZ-ofZ (from-p-fits e),
       toZ-ofZ (l-fits at),
-      limit-allowed (E at),
-      x-allowed at,
-      sym (outside-told off) ∙ c .before .before .before .if3 .left,
-      same-no (p at) (q at) (λ e. c .before .before .if4 .left (ap (ofZ w32) e)),
+      allowed at,
+      x-allowed e,
+      inside e,
+      same-no (p at) (q at) (λ one. two .if4 .left (ap (ofZ w32) one)),
     )
 
 pub unmap-spec : {M : Type 1} → statement M
@@ -127,9 +133,9 @@ unmap-spec =
     (tie.spec
     admitted-requires
     returns
+    outside-limit-requires
     pixel-admitted-requires
     returns-2
-    outside-limit-requires
     returns-3
     returns-4
     sub-t
