@@ -1,7 +1,10 @@
 // The ruler program's lines.
 ghost use mathlib.Core.Path.{_≡_};
-ghost use Prim.Native.Nat.{_≤_};
+ghost use mathlib.Core.List.{[], _∷_, _++_};
+ghost use Prim.Native.Nat.{_+_, _≤_};
 ghost use lib.ListN.{length, drop};
+ghost use Rattle.decimal.specs.Print.{decimal};
+ghost use Rattle.line.specs.Mark.{putMark};
 ghost use Rattle.line.specs.Line.{word, wholeField, wholeFields, parseNumbers, parseLine, tellLine};
 ghost use Rattle.line.specs.Steps.{tellPart, Inside, tellFour};
 
@@ -118,4 +121,38 @@ pub fn read_line(s: &[u8]) -> Line
         return Line::Bad;
     }
     read_numbers(&s[n + 1..])
+}
+
+// A text and one byte behind it, at the start of out; how many bytes that is.
+fn put(text: &[u8], last: u8, out: &mut [u8]) -> usize
+    requires { ⌜ 1 + length (now text) ≤ length (now out) ⌝ }
+    ensures { λ r. ⌜ (r ≡ 1 + length (now (text .entry))) × (now (out .exit) ≡ (now (text .entry) ++ (last ∷ [])) ++ drop (1 + length (now (text .entry))) (now (out .entry))) ⌝ }
+{
+    let n = bytes::copy(text, out);
+    out[n] = last;
+    n + 1
+}
+
+// v in base ten, and one byte behind it.
+fn put_number(v: i32, last: u8, out: &mut [u8]) -> usize
+    requires { ⌜ 12 ≤ length (now out) ⌝ }
+    ensures { λ r. ⌜ (r ≡ 1 + length (decimal v)) × (now (out .exit) ≡ (decimal v ++ (last ∷ [])) ++ drop (1 + length (decimal v)) (now (out .entry))) ⌝ }
+{
+    let t = decimal::label(v);
+    let text = t.bytes;
+    let blanks = t.blanks;
+    put(&text[blanks..], last, out)
+}
+
+// The line of a mark at the start of out, and how many bytes it has. Two numbers, a blank and a newline are 24 bytes at most; where
+// there is no room for so many, nothing is written.
+pub fn put_mark(v: i32, x: i32, out: &mut [u8]) -> usize
+    ensures { λ r. ⌜ (r, now (out .exit)) ≡ putMark v x (now (out .entry)) ⌝ }
+{
+    if out.len() < 24 {
+        return 0;
+    }
+    let n = put_number(v, 32, out);
+    let k = put_number(x, 10, &mut out[n..]);
+    n + k
 }

@@ -1,3 +1,4 @@
 pub mod Whole
 pub mod Lowest
 pub mod Table
+pub mod Pieces

@@ -1,0 +1,57 @@
+// Lines are gathered and written in large parts. Each call takes how much of out is used, and returns it.
+ghost use Prim.Native.Nat.{_≤_};
+ghost use lib.ListN.{length};
+use libc::STDOUT_FILENO;
+
+// Writes what is used of out.
+pub(crate) fn send(out: &[u8], used: usize) {
+    if used <= out.len() {
+        io::write_all(STDOUT_FILENO, &out[0..used]);
+    }
+}
+
+// Where the next line goes: no line has more than 24 bytes. If there is no room, what is used is written first.
+fn place(out: &[u8], used: usize) -> usize
+    ensures { λ r. ⌜ r ≤ length (now (out .entry)) ⌝ }
+{
+    if used <= out.len() {
+        if 24 <= out.len() - used {
+            return used;
+        }
+    }
+    send(out, used);
+    0
+}
+
+// The line of a mark.
+pub(crate) fn mark(v: i32, x: i32, out: &mut [u8], used: usize) -> usize {
+    let at = place(out, used);
+    let n = line::put_mark(v, x, &mut out[at..]);
+    if out.len() - at < n {
+        return at;
+    }
+    at + n
+}
+
+// A text.
+pub(crate) fn text(s: &[u8], out: &mut [u8], used: usize) -> usize {
+    let at = place(out, used);
+    if out.len() - at < s.len() {
+        return at;
+    }
+    let n = bytes::copy(s, &mut out[at..]);
+    at + n
+}
+
+// A word and a number.
+pub(crate) fn entry(word: &[u8], n: u32, out: &mut [u8], used: usize) -> usize {
+    let at = text(word, out, used);
+    let t = decimal::natural_label(n);
+    let digits = t.bytes;
+    let blanks = t.blanks;
+    if 11 < blanks {
+        return at;
+    }
+    let end = text(&digits[blanks..], out, at);
+    text(b"\n", out, end)
+}

@@ -1,0 +1,136 @@
+-- What a plan says of the ruler: its records are those of the plan's marks, and every one of them can be made. Assumes nothing.
+use mathlib.Core.Path.{_≡_, refl, sym, ap, ap₂, _∙_, subst}
+use mathlib.Core.Bool.{Bool, true, false, not, _&&_}
+use mathlib.Core.List.{List, [], _∷_, _++_, map}
+use Prim.Native.Nat.{ℕ, _+_, _*_, _≤_, _<_}
+use native.Mathlib.Omega.{arith}
+use lib.Dec.{T, ltb}
+use lib.IntN.{ℤ}
+use lib.ListN.{length, take, drop, length-append, take-append-drop}
+use lib.Seq.{take-at, drop-at}
+use borrow.Author.Tests.{lt-ltb, le-ltb}
+use Rattle.ranged1d.specs.Answer.{Answer, given, none, refused, _when_, lowest, written}
+use Rattle.ranged1d.specs.Admitted.{wholeAdmitted, limitAdmitted}
+use Rattle.ranged1d.specs.declared.Limit.{Limit}
+use Rattle.numeric.specs.declared.KeyPoints.{KeyPoints}
+use Rattle.numeric.specs.Marks.{noStep, marks}
+use Rattle.numeric.specs.Calls.{wholePlan, planOf, element}
+use Rattle.numeric.proofs.Plans.{Good, planned-good}
+use Rattle.ruler.specs.Bytes.{axis, laid, joined}
+use Rattle.ruler.specs.Rule.{markAt, rulerBytes, rulerWrite, hasRuler, rulerPlan}
+use Rattle.ruler.specs.Steps.{Reachable}
+use Rattle.ruler.proofs.Records.{axis-long, run, run-long}
+
+-- what is known of a ruler's plan that was given
+pub record Drawn (a b : ℤ) (limit : Limit) (m : ℕ) (p : KeyPoints) : Type 0 where
+  pub good : Good a b m p
+  pub has : hasRuler a b limit m ≡ true
+  pub reachable : (k : ℕ) → k < p .count → Reachable p k
+
+module _ (a b : ℤ) (limit : Limit) (m : ℕ) where
+  DrawnBy : Answer KeyPoints → Type 0
+  DrawnBy (given p) = Drawn a b limit m p
+  DrawnBy none = hasRuler a b limit m ≡ false
+  DrawnBy (refused n) = hasRuler a b limit m ≡ false
+
+  drawn : wholePlan a b m ≡ given (planOf a b m) → hasRuler a b limit m ≡ true → Drawn a b limit m (planOf a b m)
+  drawn e has =
+      let g = planned-good a b m e in
+      record {
+        good = g;
+        has = has;
+        reachable = λ k h. record { few = omega (arith, g .few); product = omega (arith, g .near k h .0); sum = omega (arith, g .near k h .1) };
+      }
+
+  all-drawn : DrawnBy (rulerPlan a b limit m)
+  unfolding DrawnBy rulerPlan wholePlan hasRuler
+  all-drawn = go (wholeAdmitted a && wholeAdmitted b) refl (limitAdmitted limit) refl (noStep a b m) refl
+    where
+      go : (t : Bool) → (wholeAdmitted a && wholeAdmitted b) ≡ t → (u : Bool) → limitAdmitted limit ≡ u → (v : Bool) → noStep a b m ≡ v
+          → DrawnBy (lowest (1 when not t ∷ 2 when not u ∷ 3 when v ∷ []) (given (planOf a b m)))
+      go true e true f false g = drawn (rw (e, g)) (rw (e, f, g))
+      go true e true f true g = rw (e, f, g)
+      go true e false f v g = rw (e, f)
+      go false e u f v g = rw e
+
+  -- the writer's rule, by the plan
+  byPlan : List ℕ → Answer KeyPoints → Answer (ℕ × ℕ) × List ℕ
+  byPlan old (given p) = written (lowest (13 when ltb (length old) (length (rulerBytes a b limit m)) ∷ []) (given (length (rulerBytes a b limit m), p .count))) (rulerBytes a b limit m) old
+  byPlan old none = (none, old)
+  byPlan old (refused n) = (refused n, old)
+
+  by-plan : (old : List ℕ) → rulerWrite a b limit m old ≡ byPlan old (rulerPlan a b limit m)
+  unfolding rulerWrite rulerPlan byPlan
+  by-plan old = go (not (wholeAdmitted a && wholeAdmitted b)) (not (limitAdmitted limit)) (noStep a b m)
+    where
+      go : (t u v : Bool) → written (lowest (1 when t ∷ 2 when u ∷ 3 when v ∷ 13 when ltb (length old) (length (rulerBytes a b limit m)) ∷ []) (given (length (rulerBytes a b limit m), length (marks a b m)))) (rulerBytes a b limit m) old
+          ≡ byPlan old (lowest (1 when t ∷ 2 when u ∷ 3 when v ∷ []) (given (planOf a b m)))
+      go true u v = refl
+      go false true v = refl
+      go false false true = refl
+      go false false false = refl
+
+  pub write-refused : (old : List ℕ) {n : ℕ} → rulerPlan a b limit m ≡ refused n → rulerWrite a b limit m old ≡ (refused n, old)
+  unfolding byPlan
+  write-refused old e = by-plan old ∙ ap (byPlan old) e
+
+  pub write-none : (old : List ℕ) → rulerPlan a b limit m ≡ none → rulerWrite a b limit m old ≡ (none, old)
+  unfolding byPlan
+  write-none old e = by-plan old ∙ ap (byPlan old) e
+
+  pub none-drawn : {n : ℕ} → rulerPlan a b limit m ≡ refused n → hasRuler a b limit m ≡ false
+  unfolding DrawnBy
+  none-drawn e = subst DrawnBy e all-drawn
+
+  -- an axis that has a ruler has a plan
+  pub has-plan : hasRuler a b limit m ≡ true → rulerPlan a b limit m ≡ given (planOf a b m)
+  unfolding hasRuler rulerPlan
+  has-plan = go (wholeAdmitted a && wholeAdmitted b) (limitAdmitted limit) (noStep a b m)
+    where
+      go : (t u v : Bool) → (t && (u && not v)) ≡ true → lowest (1 when not t ∷ 2 when not u ∷ 3 when v ∷ []) (given (planOf a b m)) ≡ given (planOf a b m)
+      go true true false h = refl
+      go true true true h = absurd (subst T (sym h) tt)
+      go true false v h = absurd (subst T (sym h) tt)
+      go false u v h = absurd (subst T (sym h) tt)
+
+  module _ {p : KeyPoints} (e : rulerPlan a b limit m ≡ given p) where
+    pub is-drawn : Drawn a b limit m p
+    unfolding DrawnBy
+    is-drawn = subst DrawnBy e all-drawn
+
+    abbrev pub marksRun : List ℕ
+    marksRun = run a b limit (element (p .first) (p .step)) (p .count)
+
+    abbrev pub head : List ℕ
+    head = laid (axis a b limit m (p .step))
+
+    pub ruler-is : rulerBytes a b limit m ≡ head ++ marksRun
+    unfolding rulerBytes
+    ruler-is =
+        ap₂ (λ (s : ℤ) (l : List ℤ). laid (axis a b limit m s) ++ joined (map (markAt a b limit) l)) (ap (λ (q : KeyPoints). q .step) (is-drawn .good .plan)) (is-drawn .good .marks-are)
+
+    pub ruler-long : length (rulerBytes a b limit m) ≡ 25 + 20 * p .count
+    ruler-long =
+        rw (ruler-is, length-append head marksRun)
+        (omega (arith, axis-long a b limit m (p .step), run-long a b limit (element (p .first) (p .step)) (p .count)))
+
+    pub marks-long : length (marks a b m) ≡ p .count
+    marks-long = ap (λ (q : KeyPoints). q .count) (is-drawn .good .plan)
+
+    pub write-short : (old : List ℕ) → length old < 25 + 20 * p .count → rulerWrite a b limit m old ≡ (refused 13, old)
+    unfolding byPlan
+    write-short old h = by-plan old ∙ ap (byPlan old) e ∙ rw (ruler-long, lt-ltb (length old) (25 + 20 * p .count) h)
+
+    pub write-fits : (old : List ℕ) → 25 + 20 * p .count ≤ length old → rulerWrite a b limit m old ≡ (given (25 + 20 * p .count, p .count), rulerBytes a b limit m ++ drop (25 + 20 * p .count) old)
+    unfolding byPlan
+    write-fits old h = by-plan old ∙ ap (byPlan old) e ∙ rw (ruler-long, le-ltb (length old) (25 + 20 * p .count) h, ruler-long)
+
+    -- the first 25 bytes and the others
+    pub ruler-head : take 25 (rulerBytes a b limit m) ≡ head
+    ruler-head = rw ruler-is (take-at head marksRun 25 (axis-long a b limit m (p .step)))
+
+    pub ruler-rest : drop 25 (rulerBytes a b limit m) ≡ marksRun
+    ruler-rest = rw ruler-is (drop-at head marksRun 25 (axis-long a b limit m (p .step)))
+
+    pub ruler-whole : (l : List ℕ) → take 25 l ≡ head → drop 25 l ≡ marksRun → l ≡ rulerBytes a b limit m
+    ruler-whole l x y = sym (take-append-drop 25 l) ∙ ap₂ (λ (t u : List ℕ). t ++ u) x y ∙ sym ruler-is

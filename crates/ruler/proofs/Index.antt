@@ -1,0 +1,73 @@
+-- The place of a number in a list. Assumes nothing.
+use mathlib.Core.Path.{_≡_, refl, sym, ap, _∙_}
+use mathlib.Core.Bool.{Bool, true, false, cond}
+use mathlib.Core.List.{List, [], _∷_, _++_}
+use Prim.Native.Nat.{ℕ, zero, suc, _+_, _≤_, _<_}
+use native.Mathlib.Numerals.{add-one}
+use native.Mathlib.Decide.{decLt}
+use native.Mathlib.Omega.{arith}
+use lib.IntN.{ℤ}
+use lib.ListN.{length}
+use Rattle.numeric.specs.Marks.{listOf}
+use Rattle.numeric.proofs.Lists.{length-of}
+use Rattle.ruler.specs.Rule.{eqZ, indexOf}
+use Rattle.ruler.proofs.Numbers.{eqZ-same, eqZ-other, eqZ-true}
+
+-- where it is not in the first list, it is looked for in the second
+index-right : (v : ℤ) (xs ys : List ℤ) → indexOf v xs ≡ length xs → indexOf v (xs ++ ys) ≡ length xs + indexOf v ys
+index-right v [] ys e = omega arith
+index-right v (x ∷ xs) ys e = go (eqZ x v) refl e (index-right v xs ys)
+  where
+    go : (t : Bool) → eqZ x v ≡ t → cond t 0 (suc (indexOf v xs)) ≡ suc (length xs) → (indexOf v xs ≡ length xs → indexOf v (xs ++ ys) ≡ length xs + indexOf v ys) → cond t 0 (suc (indexOf v (xs ++ ys))) ≡ suc (length xs) + indexOf v ys
+    go true q e rec = absurd (omega arith)
+    go false q e rec = omega (arith, rec (omega arith))
+
+-- and where it is in the first, its place is its place there
+index-left : (v : ℤ) (xs ys : List ℤ) → indexOf v xs < length xs → indexOf v (xs ++ ys) ≡ indexOf v xs
+index-left v [] ys h = absurd (omega arith)
+index-left v (x ∷ xs) ys h = go (eqZ x v) h (index-left v xs ys)
+  where
+    go : (t : Bool) → cond t 0 (suc (indexOf v xs)) < suc (length xs) → (indexOf v xs < length xs → indexOf v (xs ++ ys) ≡ indexOf v xs) → cond t 0 (suc (indexOf v (xs ++ ys))) ≡ cond t 0 (suc (indexOf v xs))
+    go true h rec = refl
+    go false h rec = ap suc (rec (omega arith))
+
+module _ (v : ℤ) (f : ℕ → ℤ) (k : ℕ) (e : indexOf v (listOf f k) ≡ k) where
+  seam : indexOf v (listOf f (suc k)) ≡ k + cond (eqZ (f k) v) 0 1
+  seam = index-right v (listOf f k) (f k ∷ []) (e ∙ sym (length-of f k)) ∙ ap (λ (n : ℕ). n + cond (eqZ (f k) v) 0 1) (length-of f k)
+
+  pub index-more : (f k ≡ v → ⊥) → indexOf v (listOf f (k + 1)) ≡ k + 1
+  index-more g = rw (add-one k) (seam ∙ rw (eqZ-other (f k) v g) (add-one k))
+
+  here : f k ≡ v → indexOf v (listOf f (suc k)) ≡ k
+  here h = seam ∙ rw (h, eqZ-same v) (omega arith)
+
+  pub index-hit : (n : ℕ) → k < n → f k ≡ v → indexOf v (listOf f n) ≡ k
+  index-hit zero l h = absurd (omega arith)
+  index-hit (suc n) l h = go (decLt k n) (index-hit n)
+    where
+      go : Dec (k < n) → (k < n → f k ≡ v → indexOf v (listOf f n) ≡ k) → indexOf v (listOf f (suc n)) ≡ k
+      go (yes u) rec = index-left v (listOf f n) (f n ∷ []) (omega (arith, rec u h, length-of f n)) ∙ rec u h
+      go (no u) rec = let d : n ≡ k = omega arith in rw d (here h)
+
+pub index-most : (v : ℤ) (xs : List ℤ) → indexOf v xs ≤ length xs
+index-most v [] = omega arith
+index-most v (x ∷ xs) = go (eqZ x v) (index-most v xs)
+  where
+    go : (t : Bool) → indexOf v xs ≤ length xs → cond t 0 (suc (indexOf v xs)) ≤ suc (length xs)
+    go true h = omega arith
+    go false h = omega arith
+
+-- what stands at that place
+pub index-found : (v : ℤ) (f : ℕ → ℤ) (n : ℕ) → indexOf v (listOf f n) < n → f (indexOf v (listOf f n)) ≡ v
+index-found v f zero h = absurd (omega arith)
+index-found v f (suc n) h = go (decLt (indexOf v (listOf f n)) n) (index-found v f n)
+  where
+    last : indexOf v (listOf f n) ≡ n → (t : Bool) → eqZ (f n) v ≡ t → indexOf v (listOf f (suc n)) ≡ n + cond t 0 1 → f (indexOf v (listOf f (suc n))) ≡ v
+    last e true q w = let d : indexOf v (listOf f (suc n)) ≡ n = omega arith in ap f d ∙ eqZ-true (f n) v q
+    last e false q w = absurd (omega arith)
+
+    go : Dec (indexOf v (listOf f n) < n) → (indexOf v (listOf f n) < n → f (indexOf v (listOf f n)) ≡ v) → f (indexOf v (listOf f (suc n))) ≡ v
+    go (yes u) rec = ap f (index-left v (listOf f n) (f n ∷ []) (omega (arith, length-of f n))) ∙ rec u
+    go (no u) rec =
+        let e : indexOf v (listOf f n) ≡ n = omega (arith, index-most v (listOf f n), length-of f n) in
+        last e (eqZ (f n) v) refl (seam v f n e)

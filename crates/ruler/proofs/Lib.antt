@@ -1,0 +1,11 @@
+pub mod Numbers
+pub mod Lists
+pub mod Records
+pub mod Drawn
+pub mod Index
+pub mod Reader
+pub mod Lookups
+pub mod Places
+pub mod Theorems
+pub mod Mirror
+pub mod Worked

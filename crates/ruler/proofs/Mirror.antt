@@ -1,0 +1,189 @@
+-- The bytes of a ruler and of its mirror, from the mirror of the marks and that of places. Assumes nothing.
+use mathlib.Core.Path.{_≡_, refl, sym, ap, ap₂, _∙_, subst}
+use mathlib.Core.Bool.{Bool, true, false, cond, not, _&&_}
+use mathlib.Core.List.{List, [], _∷_, _++_, map, reverse, reverse-cons, map-append}
+use mathlib.Core.Logic.{_⊎_, inl, inr}
+use Prim.Native.Nat.{ℕ, _+_, _*_, _%_}
+use native.Mathlib.Omega.{arith}
+use lib.Dec.{T, leb, eqb}
+use lib.IntN.{ℤ, pos, negℤ, natAbs, negℤ-negℤ}
+use lib.ListN.{length, length-append, length-map, length-reverse}
+use lib.Signed.{_<ℤ_}
+use borrow.Author.Tests.{eqb-true, eqb-false}
+use Rattle.ranged1d.specs.Answer.{Answer, given, none, refused, _when_, lowest}
+use Rattle.ranged1d.specs.Admitted.{wholeAdmitted, limitAdmitted}
+use Rattle.ranged1d.specs.declared.Limit.{Limit}
+use Rattle.ranged1d.proofs.Whole.{neg-far}
+use Rattle.numeric.specs.Marks.{low, high, noStep, stepOf, marks}
+use Rattle.numeric.specs.Mirror.{mirrored, nearestZero, Divides}
+use Rattle.numeric.specs.Mirror as of-marks
+use Rattle.numeric.proofs.Mirror as marks
+use Rattle.real.specs.Place.{wholePlace}
+use Rattle.real.specs.Mirror as film
+use Rattle.real.proofs.Mirror as places
+use Rattle.ruler.specs.Bytes.{Record, axis, mark, laid, joined}
+use Rattle.ruler.specs.Place.{placeIn, placeOf}
+use Rattle.ruler.specs.Rule.{markAt, recordsOf, rulerBytes, rulerWrite, hasRuler}
+use Rattle.ruler.specs.Mirror.{negated, turned, Verdict, verdict, accepted, stopped, tooShort, OneMore, Mirrored}
+use Rattle.ruler.proofs.Records.{mark-long, axis-long}
+use Rattle.ruler.proofs.Drawn.{has-plan, ruler-long}
+use Rattle.ruler.proofs.Reader.{and-true}
+
+-- ---- the place of the mirror is the negated place
+place-turned : (r : Answer ℤ) → placeIn (film.negated r) ≡ negℤ (placeIn r)
+place-turned (given x) = refl
+place-turned none = refl
+place-turned (refused n) = refl
+
+place-odd : (a b : ℤ) (limit : Limit) (v : ℤ) → placeOf (negℤ a) (negℤ b) (film.mirrored limit) (negℤ v) ≡ negℤ (placeOf a b limit v)
+unfolding placeOf
+place-odd a b limit v = ap placeIn (places.mirror limit .whole-places a b v) ∙ place-turned (wholePlace a b v limit)
+
+-- ---- the records of mirrored marks are the turned records
+module _ (a b : ℤ) (limit : Limit) where
+  abbrev here : ℤ → Record
+  here = markAt a b limit
+
+  abbrev there : ℤ → Record
+  there = markAt (negℤ a) (negℤ b) (film.mirrored limit)
+
+  marks-turned : (l : List ℤ) → map there (mirrored l) ≡ reverse (map negated (map here l))
+  marks-turned [] = refl
+  marks-turned (v ∷ l) =
+      ap (map there) (reverse-cons (negℤ v) (map negℤ l))
+      ∙ map-append there (mirrored l) (negℤ v ∷ [])
+      ∙ ap₂ (λ (x : List Record) (y : Record). x ++ (y ∷ [])) (marks-turned l) (ap (mark (negℤ v)) (place-odd a b limit v))
+      ∙ sym (reverse-cons (negated (here v)) (map negated (map here l)))
+
+  -- from what is known of the marks to the records: all match, or all and one more
+  module _ (m : ℕ) where
+    step-same : pos (stepOf (negℤ a) (negℤ b) m) ≡ pos (stepOf a b m)
+    step-same = ap pos (marks.mirror a b m .same-step)
+
+    abbrev with-marks : ℤ → List Record → List Record
+    with-marks s l = axis (negℤ a) (negℤ b) (film.mirrored limit) m s ∷ l
+
+    records-turned : marks (negℤ a) (negℤ b) m ≡ mirrored (marks a b m) → recordsOf (negℤ a) (negℤ b) (film.mirrored limit) m ≡ turned (recordsOf a b limit m)
+    records-turned e = ap₂ with-marks step-same (ap (map there) e ∙ marks-turned (marks a b m))
+
+    records-more : (z : ℤ) → marks (negℤ a) (negℤ b) m ≡ mirrored (marks a b m) ++ (z ∷ []) → recordsOf (negℤ a) (negℤ b) (film.mirrored limit) m ≡ turned (recordsOf a b limit m) ++ (there z ∷ [])
+    records-more z e =
+        ap₂ with-marks step-same
+        (ap (map there) e
+        ∙ map-append there (mirrored (marks a b m)) (z ∷ [])
+        ∙ ap (λ (l : List Record). l ++ (there z ∷ [])) (marks-turned (marks a b m)))
+
+-- the same the other way round: the mirror of the mirror is the axis itself
+records-back : (a b : ℤ) (limit : Limit) (m : ℕ) (z : ℤ) → marks a b m ≡ mirrored (marks (negℤ a) (negℤ b) m) ++ (z ∷ []) → recordsOf a b limit m ≡ turned (recordsOf (negℤ a) (negℤ b) (film.mirrored limit) m) ++ (markAt a b limit z ∷ [])
+records-back a b limit m z e =
+    let back : marks (negℤ (negℤ a)) (negℤ (negℤ b)) m ≡ mirrored (marks (negℤ a) (negℤ b) m) ++ (z ∷ []) = rw (negℤ-negℤ a, negℤ-negℤ b) e in
+    rw (negℤ-negℤ a, negℤ-negℤ b, negℤ-negℤ (limit .0), negℤ-negℤ (limit .1))
+    (rw (negℤ-negℤ a, negℤ-negℤ b, negℤ-negℤ (limit .0), negℤ-negℤ (limit .1)) at (records-more (negℤ a) (negℤ b) (film.mirrored limit) m z back))
+
+-- how long the records of a list of marks are; one mark more is one more
+marks-long : (a b : ℤ) (limit : Limit) (l : List ℤ) → length (joined (map (markAt a b limit) l)) ≡ 20 * length l
+marks-long a b limit [] = refl
+marks-long a b limit (v ∷ l) =
+    length-append (laid (markAt a b limit v)) (joined (map (markAt a b limit) l))
+    ∙ omega (arith, mark-long v (placeOf a b limit v), marks-long a b limit l)
+
+length-mirrored : (l : List ℤ) → length (mirrored l) ≡ length l
+length-mirrored l = length-reverse (map negℤ l) ∙ length-map l negℤ
+
+one-longer : {s : ℕ} {z : ℤ} {more fewer : List ℤ} → of-marks.OneMore s z more fewer → length more ≡ length fewer + 1
+one-longer {s} {z} {more} {fewer} o = ap length (o .others-match) ∙ length-append (mirrored fewer) (o .extra ∷ []) ∙ ap (λ (n : ℕ). n + 1) (length-mirrored fewer)
+
+-- ---- refusals
+module _ (a b : ℤ) (limit : Limit) (m : ℕ) where
+  abbrev −limit : Limit
+  −limit = film.mirrored limit
+
+  whole-same : (z : ℤ) → wholeAdmitted (negℤ z) ≡ wholeAdmitted z
+  whole-same z = ap (λ (n : ℕ). leb n 1_000_000_000) (neg-far z)
+
+  film-same : limitAdmitted −limit ≡ limitAdmitted limit
+  film-same = ap₂ (λ (x y : ℕ). leb x 1_000_000 && leb y 1_000_000) (neg-far (limit .0)) (neg-far (limit .1))
+
+  ends-same : (wholeAdmitted (negℤ a) && wholeAdmitted (negℤ b)) ≡ (wholeAdmitted a && wholeAdmitted b)
+  ends-same = ap₂ _&&_ (whole-same a) (whole-same b)
+
+  ruler-same : hasRuler (negℤ a) (negℤ b) −limit m ≡ hasRuler a b limit m
+  unfolding hasRuler
+  ruler-same = ap₂ (λ (x y : Bool). x && y) ends-same (ap₂ (λ (x y : Bool). x && not y) film-same (marks.mirror a b m .same-refusal))
+
+  by : Bool → Bool → Bool → Bool → Verdict
+  by t u v w = cond t (stopped 1) (cond u (stopped 2) (cond v (stopped 3) (cond w (stopped 13) accepted)))
+
+  by-tests : (t u v w : Bool) (n k : ℕ) → verdict {A = ℕ × ℕ} (lowest (1 when t ∷ 2 when u ∷ 3 when v ∷ 13 when w ∷ []) (given (n, k))) ≡ by t u v w
+  unfolding by
+  by-tests true u v w n k = refl
+  by-tests false true v w n k = refl
+  by-tests false false true w n k = refl
+  by-tests false false false true n k = refl
+  by-tests false false false false n k = refl
+
+  verdict-same : (old old′ : List ℕ) → tooShort a b limit m old ≡ tooShort (negℤ a) (negℤ b) −limit m old′ → verdict (rulerWrite (negℤ a) (negℤ b) −limit m old′ .0) ≡ verdict (rulerWrite a b limit m old .0)
+  unfolding rulerWrite
+  verdict-same old old′ e =
+      by-tests (not (wholeAdmitted (negℤ a) && wholeAdmitted (negℤ b))) (not (limitAdmitted −limit)) (noStep (negℤ a) (negℤ b) m) (tooShort (negℤ a) (negℤ b) −limit m old′) _ _
+      ∙ ap₂ (λ (x y : Bool). by (not x) (not y) (noStep (negℤ a) (negℤ b) m) (tooShort (negℤ a) (negℤ b) −limit m old′)) ends-same film-same
+      ∙ ap₂ (λ (x y : Bool). by (not (wholeAdmitted a && wholeAdmitted b)) (not (limitAdmitted limit)) x y) (marks.mirror a b m .same-refusal) (sym e)
+      ∙ sym (by-tests (not (wholeAdmitted a && wholeAdmitted b)) (not (limitAdmitted limit)) (noStep a b m) (tooShort a b limit m old) _ _)
+
+  -- ---- where there is a ruler
+  module _ (h : hasRuler a b limit m ≡ true) where
+    served : noStep a b m ≡ false
+    unfolding hasRuler
+    served = go (noStep a b m) (and-true (limitAdmitted limit) (not (noStep a b m)) (and-true (wholeAdmitted a && wholeAdmitted b) (limitAdmitted limit && not (noStep a b m)) h .1) .1)
+      where
+        go : (t : Bool) → not t ≡ true → t ≡ false
+        go true e = absurd (subst T (sym e) tt)
+        go false e = refl
+
+    more-below : (Divides (stepOf a b m) (nearestZero a b) → ⊥) → high a b <ℤ pos 0 → OneMore a b limit m (high a b) (recordsOf (negℤ a) (negℤ b) −limit m)
+    unfolding rulerBytes
+    more-below f l =
+        let o = marks.mirror a b m .one-more-below served f l in
+        record { extra = o .extra; is-next = o .is-next; others-match = ap joined (records-back a b limit m (o .extra) (o .others-match)) }
+
+    more-above : (Divides (stepOf a b m) (nearestZero a b) → ⊥) → pos 0 <ℤ low a b → OneMore (negℤ a) (negℤ b) −limit m (negℤ (low a b)) (recordsOf a b limit m)
+    unfolding rulerBytes
+    more-above f l =
+        let o = marks.mirror a b m .one-more-above served f l in
+        record { extra = o .extra; is-next = rw (marks.mirror a b m .same-step) (o .is-next); others-match = ap joined (records-more a b limit m (o .extra) (o .others-match)) }
+
+    matching : Divides (stepOf a b m) (nearestZero a b) → rulerBytes (negℤ a) (negℤ b) −limit m ≡ joined (turned (recordsOf a b limit m))
+    unfolding rulerBytes
+    matching e = ap joined (records-turned a b limit m (marks.mirror a b m .match-exactly served .1 e))
+
+    -- bytes that match are as many, and with one mark more they are not
+    turned-long : length (joined (turned (recordsOf a b limit m))) ≡ 25 + 20 * length (marks a b m)
+    turned-long =
+        let l = marks a b m in
+        length-append (laid (axis (negℤ a) (negℤ b) −limit m (pos (stepOf a b m)))) (joined (reverse (map negated (map (markAt a b limit) l))))
+        ∙ ap₂ (λ (x y : ℕ). x + y) (axis-long (negℤ a) (negℤ b) −limit m (pos (stepOf a b m))) (ap (λ (rs : List Record). length (joined rs)) (sym (marks-turned a b limit l)) ∙ marks-long (negℤ a) (negℤ b) −limit (mirrored l) ∙ ap (λ (n : ℕ). 20 * n) (length-mirrored l))
+
+    lengths : rulerBytes (negℤ a) (negℤ b) −limit m ≡ joined (turned (recordsOf a b limit m)) → length (marks (negℤ a) (negℤ b) m) ≡ length (marks a b m)
+    lengths e = omega (arith, ap length e, turned-long, ruler-long (negℤ a) (negℤ b) −limit m (has-plan (negℤ a) (negℤ b) −limit m (ruler-same ∙ h)))
+
+    divided : rulerBytes (negℤ a) (negℤ b) −limit m ≡ joined (turned (recordsOf a b limit m)) → Divides (stepOf a b m) (nearestZero a b)
+    divided e = go (eqb (natAbs (nearestZero a b) % stepOf a b m) 0) refl
+      where
+        no-half : (Divides (stepOf a b m) (nearestZero a b) → ⊥) → (high a b <ℤ pos 0) ⊎ (pos 0 <ℤ low a b) → ⊥
+        no-half f (inl l) = let n = one-longer (marks.mirror a b m .one-more-below served f l) in omega (arith, lengths e)
+        no-half f (inr l) = let n = one-longer (marks.mirror a b m .one-more-above served f l) in omega (arith, lengths e)
+
+        go : (t : Bool) → eqb (natAbs (nearestZero a b) % stepOf a b m) 0 ≡ t → Divides (stepOf a b m) (nearestZero a b)
+        go true q = eqb-true _ _ q
+        go false q = absurd (no-half (eqb-false _ _ q) (marks.mirror a b m .one-half (eqb-false _ _ q)))
+
+pub mirror : (a b : ℤ) (limit : Limit) (m : ℕ) → Mirrored a b limit m
+mirror a b limit m =
+    record {
+      same-verdict = verdict-same a b limit m;
+      same-ruler = ruler-same a b limit m;
+      match-exactly = λ h. (divided a b limit m h, matching a b limit m h);
+      one-half = marks.mirror a b m .one-half;
+      one-more-below = more-below a b limit m;
+      one-more-above = more-above a b limit m;
+    }

@@ -1,0 +1,114 @@
+-- What the examination of bytes says: that they are a ruler, and which. Assumes nothing.
+use mathlib.Core.Path.{_≡_, refl, sym, ap, _∙_, subst}
+use mathlib.Core.Bool.{Bool, true, false, cond, _&&_}
+use mathlib.Core.List.{List}
+use Prim.Native.Nat.{ℕ, _+_, _*_, _<_}
+use native.Mathlib.Omega.{arith}
+use lib.Dec.{T}
+use lib.ListN.{length}
+use Rattle.ranged1d.specs.Answer.{Answer, given, refused}
+use Rattle.numeric.specs.declared.KeyPoints.{KeyPoints}
+use Rattle.numeric.specs.Marks.{listOf}
+use Rattle.numeric.specs.Calls.{planOf, element}
+use Rattle.decimal.specs.Read.{sameBytes}
+use Rattle.decimal.proofs.Texts.{same-equal}
+use Rattle.ruler.specs.declared.Draft.{Draft}
+use Rattle.ruler.specs.declared.Seen.{Seen}
+use Rattle.ruler.specs.declared.Seen.the-variants as seen-is
+use Rattle.ruler.specs.Rule.{aIn, bIn, limitIn, mIn, marksIn, rulerBytes, hasRuler, isRuler, rulerRead, rulerPlan}
+use Rattle.ruler.specs.Steps.{seenBy, draftIn, seenOf}
+use Rattle.ruler.proofs.Lists.{same-yes, same-no}
+use Rattle.ruler.proofs.Drawn.{Drawn, is-drawn, none-drawn, has-plan, ruler-long}
+
+pub and-true : (x y : Bool) → (x && y) ≡ true → (x ≡ true) × (y ≡ true)
+and-true true true h = (refl, refl)
+and-true true false h = absurd (subst T (sym h) tt)
+and-true false y h = absurd (subst T (sym h) tt)
+
+abbrev pub bytesOf : Draft → List ℕ
+bytesOf d = rulerBytes (d .a) (d .b) (d .limit) (d .m)
+
+abbrev pub planFor : Draft → Answer KeyPoints
+planFor d = rulerPlan (d .a) (d .b) (d .limit) (d .m)
+
+-- ---- bytes compared with the ruler of d
+module _ (l : List ℕ) (d : Draft) where
+  pub seen-other : {p : KeyPoints} → planFor d ≡ given p → (l ≡ bytesOf d → ⊥) → seenBy l d ≡ seen-is.Nothing
+  unfolding seenBy
+  seen-other e f = rw (is-drawn _ _ _ _ e .has, same-no l (bytesOf d) f)
+
+  pub seen-none : {n : ℕ} → planFor d ≡ refused n → seenBy l d ≡ seen-is.Nothing
+  unfolding seenBy
+  seen-none e = rw (none-drawn _ _ _ _ e)
+
+  pub seen-same : {p : KeyPoints} → planFor d ≡ given p → l ≡ bytesOf d → seenBy l d ≡ seen-is.Ruler d p
+  unfolding seenBy
+  seen-same e x = rw (is-drawn _ _ _ _ e .has, same-yes l (bytesOf d) x) (ap (seen-is.Ruler d) (is-drawn _ _ _ _ e .good .plan))
+
+  pub seen-short : length l < 25 → seenBy l d ≡ seen-is.Nothing
+  unfolding seenBy
+  seen-short h = go (hasRuler (d .a) (d .b) (d .limit) (d .m)) refl
+    where
+      go : (t : Bool) → hasRuler (d .a) (d .b) (d .limit) (d .m) ≡ t → cond (t && sameBytes l (bytesOf d)) (seen-is.Ruler d (planOf (d .a) (d .b) (d .m))) seen-is.Nothing ≡ seen-is.Nothing
+      go true e = rw (same-no l (bytesOf d) (λ x. omega (arith, ap length x, ruler-long _ _ _ _ (has-plan _ _ _ _ e))))
+      go false e = refl
+
+-- ---- bytes examined by themselves
+pub seen-in : (l : List ℕ) → seenBy l (draftIn l) ≡ seenOf l
+unfolding seenOf seenBy isRuler
+seen-in l = refl
+
+pub ruler-in : (l : List ℕ) → isRuler l ≡ true → (planFor (draftIn l) ≡ given (planOf (aIn l) (bIn l) (mIn l))) × (l ≡ bytesOf (draftIn l))
+unfolding isRuler
+ruler-in l h =
+    let both = and-true (hasRuler (aIn l) (bIn l) (limitIn l) (mIn l)) (sameBytes l (bytesOf (draftIn l))) h in
+    (has-plan _ _ _ _ (both .0), same-equal l (bytesOf (draftIn l)) (both .1))
+
+-- what is known of bytes that were seen to be a ruler
+pub record Known (l : List ℕ) (d : Draft) (p : KeyPoints) : Type 0 where
+  pub ruler : isRuler l ≡ true
+  pub draft : draftIn l ≡ d
+  pub plan : planFor d ≡ given p
+  pub bytes : l ≡ bytesOf d
+
+KnownBy : List ℕ → Seen → Type 0
+KnownBy l (seen-is.Ruler d p) = Known l d p
+KnownBy l seen-is.Nothing = isRuler l ≡ false
+
+all-known : (l : List ℕ) → KnownBy l (seenOf l)
+unfolding KnownBy seenOf
+all-known l = go (isRuler l) refl
+  where
+    go : (t : Bool) → isRuler l ≡ t → KnownBy l (cond t (seen-is.Ruler (draftIn l) (planOf (aIn l) (bIn l) (mIn l))) seen-is.Nothing)
+    go true e = record { ruler = e; draft = refl; plan = ruler-in l e .0; bytes = ruler-in l e .1 }
+    go false e = e
+
+pub seen-known : {l : List ℕ} {d : Draft} {p : KeyPoints} → seenOf l ≡ seen-is.Ruler d p → Known l d p
+unfolding KnownBy
+seen-known {l} e = subst (KnownBy l) e (all-known l)
+
+pub seen-nothing : (l : List ℕ) → seenOf l ≡ seen-is.Nothing → isRuler l ≡ false
+unfolding KnownBy
+seen-nothing l e = subst (KnownBy l) e (all-known l)
+
+module _ {l : List ℕ} {d : Draft} {p : KeyPoints} (k : Known l d p) where
+  pub known-drawn : Drawn (d .a) (d .b) (d .limit) (d .m) p
+  known-drawn = is-drawn _ _ _ _ (k .plan)
+
+  pub known-long : length l ≡ 25 + 20 * p .count
+  known-long = ap length (k .bytes) ∙ ruler-long _ _ _ _ (k .plan)
+
+  pub known-marks : marksIn l ≡ listOf (element (p .first) (p .step)) (p .count)
+  known-marks = subst (λ (d : Draft). Drawn (d .a) (d .b) (d .limit) (d .m) p) (sym (k .draft)) known-drawn .good .marks-are
+
+  pub read-known : rulerRead l ≡ given (record { a = d .a; b = d .b; p = d .limit .0; q = d .limit .1; m = d .m; step = p .step; marks = p .count })
+  unfolding rulerRead
+  read-known =
+      let plan = subst (λ (d : Draft). planOf (d .a) (d .b) (d .m) ≡ p) (sym (k .draft)) (known-drawn .good .plan) in
+      rw (k .ruler)
+      (ap (λ (q : KeyPoints). given (record { a = aIn l; b = bIn l; p = limitIn l .0; q = limitIn l .1; m = mIn l; step = q .step; marks = q .count })) plan
+      ∙ ap (λ (d : Draft). given (record { a = d .a; b = d .b; p = d .limit .0; q = d .limit .1; m = d .m; step = p .step; marks = p .count })) (k .draft))
+
+pub read-nothing : (l : List ℕ) → isRuler l ≡ false → rulerRead l ≡ refused 14
+unfolding rulerRead
+read-nothing l e = rw e

@@ -1,0 +1,73 @@
+-- Records one behind another: how long they are, one more of them, one taken out. Assumes nothing.
+use mathlib.Core.Path.{_≡_, refl, sym, ap, _∙_}
+use mathlib.Core.List.{List, [], _∷_, _++_, map, append-assoc, append-nil, map-append}
+use Prim.Native.Nat.{ℕ, zero, suc, _+_, _*_, _≤_, _<_}
+use native.Mathlib.Numerals.{add-one}
+use native.Mathlib.Decide.{decLt}
+use native.Mathlib.Omega.{arith}
+use lib.IntN.{ℤ}
+use lib.ListN.{length, take, drop, length-append, length-drop}
+use lib.Seq.{drop-append-le, take-append-le, drop-at, take-all}
+use Rattle.ranged1d.specs.declared.Limit.{Limit}
+use Rattle.numeric.specs.Marks.{listOf}
+use Rattle.decimal.specs.Print.{decimal}
+use Rattle.decimal.proofs.Digits.{decimal-most, filled-long}
+use Rattle.ruler.specs.Bytes.{Record, axis, mark, axisBody, markBody, laid, joined}
+use Rattle.ruler.specs.Rule.{markAt}
+
+pub part-left : (xs ys : List ℕ) (a n : ℕ) → a + n ≤ length xs → take n (drop a (xs ++ ys)) ≡ take n (drop a xs)
+part-left xs ys a n h =
+    let u : a ≤ length xs = omega arith in
+    rw (drop-append-le a xs ys u)
+    (take-append-le n (drop a xs) ys (omega (arith, length-drop a xs)))
+
+joined-append : (xs ys : List Record) → joined (xs ++ ys) ≡ joined xs ++ joined ys
+joined-append [] ys = refl
+joined-append (x ∷ xs) ys = ap (λ (l : List ℕ). laid x ++ l) (joined-append xs ys) ∙ sym (append-assoc (laid x) (joined xs) (joined ys))
+
+pub mark-body-long : (v x : ℤ) → length (markBody v x) ≡ 19
+unfolding markBody
+mark-body-long v x = omega (arith, filled-long (decimal v) (decimal-most v))
+
+pub mark-long : (v x : ℤ) → length (laid (mark v x)) ≡ 20
+unfolding laid
+mark-long v x = omega (arith, mark-body-long v x)
+
+pub axis-long : (a b : ℤ) (limit : Limit) (m : ℕ) (s : ℤ) → length (laid (axis a b limit m s)) ≡ 25
+unfolding laid axisBody
+axis-long a b limit m s = refl
+
+module _ (a b : ℤ) (limit : Limit) (f : ℕ → ℤ) where
+  -- the first n, and each
+  abbrev pub run : ℕ → List ℕ
+  run n = joined (map (markAt a b limit) (listOf f n))
+
+  abbrev pub one : ℕ → List ℕ
+  one k = laid (markAt a b limit (f k))
+
+  pub one-long : (k : ℕ) → length (one k) ≡ 20
+  one-long k = mark-long (f k) _
+
+  pub run-suc : (n : ℕ) → run (suc n) ≡ run n ++ one n
+  run-suc n =
+      ap joined (map-append (markAt a b limit) (listOf f n) (f n ∷ []))
+      ∙ joined-append (map (markAt a b limit) (listOf f n)) (markAt a b limit (f n) ∷ [])
+      ∙ ap (λ (l : List ℕ). run n ++ l) (append-nil (one n))
+
+  pub run-more : (n : ℕ) → run (n + 1) ≡ run n ++ one n
+  run-more n = rw add-one (run-suc n)
+
+  pub run-long : (n : ℕ) → length (run n) ≡ 20 * n
+  run-long zero = refl
+  run-long (suc n) = rw (run-suc n, length-append (run n) (one n)) (omega (arith, run-long n, one-long n))
+
+  -- record k of them
+  pub run-at : (n k : ℕ) → k < n → take 20 (drop (20 * k) (run n)) ≡ one k
+  run-at zero k h = absurd (omega arith)
+  run-at (suc n) k h = go (decLt k n) (run-at n k)
+    where
+      go : Dec (k < n) → (k < n → take 20 (drop (20 * k) (run n)) ≡ one k) → take 20 (drop (20 * k) (run (suc n))) ≡ one k
+      go (yes l) rec = rw (run-suc n) (part-left (run n) (one n) (20 * k) 20 (omega (arith, run-long n)) ∙ rec l)
+      go (no g) rec =
+          let e : n ≡ k = omega arith in
+          rw (run-suc n, e, drop-at (run k) (one k) (20 * k) (run-long k)) (take-all 20 (one k) (omega (arith, one-long k)))

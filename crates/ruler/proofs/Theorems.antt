@@ -1,0 +1,171 @@
+-- The reader takes what the writer gives, and nothing else. Assumes nothing.
+use mathlib.Core.Path.{_≡_, refl, sym, ap, _∙_, subst}
+use mathlib.Core.Bool.{Bool, true, false, _&&_}
+use mathlib.Core.List.{List, _++_}
+use mathlib.Core.Logic.{_⊎_, inl, inr}
+use Prim.Native.Nat.{ℕ, _+_, _*_, _^_, _≤_, _<_}
+use native.Mathlib.Decide.{decLt}
+use native.Mathlib.Omega.{arith}
+use lib.IntN.{ℤ, pos, natAbs}
+use lib.ListN.{length, take, drop, drop-of-length-le}
+use lib.Seq.{take-at, take-length}
+use mathlib.Core.List.{append-nil}
+use mir.Syntax.{w32}
+use mir.Val.{SFits}
+use borrow.Author.Tests.{leb-true}
+use Rattle.ranged1d.specs.Answer.{Answer, given, none, refused}
+use Rattle.ranged1d.specs.Admitted.{pixelAdmitted, limitAdmitted}
+use Rattle.ranged1d.specs.declared.Limit.{Limit}
+use Rattle.ranged1d.proofs.Whole.{fits32}
+use Rattle.numeric.specs.declared.KeyPoints.{KeyPoints}
+use Rattle.numeric.specs.Marks.{stepOf, marks}
+use Rattle.numeric.specs.Calls.{planOf}
+use Rattle.decimal.specs.Read.{sameBytes}
+use Rattle.ruler.specs.declared.Draft.{Draft}
+use Rattle.ruler.specs.declared.Ruler.{Ruler}
+use Rattle.ruler.specs.Bytes.{wholeAt, axis, axisBody, laid}
+use Rattle.ruler.specs.Rule.{aIn, bIn, limitIn, mIn, rulerBytes, rulerWrite, rulerRead, hasRuler, isRuler, rulerPlan}
+use Rattle.ruler.specs.Steps.{draftIn}
+use Rattle.ruler.proofs.Numbers.{word-back, number-back}
+use Rattle.ruler.proofs.Lists.{same-yes}
+use Rattle.ruler.proofs.Drawn.{is-drawn, has-plan, ruler-is, ruler-long, marks-long, marksRun, write-refused, write-none, write-short, write-fits}
+use Rattle.ruler.proofs.Places.{film}
+use Rattle.ruler.proofs.Reader.{and-true, bytesOf, Known, ruler-in, read-known, read-nothing}
+
+-- ---- the numbers in a ruler are its own
+limit-fits : (limit : Limit) → limitAdmitted limit ≡ true → SFits w32 (limit .0) × SFits w32 (limit .1)
+limit-fits limit h =
+    let both = and-true (pixelAdmitted (limit .0)) (pixelAdmitted (limit .1)) h in
+    (fits32 (limit .0) (omega (arith, leb-true (natAbs (limit .0)) 1000000 (both .0))), fits32 (limit .1) (omega (arith, leb-true (natAbs (limit .1)) 1000000 (both .1))))
+
+abbrev drawnFor : ℤ → ℤ → Limit → ℕ → Draft
+drawnFor a b limit m = record { a = a; b = b; limit = limit; m = m }
+
+numbers-back : (l : List ℕ) (a b : ℤ) (limit : Limit) (m : ℕ) (s : ℤ) (rest : List ℕ) → SFits w32 a → SFits w32 b → SFits w32 (limit .0) × SFits w32 (limit .1) → m < 2 ^ 32 → l ≡ laid (axis a b limit m s) ++ rest → draftIn l ≡ drawnFor a b limit m
+unfolding laid axisBody
+numbers-back l a b limit m s rest fa fb fl fm e =
+    let a-is : aIn l ≡ a = rw e (number-back a fa) in
+    let b-is : bIn l ≡ b = rw e (number-back b fb) in
+    let p-is : wholeAt l 9 ≡ limit .0 = rw e (number-back (limit .0) (fl .0)) in
+    let q-is : wholeAt l 13 ≡ limit .1 = rw e (number-back (limit .1) (fl .1)) in
+    let m-is : mIn l ≡ m = rw e (word-back m fm) in
+    rw (a-is, b-is, p-is, q-is, m-is)
+
+-- ---- a ruler is read as what it is
+isBy : List ℕ → Draft → Bool
+isBy l d = hasRuler (d .a) (d .b) (d .limit) (d .m) && sameBytes l (bytesOf d)
+
+is-by : (l : List ℕ) → isRuler l ≡ isBy l (draftIn l)
+unfolding isRuler isBy
+is-by l = refl
+
+abbrev rulerOf : ℤ → ℤ → Limit → ℕ → ℤ → ℕ → Ruler
+rulerOf a b limit m s n = record { a = a; b = b; p = limit .0; q = limit .1; m = m; step = s; marks = n }
+
+module _ (a b : ℤ) (limit : Limit) (m : ℕ) (fm : m < 2 ^ 32) (h : hasRuler a b limit m ≡ true) where
+  known : Known (rulerBytes a b limit m) (drawnFor a b limit m) (planOf a b m)
+  unfolding isBy
+  known =
+      let e = has-plan a b limit m h in
+      let ends = is-drawn a b limit m e .good .ends in
+      let l = rulerBytes a b limit m in
+      let own = numbers-back l a b limit m (pos (stepOf a b m)) (marksRun a b limit m e) (fits32 a (omega (arith, ends .0))) (fits32 b (omega (arith, ends .1))) (limit-fits limit (film a b limit m h)) fm (ruler-is a b limit m e) in
+      record {
+        ruler = is-by l ∙ ap (isBy l) own ∙ rw (h, same-yes l l refl);
+        draft = own;
+        plan = e;
+        bytes = refl;
+      }
+
+  pub read-back : rulerRead (rulerBytes a b limit m) ≡ given (rulerOf a b limit m (pos (stepOf a b m)) (length (marks a b m)))
+  read-back = read-known known
+
+-- ---- read after write: the bytes that were written, of any lent list, are read as what was written
+module _ (a b : ℤ) (limit : Limit) (m : ℕ) (old : List ℕ) where
+  -- an accepted call: there is a ruler, and this is what was done
+  pub record Written (n k : ℕ) : Type 0 where
+    pub has : hasRuler a b limit m ≡ true
+    pub size : length (rulerBytes a b limit m) ≡ n
+    pub count : length (marks a b m) ≡ k
+    pub memory : rulerWrite a b limit m old .1 ≡ rulerBytes a b limit m ++ drop n old
+
+  pub accepted : {n k : ℕ} → rulerWrite a b limit m old .0 ≡ given (n, k) → Written n k
+  accepted {n} {k} w = go (rulerPlan a b limit m) refl
+    where
+      fits : {p : KeyPoints} → rulerPlan a b limit m ≡ given p → 25 + 20 * p .count ≤ length old → Written n k
+      fits {p} e h =
+          let did = write-fits a b limit m e old h in
+          let same : _≡_ {A = Answer (ℕ × ℕ)} (given (25 + 20 * p .count, p .count)) (given (n, k)) = sym (ap (λ (r : Answer (ℕ × ℕ) × List ℕ). r .0) did) ∙ w in
+          let both : _≡_ {A = ℕ × ℕ} (25 + 20 * p .count, p .count) (n, k) = cc in
+          let size : 25 + 20 * p .count ≡ n = ap (λ (x : ℕ × ℕ). x .0) both in
+          let count : p .count ≡ k = ap (λ (x : ℕ × ℕ). x .1) both in
+          record {
+            has = is-drawn a b limit m e .has;
+            size = ruler-long a b limit m e ∙ size;
+            count = marks-long a b limit m e ∙ count;
+            memory = ap (λ (r : Answer (ℕ × ℕ) × List ℕ). r .1) did ∙ ap (λ (x : ℕ). rulerBytes a b limit m ++ drop x old) size;
+          }
+
+      short : {p : KeyPoints} → rulerPlan a b limit m ≡ given p → length old < 25 + 20 * p .count → Written n k
+      short e h =
+          let same : _≡_ {A = Answer (ℕ × ℕ)} (refused 13) (given (n, k)) = sym (ap (λ (r : Answer (ℕ × ℕ) × List ℕ). r .0) (write-short a b limit m e old h)) ∙ w in
+          let z : _≡_ {A = ℕ} 0 1 = cc in absurd (omega arith)
+
+      room : {p : KeyPoints} → rulerPlan a b limit m ≡ given p → Dec (length old < 25 + 20 * p .count) → Written n k
+      room e (yes h) = short e h
+      room e (no h) = fits e (omega arith)
+
+      go : (r : Answer KeyPoints) → rulerPlan a b limit m ≡ r → Written n k
+      go (given p) e = room e (decLt _ _)
+      go none e =
+          let same : _≡_ {A = Answer (ℕ × ℕ)} none (given (n, k)) = sym (ap (λ (r : Answer (ℕ × ℕ) × List ℕ). r .0) (write-none a b limit m old e)) ∙ w in
+          let z : _≡_ {A = ℕ} 0 1 = cc in absurd (omega arith)
+      go (refused r) e =
+          let same : _≡_ {A = Answer (ℕ × ℕ)} (refused r) (given (n, k)) = sym (ap (λ (r : Answer (ℕ × ℕ) × List ℕ). r .0) (write-refused a b limit m old e)) ∙ w in
+          let z : _≡_ {A = ℕ} 0 1 = cc in absurd (omega arith)
+
+  pub read-after-write : {n k : ℕ} → m < 2 ^ 32 → rulerWrite a b limit m old .0 ≡ given (n, k) → rulerRead (take n (rulerWrite a b limit m old .1)) ≡ given (rulerOf a b limit m (pos (stepOf a b m)) k)
+  read-after-write {n} {k} fm w =
+      let did = accepted w in
+      ap (λ (l : List ℕ). rulerRead (take n l)) (did .memory)
+      ∙ ap rulerRead (take-at (rulerBytes a b limit m) (drop n old) n (did .size))
+      ∙ read-back a b limit m fm (did .has)
+      ∙ ap (λ (x : ℕ). given (rulerOf a b limit m (pos (stepOf a b m)) x)) (did .count)
+
+-- ---- complete: bytes that the writer gives, lent as many, are accepted
+pub read-complete : (l : List ℕ) (a b : ℤ) (limit : Limit) (m : ℕ) {k : ℕ} → m < 2 ^ 32 → rulerWrite a b limit m l ≡ (given (length l, k), l) → rulerRead l ≡ given (rulerOf a b limit m (pos (stepOf a b m)) k)
+read-complete l a b limit m {k} fm w =
+    let back = read-after-write a b limit m l {n = length l} {k = k} fm (ap (λ (r : Answer (ℕ × ℕ) × List ℕ). r .0) w) in
+    ap rulerRead (sym (take-length l) ∙ ap (take (length l)) (sym (ap (λ (r : Answer (ℕ × ℕ) × List ℕ). r .1) w))) ∙ back
+
+-- ---- sound: bytes that are accepted are what the writer gives for the numbers that were read, whatever the lent list of that length held
+pub read-sound : (l : List ℕ) (r : Ruler) → rulerRead l ≡ given r → (old : List ℕ) → length old ≡ length l → rulerWrite (r .a) (r .b) (record { 0 = r .p; 1 = r .q }) (r .m) old ≡ (given (length l, r .marks), l)
+read-sound l r e old same = go (isRuler l) refl
+  where
+    given-by : isRuler l ≡ true → rulerWrite (r .a) (r .b) (record { 0 = r .p; 1 = r .q }) (r .m) old ≡ (given (length l, r .marks), l)
+    given-by t =
+        let plan = ruler-in l t .0 in
+        let bytes = ruler-in l t .1 in
+        let long : 25 + 20 * length (marks (aIn l) (bIn l) (mIn l)) ≡ length l = sym (ap length bytes ∙ ruler-long _ _ _ _ plan) in
+        let enough : 25 + 20 * length (marks (aIn l) (bIn l) (mIn l)) ≤ length old = omega (arith, long) in
+        let nothing : length old ≤ 25 + 20 * length (marks (aIn l) (bIn l) (mIn l)) = omega (arith, long) in
+        let k : Known l (draftIn l) (planOf (aIn l) (bIn l) (mIn l)) = record { ruler = t; draft = refl; plan = plan; bytes = bytes } in
+        let x : _≡_ {A = Answer Ruler} (given (rulerOf (aIn l) (bIn l) (limitIn l) (mIn l) (pos (stepOf (aIn l) (bIn l) (mIn l))) (length (marks (aIn l) (bIn l) (mIn l))))) (given r) = sym (read-known k) ∙ e in
+        let is : rulerOf (aIn l) (bIn l) (limitIn l) (mIn l) (pos (stepOf (aIn l) (bIn l) (mIn l))) (length (marks (aIn l) (bIn l) (mIn l))) ≡ r = cc in
+        subst (λ (r : Ruler). rulerWrite (r .a) (r .b) (record { 0 = r .p; 1 = r .q }) (r .m) old ≡ (given (length l, r .marks), l)) is
+        (write-fits (aIn l) (bIn l) (limitIn l) (mIn l) plan old enough
+        ∙ rw (drop-of-length-le old nothing, append-nil (rulerBytes (aIn l) (bIn l) (limitIn l) (mIn l)), long, ← bytes))
+
+    go : (t : Bool) → isRuler l ≡ t → rulerWrite (r .a) (r .b) (record { 0 = r .p; 1 = r .q }) (r .m) old ≡ (given (length l, r .marks), l)
+    go true t = given-by t
+    go false t =
+        let x : _≡_ {A = Answer Ruler} (refused 14) (given r) = sym (read-nothing l t) ∙ e in
+        let z : _≡_ {A = ℕ} 0 1 = cc in absurd (omega arith)
+
+-- any other bytes are refused with 14
+pub read-or-14 : (l : List ℕ) → ((r : Ruler) × (rulerRead l ≡ given r)) ⊎ (rulerRead l ≡ refused 14)
+read-or-14 l = go (isRuler l) refl
+  where
+    go : (t : Bool) → isRuler l ≡ t → ((r : Ruler) × (rulerRead l ≡ given r)) ⊎ (rulerRead l ≡ refused 14)
+    go true t = inl (_, read-known (record { ruler = t; draft = refl; plan = ruler-in l t .0; bytes = ruler-in l t .1 }))
+    go false t = inr (read-nothing l t)

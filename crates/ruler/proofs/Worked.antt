@@ -1,0 +1,32 @@
+-- A ruler as the rules compute it, byte by byte, with its reading and a look-up: the axis -7..-7 on the film -100..-300, the mirror of the
+-- place in 01 "From the drafting table". Assumes nothing.
+use mathlib.Core.Path.{_≡_, refl}
+use mathlib.Core.List.{List, [], _∷_}
+use Prim.Native.Nat.{ℕ}
+use lib.IntN.{pos, negsuc}
+use lib.Ieee.{ofInt, eq}
+use Rattle.ranged1d.specs.Answer.{given}
+use Rattle.numeric.specs.Marks.{stepAt, firstOf, chosen, noStepFor, stepFor, marksFor}
+use Rattle.decimal.specs.Print.{digits}
+use Rattle.decimal.specs.Read.{sameBytes}
+use Rattle.real.specs.Place.{spot, wholePlace}
+use Rattle.ruler.specs.Place.{placeOf}
+use Rattle.ruler.specs.Bytes.{axisBody, markBody, laid}
+use Rattle.ruler.specs.Rule.{rulerBytes, rulerRead, hasRuler, isRuler, hasMark, recordIn, labelIn}
+
+abbrev bytes : List ℕ
+bytes = rulerBytes (negsuc 6) (negsuc 6) (record { 0 = negsuc 99; 1 = negsuc 299 }) 0
+
+shown : bytes
+    ≡ 1 ∷ 249 ∷ 255 ∷ 255 ∷ 255 ∷ 249 ∷ 255 ∷ 255 ∷ 255 ∷ 156 ∷ 255 ∷ 255 ∷ 255 ∷ 212 ∷ 254 ∷ 255 ∷ 255 ∷ 0 ∷ 0 ∷ 0 ∷ 0 ∷ 1 ∷ 0 ∷ 0 ∷ 0
+    ∷ 2 ∷ 249 ∷ 255 ∷ 255 ∷ 255 ∷ 156 ∷ 255 ∷ 255 ∷ 255 ∷ 32 ∷ 32 ∷ 32 ∷ 32 ∷ 32 ∷ 32 ∷ 32 ∷ 32 ∷ 32 ∷ 45 ∷ 55 ∷ []
+unfolding rulerBytes laid axisBody markBody digits stepAt firstOf chosen stepFor marksFor placeOf wholePlace spot ofInt eq
+shown = refl
+
+taken : rulerRead bytes ≡ given (record { a = negsuc 6; b = negsuc 6; p = negsuc 99; q = negsuc 299; m = 0; step = pos 1; marks = 1 })
+unfolding rulerRead isRuler hasRuler noStepFor sameBytes rulerBytes laid axisBody markBody digits stepAt firstOf chosen stepFor marksFor placeOf wholePlace spot ofInt eq
+taken = refl
+
+found : labelIn bytes (negsuc 6) ≡ record { start = 43; end = 45 }
+unfolding labelIn recordIn hasMark isRuler hasRuler noStepFor sameBytes rulerBytes laid axisBody markBody digits stepAt firstOf chosen stepFor marksFor placeOf wholePlace spot ofInt eq
+found = refl

@@ -1,0 +1,53 @@
+-- 01 "Ruler bytes": how a record is laid out. A whole number is a ℤ, a byte a natural below 256. Assumes nothing.
+use Prim.Native.Nat.{ℕ, _+_, _*_, _/_, _%_}
+use mathlib.Core.List.{List, [], _∷_, _++_}
+use lib.IntN.{ℤ}
+use lib.ListN.{getD}
+use mir.Syntax.{w32}
+use mir.Val.{ofZ, toZ}
+use Rattle.ranged1d.specs.declared.Limit.{Limit}
+use Rattle.decimal.specs.Print.{labelOf}
+
+-- ---- numbers, 01 "Ruler bytes": four bytes, the lowest first. An i32 goes by its 32 bits in two's complement, a u32 as it is.
+abbrev pub word : ℕ → List ℕ
+word n = n % 256 ∷ n / 256 % 256 ∷ n / 65536 % 256 ∷ n / 16777216 % 256 ∷ []
+
+abbrev pub whole : ℤ → List ℕ
+whole z = word (ofZ w32 z)
+
+-- the same four bytes read at a place of a list, 0 standing for what is past its end
+abbrev pub wordAt : List ℕ → ℕ → ℕ
+wordAt l at = getD l at 0 + getD l (at + 1) 0 * 256 + getD l (at + 2) 0 * 65536 + getD l (at + 3) 0 * 16777216
+
+abbrev pub wholeAt : List ℕ → ℕ → ℤ
+wholeAt l at = toZ w32 (wordAt l at)
+
+-- ---- records, 01 "Ruler bytes": that of the axis has its ends, limits, mark limit and step; that of a mark its needle and place. The
+-- label is no number of its own, as the needle gives it.
+pub data Record : Type 0 where
+  axis : ℤ → ℤ → Limit → ℕ → ℤ → Record
+  mark : ℤ → ℤ → Record
+
+-- the kind, by which a reader knows the length of what follows
+abbrev pub kindOf : Record → ℕ
+kindOf (axis a b limit m s) = 1
+kindOf (mark v x) = 2
+
+-- the bodies: 24 bytes for the axis; 19 for a mark, its label filled with blanks to 11
+unfoldable pub axisBody : ℤ → ℤ → Limit → ℕ → ℤ → List ℕ
+axisBody a b limit m s = whole a ++ whole b ++ whole (limit .0) ++ whole (limit .1) ++ word m ++ whole s
+
+unfoldable pub markBody : ℤ → ℤ → List ℕ
+markBody v x = whole v ++ whole x ++ labelOf v
+
+abbrev pub bodyOf : Record → List ℕ
+bodyOf (axis a b limit m s) = axisBody a b limit m s
+bodyOf (mark v x) = markBody v x
+
+-- a record is its kind and then its body; records stand one behind another
+unfoldable pub laid : Record → List ℕ
+laid r = kindOf r ∷ bodyOf r
+
+abbrev pub joined : List Record → List ℕ
+joined [] = []
+joined (r ∷ rs) = laid r ++ joined rs

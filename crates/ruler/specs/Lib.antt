@@ -1,0 +1,5 @@
+pub mod Place
+pub mod Bytes
+pub mod Rule
+pub mod Steps
+pub mod Mirror

@@ -1,0 +1,66 @@
+-- The mirror theorem for rulers: demand 3, and 01 "Mirroring, real reading, stepped axes". It is stated over the rules that the calls
+-- promise. `mirror` of proofs/Mirror proves `Mirrored a b limit m` of all a, b, limit and m. Assumes nothing.
+use Prim.Native.Nat.{ℕ}
+use mathlib.Core.Bool.{Bool, true}
+use mathlib.Core.List.{List, [], _∷_, _++_, map, reverse}
+use mathlib.Core.Logic.{_⊎_, _↔_}
+use mathlib.Core.Path.{_≡_}
+use lib.Dec.{ltb}
+use lib.IntN.{ℤ, pos, negℤ}
+use lib.ListN.{length}
+use lib.Signed.{_<ℤ_}
+use Rattle.ranged1d.specs.Answer.{Answer, given, none, refused}
+use Rattle.ranged1d.specs.declared.Limit.{Limit}
+use Rattle.numeric.specs.Marks.{low, high, stepOf}
+use Rattle.numeric.specs.Mirror.{nearestZero, Divides, NextTowardZero}
+use Rattle.real.specs.Mirror as film
+use Rattle.ruler.specs.Bytes.{Record, axis, mark, joined}
+use Rattle.ruler.specs.Rule.{markAt, recordsOf, rulerBytes, rulerWrite, hasRuler}
+
+-- ---- the words of the statement
+-- a record's mirror: the axis's has its ends and limits negated, and the same mark limit and step; a mark's has needle and place
+-- negated, and so the label of the negated needle, which `laid` writes
+abbrev pub negated : Record → Record
+negated (axis a b limit m s) = axis (negℤ a) (negℤ b) (film.mirrored limit) m s
+negated (mark v x) = mark (negℤ v) (negℤ x)
+
+-- a ruler's mirror: the axis's record first, and then the marks' records from the last to the first
+abbrev pub turned : List Record → List Record
+turned [] = []
+turned (r ∷ rs) = negated r ∷ reverse (map negated rs)
+
+-- an answer but for its numbers
+pub data Verdict : Type 0 where
+  accepted : Verdict
+  empty : Verdict
+  stopped : ℕ → Verdict
+
+abbrev pub verdict : {A : Type 0} → Answer A → Verdict
+verdict (given x) = accepted
+verdict none = empty
+verdict (refused n) = stopped n
+
+-- the lent bytes are too few for the ruler
+abbrev pub tooShort : ℤ → ℤ → Limit → ℕ → List ℕ → Bool
+tooShort a b limit m old = ltb (length old) (length (rulerBytes a b limit m))
+
+-- the ruler of (a, b, limit, m), on the half below zero with z its needle nearest zero, has one record more than the records `fewer` of
+-- the other half: its last, of the next multiple of the step past z toward zero, placed by the rule of its own axis; all others match
+pub record OneMore (a b : ℤ) (limit : Limit) (m : ℕ) (z : ℤ) (fewer : List Record) : Type 0 where
+  pub extra : ℤ
+  pub is-next : NextTowardZero (stepOf a b m) z extra
+  pub others-match : rulerBytes a b limit m ≡ joined (turned fewer ++ (markAt a b limit extra ∷ []))
+
+-- ---- the statement, for (a, b, p, q, m) and its mirror (−a, −b, −p, −q, m)
+pub record Mirrored (a b : ℤ) (limit : Limit) (m : ℕ) : Type 0 where
+  -- with bytes lent that are long enough on both sides or too short on both: refused on both with the same number, or accepted on both
+  pub same-verdict : (old old′ : List ℕ) → tooShort a b limit m old ≡ tooShort (negℤ a) (negℤ b) (film.mirrored limit) m old′ → verdict (rulerWrite (negℤ a) (negℤ b) (film.mirrored limit) m old′ .0) ≡ verdict (rulerWrite a b limit m old .0)
+  -- there is a ruler on both sides or on neither
+  pub same-ruler : hasRuler (negℤ a) (negℤ b) (film.mirrored limit) m ≡ hasRuler a b limit m
+  -- where there is one: the bytes are those of the turned records exactly when the step divides the needle nearest zero
+  pub match-exactly : hasRuler a b limit m ≡ true → (rulerBytes (negℤ a) (negℤ b) (film.mirrored limit) m ≡ joined (turned (recordsOf a b limit m))) ↔ Divides (stepOf a b m) (nearestZero a b)
+  -- otherwise the axis lies below zero or above it,
+  pub one-half : (Divides (stepOf a b m) (nearestZero a b) → ⊥) → (high a b <ℤ pos 0) ⊎ (pos 0 <ℤ low a b)
+  -- and the half below zero, which is this axis or its mirror, has exactly one record more
+  pub one-more-below : hasRuler a b limit m ≡ true → (Divides (stepOf a b m) (nearestZero a b) → ⊥) → high a b <ℤ pos 0 → OneMore a b limit m (high a b) (recordsOf (negℤ a) (negℤ b) (film.mirrored limit) m)
+  pub one-more-above : hasRuler a b limit m ≡ true → (Divides (stepOf a b m) (nearestZero a b) → ⊥) → pos 0 <ℤ low a b → OneMore (negℤ a) (negℤ b) (film.mirrored limit) m (negℤ (low a b)) (recordsOf a b limit m)

@@ -1,0 +1,163 @@
+-- Rulers: what the writer gives, what the reader takes, and the two look-ups, on every input. 01 "Ruler bytes", with the refusals of 01
+-- "Why a call stops". Assumes nothing.
+use Prim.Native.Nat.{ℕ, suc, _+_, _-_, _*_}
+use mathlib.Core.Bool.{Bool, false, cond, not, _&&_}
+use mathlib.Core.List.{List, [], _∷_, map}
+use lib.Dec.{ltb, eqb}
+use lib.IntN.{ℤ, pos, negsuc}
+use lib.ListN.{length, take, drop}
+use lib.Signed.{ltZ}
+use Rattle.ranged1d.specs.Answer.{Answer, given, refused, _when_, lowest, written}
+use Rattle.ranged1d.specs.Refusals.{numberOf}
+use Rattle.ranged1d.specs.Admitted.{wholeAdmitted, limitAdmitted}
+use Rattle.ranged1d.specs.declared.Limit.{Limit}
+use Rattle.numeric.specs.declared.KeyPoints.{KeyPoints}
+use Rattle.numeric.specs.Marks.{noStep, stepOf, marks}
+use Rattle.numeric.specs.Calls.{planOf}
+use Rattle.decimal.specs.Print.{decimal}
+use Rattle.decimal.specs.Read.{sameBytes}
+use Rattle.ruler.specs.declared.Wrote.{Wrote}
+use Rattle.ruler.specs.declared.Wrote.the-variants as wrote-is
+use Rattle.ruler.specs.declared.Ruler.{Ruler}
+use Rattle.ruler.specs.declared.Reading.{Reading}
+use Rattle.ruler.specs.declared.Reading.the-variants as reading-is
+use Rattle.ruler.specs.declared.Part.{Part}
+use Rattle.ruler.specs.Bytes.{wordAt, wholeAt, Record, axis, mark, laid, joined}
+use Rattle.ruler.specs.Place.{placeOf}
+
+-- ---- the answers' cases, by 01's numbers and values: the number of bytes and of marks; the ruler that was read
+abbrev pub tellWrote : Wrote → Answer (ℕ × ℕ)
+tellWrote (wrote-is.Bytes n k) = given (n, k)
+tellWrote (wrote-is.Refused r) = refused (numberOf r)
+
+abbrev pub tellReading : Reading → Answer Ruler
+tellReading (reading-is.Ruler r) = given r
+tellReading (reading-is.Refused r) = refused (numberOf r)
+
+-- ---- 01 "Ruler bytes": the ruler of an axis
+-- the record of the mark v
+abbrev pub markAt : ℤ → ℤ → Limit → ℤ → Record
+markAt a b limit v = mark v (placeOf a b limit v)
+
+-- the axis comes first, and then every mark, as the marks are listed
+abbrev pub recordsOf : ℤ → ℤ → Limit → ℕ → List Record
+recordsOf a b limit m = axis a b limit m (pos (stepOf a b m)) ∷ map (markAt a b limit) (marks a b m)
+
+unfoldable pub rulerBytes : ℤ → ℤ → Limit → ℕ → List ℕ
+rulerBytes a b limit m = joined (recordsOf a b limit m)
+
+-- `write`, 01 "Why a call stops": 1 where an end is not admitted, 2 where a limit is not, 3 where no step serves, 13 where the lent bytes
+-- are too few; else the number of bytes and of marks, and the ruler at the start of the lent bytes. 5 is never met: `every-placed` of
+-- proofs/Places.
+unfoldable pub rulerWrite : ℤ → ℤ → Limit → ℕ → List ℕ → Answer (ℕ × ℕ) × List ℕ
+rulerWrite a b limit m old =
+    written
+    (lowest (
+    1 when not (wholeAdmitted a && wholeAdmitted b)
+    ∷ 2 when not (limitAdmitted limit)
+    ∷ 3 when noStep a b m
+    ∷ 13 when ltb (length old) (length (rulerBytes a b limit m))
+    ∷ []
+    ) (given (length (rulerBytes a b limit m), length (marks a b m))))
+    (rulerBytes a b limit m)
+    old
+
+-- `plan`, the same without memory: the first mark, the step and the count, or the first reason that there is no ruler
+unfoldable pub rulerPlan : ℤ → ℤ → Limit → ℕ → Answer KeyPoints
+rulerPlan a b limit m =
+    lowest (
+    1 when not (wholeAdmitted a && wholeAdmitted b)
+    ∷ 2 when not (limitAdmitted limit)
+    ∷ 3 when noStep a b m
+    ∷ []
+    ) (given (planOf a b m))
+
+-- ---- 01 "Ruler bytes": the reader
+-- whether an axis has a ruler: nothing stops the writer but memory
+unfoldable pub hasRuler : ℤ → ℤ → Limit → ℕ → Bool
+hasRuler a b limit m = (wholeAdmitted a && wholeAdmitted b) && (limitAdmitted limit && not (noStep a b m))
+
+-- the numbers that stand where a ruler has its own
+abbrev pub aIn : List ℕ → ℤ
+aIn l = wholeAt l 1
+
+abbrev pub bIn : List ℕ → ℤ
+bIn l = wholeAt l 5
+
+abbrev pub limitIn : List ℕ → Limit
+limitIn l = record { 0 = wholeAt l 9; 1 = wholeAt l 13 }
+
+abbrev pub mIn : List ℕ → ℕ
+mIn l = wordAt l 17
+
+-- bytes are a ruler if, for the numbers in them, there is one, and it is these very bytes
+unfoldable pub isRuler : List ℕ → Bool
+isRuler l = hasRuler (aIn l) (bIn l) (limitIn l) (mIn l) && sameBytes l (rulerBytes (aIn l) (bIn l) (limitIn l) (mIn l))
+
+abbrev pub marksIn : List ℕ → List ℤ
+marksIn l = marks (aIn l) (bIn l) (mIn l)
+
+-- `read`: those numbers, the step and the number of marks; 14 where the bytes are no ruler
+unfoldable pub rulerRead : List ℕ → Answer Ruler
+rulerRead l =
+    lowest (14 when not (isRuler l) ∷ [])
+    (given (record {
+      a = aIn l;
+      b = bIn l;
+      p = limitIn l .0;
+      q = limitIn l .1;
+      m = mIn l;
+      step = pos (stepOf (aIn l) (bIn l) (mIn l));
+      marks = length (marksIn l);
+    }))
+
+-- ---- 01 "Ruler bytes": the look-ups
+abbrev pub eqZ : ℤ → ℤ → Bool
+eqZ (pos x) (pos y) = eqb x y
+eqZ (pos x) (negsuc y) = false
+eqZ (negsuc x) (pos y) = false
+eqZ (negsuc x) (negsuc y) = eqb x y
+
+-- where v stands first in a list; the list's length if it does not
+abbrev pub indexOf : ℤ → List ℤ → ℕ
+indexOf v [] = 0
+indexOf v (x ∷ xs) = cond (eqZ x v) 0 (suc (indexOf v xs))
+
+-- v is a mark of the ruler l
+unfoldable pub hasMark : List ℕ → ℤ → Bool
+hasMark l v = isRuler l && ltb (indexOf v (marksIn l)) (length (marksIn l))
+
+-- what each look-up returns: the record of v; v in base ten, as its label has it behind the blanks; nothing where v is no mark
+abbrev pub recordText : List ℕ → ℤ → List ℕ
+recordText l v = cond (hasMark l v) (laid (markAt (aIn l) (bIn l) (limitIn l) v)) []
+
+abbrev pub labelText : List ℕ → ℤ → List ℕ
+labelText l v = cond (hasMark l v) (decimal v) []
+
+-- and where in the bytes that part lies: the record of mark k behind the axis's and k others, a label at the end of its record; an
+-- empty part lies at the start
+abbrev pub recordAt : ℕ → Part
+recordAt k = record { start = 25 + 20 * k; end = 45 + 20 * k }
+
+abbrev pub labelAt : Part → ℤ → Part
+labelAt r v = record { start = r .end - length (decimal v); end = r .end }
+
+abbrev pub nowhere : Part
+nowhere = record { start = 0; end = 0 }
+
+unfoldable pub recordIn : List ℕ → ℤ → Part
+recordIn l v = cond (hasMark l v) (recordAt (indexOf v (marksIn l))) nowhere
+
+unfoldable pub labelIn : List ℕ → ℤ → Part
+labelIn l v = cond (hasMark l v) (labelAt (recordIn l v) v) nowhere
+
+-- the bytes of a part, and where a reference points that begins n bytes further on
+abbrev pub part : Part → List ℕ → List ℕ
+part r l = take (r .end - r .start) (drop (r .start) l)
+
+abbrev pub further : ℕ → ℕ × ℕ → ℕ × ℕ
+further n p = (p .0, n + p .1)
+
+-- a pair of rulers: a needle below zero is looked up in the left one, any other in the right one
+abbrev pub sideOf : {A : Type 0} → ℤ → A → A → A
+sideOf v left right = cond (ltZ v (pos 0)) left right

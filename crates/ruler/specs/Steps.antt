@@ -1,0 +1,37 @@
+-- What private functions ask for and promise on the way to the rules: no part of the rules. Assumes nothing.
+use Prim.Native.Nat.{ℕ, _≤_, _<_}
+use mathlib.Core.Bool.{cond, _&&_}
+use mathlib.Core.List.{List}
+use lib.IntN.{ℤ, pos, natAbs, _*ℤ_}
+use lib.ListN.{length}
+use Rattle.numeric.specs.declared.KeyPoints.{KeyPoints}
+use Rattle.numeric.specs.Calls.{planOf, element}
+use Rattle.decimal.specs.Read.{sameBytes}
+use Rattle.ruler.specs.declared.Draft.{Draft}
+use Rattle.ruler.specs.declared.Part.{Part}
+use Rattle.ruler.specs.declared.Seen.{Seen}
+use Rattle.ruler.specs.declared.Seen.the-variants as seen-is
+use Rattle.ruler.specs.Rule.{aIn, bIn, limitIn, mIn, rulerBytes, hasRuler, isRuler}
+
+-- the numbers on the way to mark k fit an i32
+pub record Reachable (p : KeyPoints) (k : ℕ) : Type 0 where
+  pub few : k < 2147483648
+  pub product : natAbs (pos k *ℤ p .step) ≤ 2147483647
+  pub sum : natAbs (element (p .first) (p .step) k) ≤ 2147483647
+
+-- a part lies within the bytes
+abbrev pub Inside : List ℕ → Part → Type 0
+Inside l r = (r .start ≤ r .end) × (r .end ≤ length l)
+
+-- the ruler d, if bytes are it; the ruler that bytes are
+unfoldable pub seenBy : List ℕ → Draft → Seen
+seenBy l d =
+    cond (hasRuler (d .a) (d .b) (d .limit) (d .m) && sameBytes l (rulerBytes (d .a) (d .b) (d .limit) (d .m)))
+    (seen-is.Ruler d (planOf (d .a) (d .b) (d .m)))
+    seen-is.Nothing
+
+abbrev pub draftIn : List ℕ → Draft
+draftIn l = record { a = aIn l; b = bIn l; limit = limitIn l; m = mIn l }
+
+unfoldable pub seenOf : List ℕ → Seen
+seenOf l = cond (isRuler l) (seen-is.Ruler (draftIn l) (planOf (aIn l) (bIn l) (mIn l))) seen-is.Nothing

@@ -1,0 +1,466 @@
+// Rulers as bytes: a record for the axis, then one for each mark; the reader, and the look-ups in what it takes.
+ghost use mathlib.Core.Path.{_≡_};
+ghost use mathlib.Core.List.{_∷_, _++_, map};
+ghost use Prim.Native.Nat.{ℕ, _+_, _*_, _<_, _≤_};
+ghost use lib.ListN.{length, drop};
+ghost use mir.Syntax.{w32};
+ghost use mir.Val.{ofZ, toZ};
+ghost use Rattle.numeric.specs.Marks.{listOf};
+ghost use Rattle.numeric.specs.Calls.{element, tellPlanned};
+ghost use Rattle.decimal.specs.Read.{sameBytes};
+ghost use Rattle.ruler.specs.Place.{placeOf};
+ghost use Rattle.ruler.specs.Bytes.{word, wordAt, axis, laid, joined};
+ghost use Rattle.ruler.specs.Rule.{tellWrote, tellReading, rulerPlan, markAt, rulerWrite, rulerRead, indexOf, recordIn, labelIn, recordText, labelText, part, further, sideOf};
+ghost use Rattle.ruler.specs.Steps.{Reachable, Inside, seenBy, seenOf};
+use numeric::KeyPoints;
+use numeric::Place;
+use numeric::Planned;
+use numeric::RangedCoordi32;
+use ranged1d::Limit;
+use ranged1d::Refusal;
+
+// The number of bytes and of marks.
+pub enum Wrote {
+    Bytes(usize, usize),
+    Refused(Refusal),
+}
+
+// A ruler that was read.
+pub struct Ruler {
+    pub a: i32,
+    pub b: i32,
+    pub p: i32,
+    pub q: i32,
+    pub m: u32,
+    pub step: i32,
+    pub marks: usize,
+}
+
+pub enum Reading {
+    Ruler(Ruler),
+    Refused(Refusal),
+}
+
+// A part of lent bytes: where it starts and ends.
+pub struct Part {
+    pub start: usize,
+    pub end: usize,
+}
+
+// What a ruler is drawn for: the axis, its limits on the film, the mark limit.
+struct Draft {
+    a: i32,
+    b: i32,
+    limit: Limit,
+    m: u32,
+}
+
+// Bytes that were examined: a ruler with its marks, or no ruler.
+enum Seen {
+    Ruler(Draft, KeyPoints),
+    Nothing,
+}
+
+// The kinds of records: what the body behind the kind is.
+const AXIS: u8 = 1;
+
+const MARK: u8 = 2;
+
+// The bits of z in two's complement.
+fn bits(z: i32) -> u32
+    ensures { λ r. ⌜ r ≡ ofZ w32 z ⌝ }
+{
+    let n = ranged1d::unsigned_abs(z);
+    if z < 0 { 4294967295 - (n - 1) } else { n }
+}
+
+// Six numbers, the lowest byte of each first.
+fn axis_words(a: u32, b: u32, p: u32, q: u32, m: u32, s: u32) -> [u8; 24]
+    ensures { λ r. ⌜ r ≡ word a ++ word b ++ word p ++ word q ++ word m ++ word s ⌝ }
+{
+    [
+        (a % 256) as u8,
+        (a / 256 % 256) as u8,
+        (a / 65536 % 256) as u8,
+        (a / 16777216 % 256) as u8,
+        (b % 256) as u8,
+        (b / 256 % 256) as u8,
+        (b / 65536 % 256) as u8,
+        (b / 16777216 % 256) as u8,
+        (p % 256) as u8,
+        (p / 256 % 256) as u8,
+        (p / 65536 % 256) as u8,
+        (p / 16777216 % 256) as u8,
+        (q % 256) as u8,
+        (q / 256 % 256) as u8,
+        (q / 65536 % 256) as u8,
+        (q / 16777216 % 256) as u8,
+        (m % 256) as u8,
+        (m / 256 % 256) as u8,
+        (m / 65536 % 256) as u8,
+        (m / 16777216 % 256) as u8,
+        (s % 256) as u8,
+        (s / 256 % 256) as u8,
+        (s / 65536 % 256) as u8,
+        (s / 16777216 % 256) as u8,
+    ]
+}
+
+// Two numbers, and a label behind them.
+fn mark_words(v: u32, x: u32, t: [u8; 11]) -> [u8; 19]
+    ensures { λ r. ⌜ r ≡ word v ++ word x ++ t ⌝ }
+{
+    [
+        (v % 256) as u8,
+        (v / 256 % 256) as u8,
+        (v / 65536 % 256) as u8,
+        (v / 16777216 % 256) as u8,
+        (x % 256) as u8,
+        (x / 256 % 256) as u8,
+        (x / 65536 % 256) as u8,
+        (x / 16777216 % 256) as u8,
+        t[0],
+        t[1],
+        t[2],
+        t[3],
+        t[4],
+        t[5],
+        t[6],
+        t[7],
+        t[8],
+        t[9],
+        t[10],
+    ]
+}
+
+// The body of the axis's record.
+fn axis_body(d: Draft, p: KeyPoints) -> [u8; 24]
+    ensures { λ r. ⌜ (1 ∷ r ≡ laid (axis (d .a) (d .b) (d .limit) (d .m) (p .step))) × (24 ≡ length r) ⌝ }
+{
+    let limit = d.limit;
+    axis_words(
+        bits(d.a),
+        bits(d.b),
+        bits(limit.0),
+        bits(limit.1),
+        d.m,
+        bits(p.step),
+    )
+}
+
+// The place of the mark v. No mark is refused one.
+fn place_of(a: i32, b: i32, limit: Limit, v: i32) -> i32
+    ensures { λ r. ⌜ r ≡ placeOf a b limit v ⌝ }
+{
+    match RangedCoordi32(a, b).map(v, limit) {
+        Place::At(x) => x,
+        Place::Refused(_) => 0,
+    }
+}
+
+// The body of the record of the mark v.
+fn mark_body(d: Draft, v: i32) -> [u8; 19]
+    ensures { λ r. ⌜ (2 ∷ r ≡ laid (markAt (d .a) (d .b) (d .limit) v)) × (19 ≡ length r) ⌝ }
+{
+    let x = place_of(d.a, d.b, d.limit, v);
+    let t = decimal::label(v);
+    let label = t.bytes;
+    mark_words(bits(v), bits(x), label)
+}
+
+// Mark k, counted from 0.
+fn mark(p: KeyPoints, k: usize) -> i32
+    requires { ⌜ Reachable p k ⌝ }
+    ensures { λ r. ⌜ r ≡ element (p .first) (p .step) k ⌝ }
+{
+    p.first + (k as i32) * p.step
+}
+
+// The body of the record of mark k.
+fn body_at(d: Draft, p: KeyPoints, k: usize) -> [u8; 19]
+    requires { ⌜ Reachable p k ⌝ }
+    ensures { λ r. ⌜ (2 ∷ r ≡ laid (markAt (d .a) (d .b) (d .limit) (element (p .first) (p .step) k))) × (19 ≡ length r) ⌝ }
+{
+    mark_body(d, mark(p, k))
+}
+
+// A record at the start of out: its kind, then its body.
+fn put_record(kind: u8, body: &[u8], out: &mut [u8])
+    requires { ⌜ 1 + length (now body) ≤ length (now out) ⌝ }
+    ensures { λ _. ⌜ now (out .exit) ≡ (kind ∷ now (body .entry)) ++ drop (1 + length (now (body .entry))) (now (out .entry)) ⌝ }
+{
+    out[0] = kind;
+    bytes::copy(body, &mut out[1..]);
+}
+
+// The records of n marks, one behind another.
+fn put_marks(d: Draft, p: KeyPoints, n: usize, out: &mut [u8])
+    requires { ⌜ 20 * n ≤ length (now out) ⌝ }
+    requires { ⌜ ((k : ℕ) → k < n → Reachable p k) ⌝ }
+    ensures { λ _. ⌜ now (out .exit) ≡ joined (map (markAt (d .a) (d .b) (d .limit)) (listOf (element (p .first) (p .step)) n)) ++ drop (20 * n) (now (out .entry)) ⌝ }
+{
+    let mut k = 0;
+    while k < n {
+        let body = body_at(d, p, k);
+        let at = 20 * k;
+        put_record(MARK, &body, &mut out[at..]);
+        k += 1;
+    }
+}
+
+// The marks of a ruler, or why there is none.
+fn planned(d: Draft) -> Planned
+    ensures { λ r. ⌜ tellPlanned r ≡ rulerPlan (d .a) (d .b) (d .limit) (d .m) ⌝ }
+{
+    let a = d.a;
+    let b = d.b;
+    let limit = d.limit;
+    if !ranged1d::whole_admitted(a) {
+        return Planned::Refused(Refusal::WholeNotAdmitted);
+    }
+    if !ranged1d::whole_admitted(b) {
+        return Planned::Refused(Refusal::WholeNotAdmitted);
+    }
+    if !limit.admitted() {
+        return Planned::Refused(Refusal::LimitNotAdmitted);
+    }
+    RangedCoordi32(a, b).plan(d.m)
+}
+
+// The marks of the ruler of the axis from a to b under the mark limit m, unwritten, for callers who stream.
+pub fn plan(a: i32, b: i32, limit: Limit, m: u32) -> Planned
+    ensures { λ r. ⌜ tellPlanned r ≡ rulerPlan a b limit m ⌝ }
+{
+    planned(Draft { a, b, limit, m })
+}
+
+// A ruler, written to the start of out.
+fn write_draft(d: Draft, out: &mut [u8]) -> Wrote
+    ensures { λ r. ⌜ (tellWrote r, now (out .exit)) ≡ rulerWrite (d .a) (d .b) (d .limit) (d .m) (now (out .entry)) ⌝ }
+{
+    match planned(d) {
+        Planned::Refused(r) => Wrote::Refused(r),
+        Planned::Points(p) => {
+            let n = p.count as usize;
+            let size = 25 + 20 * n;
+            if out.len() < size {
+                return Wrote::Refused(Refusal::OutTooShort);
+            }
+            let body = axis_body(d, p);
+            put_record(AXIS, &body, out);
+            put_marks(d, p, n, &mut out[25..]);
+            Wrote::Bytes(size, n)
+        }
+    }
+}
+
+// The ruler of the axis from a to b under the mark limit m, written to the start of out.
+pub fn write(a: i32, b: i32, limit: Limit, m: u32, out: &mut [u8]) -> Wrote
+    ensures { λ r. ⌜ (tellWrote r, now (out .exit)) ≡ rulerWrite a b limit m (now (out .entry)) ⌝ }
+{
+    write_draft(Draft { a, b, limit, m }, out)
+}
+
+// The number that has the bits x in two's complement.
+fn signed(x: u32) -> i32
+    ensures { λ r. ⌜ r ≡ toZ w32 x ⌝ }
+{
+    if x < 2147483648 {
+        x as i32
+    } else {
+        0 - ((4294967295 - x) as i32) - 1
+    }
+}
+
+fn wide(x: u8) -> u32
+    ensures { λ r. ⌜ (r ≡ x) × (r < 256) ⌝ }
+{
+    x as u32
+}
+
+// The number in four bytes, the lowest first.
+fn word_at(l: &[u8], at: usize) -> u32
+    requires { ⌜ at + 4 ≤ length (now l) ⌝ }
+    ensures { λ r. ⌜ r ≡ wordAt (now (l .entry)) at ⌝ }
+{
+    wide(l[at]) + wide(l[at + 1]) * 256 + wide(l[at + 2]) * 65536 + wide(l[at + 3]) * 16777216
+}
+
+// Whether l is a record: its kind, then its body.
+fn is_record(kind: u8, body: &[u8], l: &[u8]) -> bool
+    ensures { λ r. ⌜ r ≡ sameBytes (now (l .entry)) (kind ∷ now (body .entry)) ⌝ }
+{
+    if l.len() == 0 {
+        return false;
+    }
+    if l[0] != kind {
+        return false;
+    }
+    check::same(&l[1..], body)
+}
+
+// Whether l is the records of n marks, one behind another.
+fn has_marks(d: Draft, p: KeyPoints, n: usize, l: &[u8]) -> bool
+    requires { ⌜ length (now l) ≡ 20 * n ⌝ }
+    requires { ⌜ ((k : ℕ) → k < n → Reachable p k) ⌝ }
+    ensures { λ r. ⌜ r ≡ sameBytes (now (l .entry)) (joined (map (markAt (d .a) (d .b) (d .limit)) (listOf (element (p .first) (p .step)) n))) ⌝ }
+{
+    let mut k = 0;
+    while k < n {
+        let body = body_at(d, p, k);
+        let at = 20 * k;
+        if !is_record(MARK, &body, &l[at..at + 20]) {
+            return false;
+        }
+        k += 1;
+    }
+    true
+}
+
+// The ruler of d, if the bytes are it.
+fn compare(d: Draft, l: &[u8]) -> Seen
+    ensures { λ r. ⌜ r ≡ seenBy (now (l .entry)) d ⌝ }
+{
+    match planned(d) {
+        Planned::Refused(_) => Seen::Nothing,
+        Planned::Points(p) => {
+            let n = p.count as usize;
+            if l.len() != 25 + 20 * n {
+                return Seen::Nothing;
+            }
+            let body = axis_body(d, p);
+            if !is_record(AXIS, &body, &l[0..25]) {
+                return Seen::Nothing;
+            }
+            if !has_marks(d, p, n, &l[25..]) {
+                return Seen::Nothing;
+            }
+            Seen::Ruler(d, p)
+        }
+    }
+}
+
+// The ruler that the bytes are: for the numbers in them the marks are planned anew, and the bytes compared with what would be written.
+fn examine(l: &[u8]) -> Seen
+    ensures { λ r. ⌜ r ≡ seenOf (now (l .entry)) ⌝ }
+{
+    if l.len() < 25 {
+        return Seen::Nothing;
+    }
+    let a = signed(word_at(l, 1));
+    let b = signed(word_at(l, 5));
+    let p = signed(word_at(l, 9));
+    let q = signed(word_at(l, 13));
+    let m = word_at(l, 17);
+    let limit = Limit(p, q);
+    compare(Draft { a, b, limit, m }, l)
+}
+
+// Reads a ruler.
+pub fn read(bytes: &[u8]) -> Reading
+    ensures { λ r. ⌜ tellReading r ≡ rulerRead (now (bytes .entry)) ⌝ }
+{
+    match examine(bytes) {
+        Seen::Nothing => Reading::Refused(Refusal::NotARuler),
+        Seen::Ruler(d, p) => {
+            let limit = d.limit;
+            Reading::Ruler(Ruler {
+                a: d.a,
+                b: d.b,
+                p: limit.0,
+                q: limit.1,
+                m: d.m,
+                step: p.step,
+                marks: p.count as usize,
+            })
+        }
+    }
+}
+
+// Which of n marks v is, or n.
+fn index_of(p: KeyPoints, n: usize, v: i32) -> usize
+    requires { ⌜ ((k : ℕ) → k < n → Reachable p k) ⌝ }
+    ensures { λ r. ⌜ r ≡ indexOf v (listOf (element (p .first) (p .step)) n) ⌝ }
+{
+    let mut k = 0;
+    while k < n {
+        if mark(p, k) == v {
+            return k;
+        }
+        k += 1;
+    }
+    k
+}
+
+// Where the record of v lies.
+pub fn find_record(bytes: &[u8], v: i32) -> Part
+    ensures { λ r. ⌜ r ≡ recordIn (now (bytes .entry)) v ⌝ }
+{
+    match examine(bytes) {
+        Seen::Nothing => Part { start: 0, end: 0 },
+        Seen::Ruler(_, p) => {
+            let n = p.count as usize;
+            let k = index_of(p, n, v);
+            if k < n {
+                return Part {
+                    start: 25 + 20 * k,
+                    end: 45 + 20 * k,
+                };
+            }
+            Part { start: 0, end: 0 }
+        }
+    }
+}
+
+// Where the label of v lies, without its blanks.
+pub fn find_label(bytes: &[u8], v: i32) -> Part
+    ensures { λ r. ⌜ r ≡ labelIn (now (bytes .entry)) v ⌝ }
+{
+    let r = find_record(bytes, v);
+    let start = r.start;
+    let end = r.end;
+    if start < end {
+        let t = decimal::label(v);
+        let blanks = t.blanks;
+        return Part {
+            start: end - (11 - blanks),
+            end: end,
+        };
+    }
+    Part { start: 0, end: 0 }
+}
+
+// A part of the bytes.
+fn cut<'a>(bytes: &'a [u8], p: Part) -> &'a [u8]
+    requires { ⌜ Inside (now bytes) p ⌝ }
+    ensures { λ r. ⌜ (now r ≡ part p (now (bytes .entry))) × (r .ptr ≡ further (p .start) (bytes .entry .ptr)) ⌝ }
+{
+    let start = p.start;
+    let end = p.end;
+    &bytes[start..end]
+}
+
+// The label of v without its blanks, as the part of the bytes.
+pub fn label_of<'a>(bytes: &'a [u8], v: i32) -> &'a [u8]
+    ensures { λ r. ⌜ (now r ≡ labelText (now (bytes .entry)) v) × (r .ptr ≡ further (labelIn (now (bytes .entry)) v .start) (bytes .entry .ptr)) ⌝ }
+{
+    cut(bytes, find_label(bytes, v))
+}
+
+// The record of v, as the part of the bytes.
+fn record_of<'a>(bytes: &'a [u8], v: i32) -> &'a [u8]
+    ensures { λ r. ⌜ (now r ≡ recordText (now (bytes .entry)) v) × (r .ptr ≡ further (recordIn (now (bytes .entry)) v .start) (bytes .entry .ptr)) ⌝ }
+{
+    cut(bytes, find_record(bytes, v))
+}
+
+// The record of v in the left ruler where v is below zero, otherwise in the right.
+pub fn pair_record<'a>(left: &'a [u8], right: &'a [u8], v: i32) -> &'a [u8]
+    ensures { λ r. ⌜ (now r ≡ recordText (sideOf v (now (left .entry)) (now (right .entry))) v) × (r .ptr ≡ further (recordIn (sideOf v (now (left .entry)) (now (right .entry))) v .start) (sideOf v (left .entry .ptr) (right .entry .ptr))) ⌝ }
+{
+    if v < 0 {
+        record_of(left, v)
+    } else {
+        record_of(right, v)
+    }
+}
