@@ -54,6 +54,12 @@ make_archive() {
     export CULVRAOD_LIB_DIR=$archive_dir
 }
 
+# The ruler program, ours and that over plotters, and a million lines for both.
+make_program() {
+    rt check rule
+    "$built/cargo/$1/compare" lines >"$built/lines.txt"
+}
+
 # Cargo on one of the crates here, with everything that it makes under target/.
 build() {
     local command=$1 crate=$2

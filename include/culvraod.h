@@ -192,6 +192,60 @@ int32_t culv_whole_unmap(int32_t a, int32_t b, int32_t x, int32_t p, int32_t q,
 int32_t culv_real_unmap(double a, double b, int32_t x, int32_t p, int32_t q,
                         double *v);
 
+/* ---- Rulers as bytes ---- */
+
+/*
+ * The ruler of the whole axis from a to b, with the limits p and q on the film
+ * and the mark limit m, written to out, which has len bytes.
+ *
+ * A ruler is a record for the axis and one for each mark, ascending. The
+ * axis's has 25 bytes: the kind 1, a, b, p, q, m and the step. A mark's has 20:
+ * the kind 2, the needle, its place, and the needle in base ten with blanks on
+ * its left, 11 bytes in all. Numbers have four bytes, the lowest first.
+ *
+ * 0: *bytes is the number of bytes written, 25 + 20 * *marks.
+ * Refused, with nothing written:
+ *    1: a or b is not within -1000000000 to 1000000000;
+ *    2: p or q is not within -1000000 to 1000000;
+ *    3: no step serves;
+ *   13: len is too small.
+ */
+int32_t culv_ruler_write(int32_t a, int32_t b, int32_t p, int32_t q, uint32_t m,
+                         uint8_t *out, size_t len, size_t *bytes, size_t *marks);
+
+/*
+ * Reads a ruler: bytes that culv_ruler_write gives for the numbers in them, and
+ * no others.
+ *
+ * 0: the numbers that it was written for, its step and the number of marks.
+ * Refused, with nothing written:
+ *   14: the bytes are no ruler.
+ */
+int32_t culv_ruler_read(const uint8_t *bytes, size_t len, int32_t *a, int32_t *b,
+                        int32_t *p, int32_t *q, uint32_t *m, int32_t *step,
+                        size_t *marks);
+
+/*
+ * Where in a ruler the label of a mark lies, without its blanks.
+ *
+ * 0, always: *part_len bytes from bytes + *start on. Both are 0 where value is
+ * no mark of the ruler, or the bytes are no ruler.
+ */
+int32_t culv_ruler_label(const uint8_t *bytes, size_t len, int32_t value,
+                         size_t *start, size_t *part_len);
+
+/*
+ * Where in a pair of rulers the record of a mark lies: in the left one if value
+ * is below zero, otherwise in the right one; the other is not looked at.
+ *
+ * 0, always: *which is 0 for the left ruler or 1 for the right, and the record
+ * is *part_len bytes from *start on in that ruler: 20, or 0 with *start 0 where
+ * value is no mark of it, or its bytes are no ruler.
+ */
+int32_t culv_ruler_pair(const uint8_t *left, size_t left_len,
+                        const uint8_t *right, size_t right_len, int32_t value,
+                        uint32_t *which, size_t *start, size_t *part_len);
+
 #ifdef __cplusplus
 }
 #endif

@@ -1,4 +1,4 @@
-//! Runs plotters and culvraod side by side: `compare`, `bench` or `vectors`.
+//! Runs plotters and culvraod side by side: `compare`, `bench` or `vectors`; `lines` and `rule` are for the ruler program.
 //!
 //! Each family of calls has a module with an entry of each name; a new family is added below.
 
@@ -12,6 +12,7 @@ mod call;
 mod cases;
 mod lines;
 mod number;
+mod program;
 mod random;
 mod reference;
 
@@ -19,6 +20,8 @@ mod reference;
 mod beside;
 #[cfg(feature = "library")]
 mod lent;
+#[cfg(feature = "library")]
+mod rulers;
 #[cfg(feature = "library")]
 mod tally;
 #[cfg(feature = "library")]
@@ -35,6 +38,7 @@ fn compare() -> bool {
         places::compare(),
         counts::compare(),
         readings::compare(),
+        rulers::compare(),
     ];
     agrees.iter().all(|&agrees| agrees)
 }
@@ -47,6 +51,7 @@ fn bench() -> bool {
     places::bench();
     counts::bench();
     readings::bench();
+    rulers::bench();
     true
 }
 
@@ -68,7 +73,9 @@ fn main() -> ExitCode {
         #[cfg(feature = "library")]
         Some("bench") => bench(),
         Some("vectors") => vectors(),
-        _ => panic!("one of compare, bench, vectors is wanted"),
+        Some("lines") => program::lines(),
+        Some("rule") => program::rule(),
+        _ => panic!("one of compare, bench, vectors, lines, rule is wanted"),
     };
     if done {
         ExitCode::SUCCESS

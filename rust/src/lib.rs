@@ -25,6 +25,7 @@ pub mod numeric;
 pub mod places;
 pub mod readings;
 mod refusal;
+pub mod ruler;
 
 pub use limit::Limit;
 pub use numeric::{KeyPoints, RangedCoordf64, RangedCoordi32, RangedCoordusize};

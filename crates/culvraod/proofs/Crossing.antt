@@ -12,3 +12,6 @@ key-points-cross {A} {E} tell held step count e q = sym (ap (λ (d : Answer (A �
 
 pub single-cross : {A E : Type 0} (tell : E → Answer A) {rule : Answer A} {r x : E} (old : A) → tell r ≡ rule → r ≡ x → single (tell x) old ≡ single rule old
 single-cross {A} tell old e q = sym (ap (λ (d : Answer A). single d old) (sym e ∙ ap tell q))
+
+pub answer-cross : {A B E : Type 0} (f : Answer A → B) (tell : E → Answer A) {rule : Answer A} {r x : E} → tell r ≡ rule → r ≡ x → f (tell x) ≡ f rule
+answer-cross f tell e q = sym (ap f (sym e ∙ ap tell q))

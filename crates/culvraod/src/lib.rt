@@ -4,6 +4,8 @@ ghost use Rattle.numeric.specs.Calls.{wholeKeyPoints, indexKeyPoints};
 ghost use Rattle.numeric.specs.Whole.{wholeSize, wholeIndexOf, wholeFromIndex, wholeReading};
 ghost use Rattle.real.specs.Place.{wholePlace, realPlace};
 ghost use Rattle.real.specs.Reading.{realReading};
+ghost use Rattle.ruler.specs.Rule.{rulerWrite, rulerRead, recordIn, labelIn, sideOf};
+ghost use Rattle.culvraod.specs.Ruler.{rulerOf, readC, partC, pairC};
 ghost use Rattle.culvraod.specs.Boundary.{single, limitOf};
 ghost use Rattle.culvraod.specs.Numeric.{keyPointsC};
 use numeric::Count;
@@ -17,6 +19,8 @@ use numeric::RangedCoordusize;
 use numeric::RealReading;
 use numeric::Value;
 use ranged1d::Limit;
+use ruler::Reading;
+use ruler::Wrote;
 
 #[no_mangle]
 pub extern "C" fn culv_whole_key_points(
@@ -153,4 +157,100 @@ pub extern "C" fn culv_real_unmap(a: f64, b: f64, x: i32, p: i32, q: i32, v: &mu
         RealReading::Nothing => -1,
         RealReading::Refused(r) => r.number() as i32,
     }
+}
+
+#[no_mangle]
+pub extern "C" fn culv_ruler_write(
+    a: i32,
+    b: i32,
+    p: i32,
+    q: i32,
+    m: u32,
+    out: &mut [u8],
+    bytes: &mut usize,
+    marks: &mut usize,
+) -> i32
+    ensures { λ r. ⌜ (r, now (out .exit), now (bytes .exit), now (marks .exit)) ≡ keyPointsC (rulerWrite a b (limitOf p q) m (now (out .entry))) (now (bytes .entry)) (now (marks .entry)) ⌝ }
+{
+    match ruler::write(a, b, Limit(p, q), m, out) {
+        Wrote::Bytes(n, k) => {
+            *bytes = n;
+            *marks = k;
+            0
+        }
+        Wrote::Refused(r) => r.number() as i32,
+    }
+}
+
+#[no_mangle]
+pub extern "C" fn culv_ruler_read(
+    bytes: &[u8],
+    a: &mut i32,
+    b: &mut i32,
+    p: &mut i32,
+    q: &mut i32,
+    m: &mut u32,
+    step: &mut i32,
+    marks: &mut usize,
+) -> i32
+    ensures { λ r. ⌜ (r, now (a .exit), now (b .exit), now (p .exit), now (q .exit), now (m .exit), now (step .exit), now (marks .exit)) ≡ readC (rulerRead (now (bytes .entry))) (rulerOf (now (a .entry)) (now (b .entry)) (now (p .entry)) (now (q .entry)) (now (m .entry)) (now (step .entry)) (now (marks .entry))) ⌝ }
+{
+    match ruler::read(bytes) {
+        Reading::Ruler(r) => {
+            let first = r.a;
+            let second = r.b;
+            let from = r.p;
+            let to = r.q;
+            let s = r.step;
+            *a = first;
+            *b = second;
+            *p = from;
+            *q = to;
+            *m = r.m;
+            *step = s;
+            *marks = r.marks;
+            0
+        }
+        Reading::Refused(why) => why.number() as i32,
+    }
+}
+
+#[no_mangle]
+pub extern "C" fn culv_ruler_label(
+    bytes: &[u8],
+    value: i32,
+    start: &mut usize,
+    size: &mut usize,
+) -> i32
+    ensures { λ r. ⌜ (r, now (start .exit), now (size .exit)) ≡ partC (labelIn (now (bytes .entry)) value) ⌝ }
+{
+    let part = ruler::find_label(bytes, value);
+    *start = part.start;
+    *size = part.end - part.start;
+    0
+}
+
+#[no_mangle]
+pub extern "C" fn culv_ruler_pair(
+    left: &[u8],
+    right: &[u8],
+    value: i32,
+    which: &mut u32,
+    start: &mut usize,
+    size: &mut usize,
+) -> i32
+    ensures { λ r. ⌜ (r, now (which .exit), now (start .exit), now (size .exit)) ≡ pairC value (recordIn (sideOf value (now (left .entry)) (now (right .entry))) value) ⌝ }
+{
+    if value < 0 {
+        let part = ruler::find_record(left, value);
+        *which = 0;
+        *start = part.start;
+        *size = part.end - part.start;
+        return 0;
+    }
+    let part = ruler::find_record(right, value);
+    *which = 1;
+    *start = part.start;
+    *size = part.end - part.start;
+    0
 }

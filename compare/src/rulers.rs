@@ -1,0 +1,239 @@
+//! Rulers: built here from plotters' marks and places, and compared byte for byte.
+
+use culvraod::ruler::{label_of, pair_record, read, write, Ruler, Written};
+use culvraod::{Limit, RangedCoordi32, Refusal};
+use plotters::coord::ranged1d::Ranged;
+use std::fmt::{self, Display};
+
+use crate::admitted::{film, whole, BOUND};
+use crate::numeric::marks;
+use crate::program::drawn;
+use crate::random::Random;
+use crate::tally::{ensure, Tally};
+
+const DRAWN: usize = 5_000_000;
+const DAMAGED: usize = 20_000;
+
+/// What a ruler is asked for.
+#[derive(Clone, Copy)]
+struct Draft {
+    ends: [i32; 2],
+    limits: [i32; 2],
+    m: u32,
+}
+
+impl Display for Draft {
+    fn fmt(&self, out: &mut fmt::Formatter) -> fmt::Result {
+        let Draft { ends, limits, m } = self;
+        write!(out, "ends {ends:?}, limits {limits:?}, m {m}")
+    }
+}
+
+impl Draft {
+    fn random(random: &mut Random) -> Draft {
+        let mut number = |most| drawn(random, most) as i32;
+        let ends = [number(1_000_000_000), number(1_000_000_000)];
+        let limits = [number(1_000_000), number(1_000_000)];
+        let m = random.below(16) as u32;
+        Draft { ends, limits, m }
+    }
+
+    fn axis(self) -> RangedCoordi32 {
+        RangedCoordi32(self.ends[0], self.ends[1])
+    }
+
+    fn limit(self) -> Limit {
+        Limit(self.limits[0], self.limits[1])
+    }
+
+    /// How much there is to read in a draft that differs.
+    fn size(self) -> u128 {
+        let numbers = self.ends.iter().chain(&self.limits);
+        numbers.map(|n| u128::from(n.unsigned_abs())).sum::<u128>() + u128::from(self.m)
+    }
+
+    /// The step, and plotters' marks with their places; or the refusal.
+    fn plotters(self) -> Result<(i32, Vec<(i32, i32)>), i32> {
+        let [a, b] = self.ends;
+        let bound = i128::from(BOUND);
+        whole(self.ends).and(film(self.limits))?;
+        let rule = marks(&(-bound..=bound), a.into(), b.into(), self.m)?;
+        let axis = plotters::coord::RangedCoordi32::from(a..b);
+        let limits = (self.limits[0], self.limits[1]);
+        let needles = axis.key_points(self.m as usize);
+        let places = needles.iter().map(|needle| (*needle, axis.map(needle, limits)));
+        Ok((rule.step as i32, places.collect()))
+    }
+}
+
+fn bytes_of(draft: Draft, step: i32, marks: &[(i32, i32)]) -> Vec<u8> {
+    let Draft { ends, limits, m } = draft;
+    let mut bytes = vec![1];
+    let numbers = ends.iter().chain(&limits);
+    numbers.for_each(|n| bytes.extend(n.to_le_bytes()));
+    bytes.extend(m.to_le_bytes());
+    bytes.extend(step.to_le_bytes());
+    for (needle, place) in marks {
+        bytes.push(2);
+        bytes.extend(needle.to_le_bytes());
+        bytes.extend(place.to_le_bytes());
+        bytes.extend(format!("{needle:>11}").bytes());
+    }
+    bytes
+}
+
+fn check_refused(draft: Draft, refusal: i32, out: &mut [u8]) -> Result<(), String> {
+    out.fill(77);
+    let told = write(draft.axis(), draft.limit(), draft.m, out);
+    ensure(told.map_err(|why| why as i32) == Err(refusal), || {
+        format!("{told:?}, and not refused with {refusal}")
+    })?;
+    ensure(out.iter().all(|&byte| byte == 77), || "written to".into())
+}
+
+/// Every mark's label and record, and those of the numbers beside it.
+fn check_lookups(ruler: &[u8], marks: &[(i32, i32)]) -> Result<(), String> {
+    for (k, (needle, _)) in marks.iter().enumerate() {
+        let record = &ruler[25 + 20 * k..][..20];
+        let (left, right) = if *needle < 0 {
+            (ruler, &[][..])
+        } else {
+            (&[][..], ruler)
+        };
+        let found = pair_record(left, right, *needle);
+        ensure(std::ptr::eq(found, record), || format!("record of {needle}"))?;
+        let label = label_of(ruler, *needle);
+        let wanted = &record[20 - needle.to_string().len()..];
+        ensure(std::ptr::eq(label, wanted), || format!("label of {needle}"))?;
+        let beside = needle + 1;
+        if marks.iter().all(|&(other, _)| other != beside) {
+            ensure(label_of(ruler, beside).is_empty(), || format!("label of {beside}"))?;
+        }
+    }
+    Ok(())
+}
+
+fn check(draft: Draft, out: &mut [u8]) -> Result<(), String> {
+    let (step, marks) = match draft.plotters() {
+        Err(refusal) => return check_refused(draft, refusal, out),
+        Ok(told) => told,
+    };
+    let wanted = bytes_of(draft, step, &marks);
+    let size = wanted.len();
+    check_refused(draft, 13, &mut out[..size - 1])?;
+    out.fill(77);
+    let told = write(draft.axis(), draft.limit(), draft.m, out);
+    let (bytes, count) = (size, marks.len());
+    ensure(told == Ok(Written { bytes, marks: count }), || format!("{told:?}"))?;
+    ensure(out[..size] == wanted, || format!("{:?}", &out[..size]))?;
+    ensure(out[size..].iter().all(|&byte| byte == 77), || "written past its end".into())?;
+    let (axis, limit, m) = (draft.axis(), draft.limit(), draft.m);
+    let ruler = Ruler {
+        axis,
+        limit,
+        m,
+        step,
+        marks: count,
+    };
+    ensure(read(&wanted) == Ok(ruler), || format!("read {:?}", read(&wanted)))?;
+    check_lookups(&wanted, &marks)
+}
+
+/// Copies of a ruler with one byte changed, cut, lengthened, two records exchanged, or a label
+/// filled with other bytes.
+fn damaged(ruler: &[u8], random: &mut Random) -> Vec<Vec<u8>> {
+    let mut copies: Vec<Vec<u8>> = (0..ruler.len()).map(|len| ruler[..len].to_vec()).collect();
+    copies.push([ruler, &[0]].concat());
+    copies.push([ruler, &ruler[ruler.len() - 20..]].concat());
+    for at in 0..ruler.len() {
+        let mut copy = ruler.to_vec();
+        copy[at] ^= 1 << random.below(8);
+        copies.push(copy);
+    }
+    if ruler.len() >= 65 {
+        let mut copy = ruler.to_vec();
+        copy[25..65].rotate_left(20);
+        copies.push(copy);
+    }
+    if ruler.len() >= 45 && ruler[34] == b' ' {
+        let mut copy = ruler.to_vec();
+        copy[34] = b'0';
+        copies.push(copy);
+    }
+    copies
+}
+
+/// Whether bytes are what is written for the numbers in them, by the comparison's own rule.
+fn is_ruler(bytes: &[u8]) -> bool {
+    let Some(head) = bytes.get(..25) else {
+        return false;
+    };
+    let word = |at: usize| i32::from_le_bytes(head[at..at + 4].try_into().unwrap());
+    let draft = Draft {
+        ends: [word(1), word(5)],
+        limits: [word(9), word(13)],
+        m: word(17) as u32,
+    };
+    let bound = i128::from(BOUND);
+    let [a, b] = draft.ends;
+    let rule = whole(draft.ends)
+        .and(film(draft.limits))
+        .and_then(|()| marks(&(-bound..=bound), a.into(), b.into(), draft.m));
+    let right_size = rule.is_ok_and(|rule| bytes.len() == 25 + 20 * rule.count);
+    right_size
+        && draft
+            .plotters()
+            .is_ok_and(|(step, marks)| bytes == bytes_of(draft, step, &marks))
+}
+
+fn compare_damaged() -> bool {
+    let mut tally = Tally::new("damaged rulers");
+    let mut random = Random::fixed(2);
+    for _ in 0..DAMAGED {
+        let draft = Draft::random(&mut random);
+        let Ok((step, marks)) = draft.plotters() else {
+            continue;
+        };
+        for copy in damaged(&bytes_of(draft, step, &marks), &mut random) {
+            let found = read(&copy);
+            let agrees = match is_ruler(&copy) {
+                true => found.is_ok(),
+                false => found == Err(Refusal::NotARuler) && label_of(&copy, 0).is_empty(),
+            };
+            let what = || format!("{found:?} for {copy:?}");
+            tally.count(draft.size(), draft, ensure(agrees, what));
+        }
+    }
+    tally.close()
+}
+
+pub fn compare() -> bool {
+    let mut tally = Tally::new("rulers: write, read, label, pair");
+    let mut random = Random::new();
+    let mut out = [0; 400];
+    for _ in 0..DRAWN {
+        let draft = Draft::random(&mut random);
+        tally.count(draft.size(), draft, check(draft, &mut out));
+    }
+    [tally.close(), compare_damaged()].iter().all(|&agrees| agrees)
+}
+
+/// Writes and reads a ruler of a million marks, in bytes a second.
+pub fn bench() {
+    let (axis, limit, m) = (RangedCoordi32(-500_000, 499_999), Limit(-1_000, 1_000), 1_000_000);
+    let mut out = vec![0; 25 + 20 * 1_000_001];
+    let mut rate = |title: &str, call: &mut dyn FnMut(&mut [u8]) -> usize| {
+        let best = (0..9).map(|_| {
+            let start = std::time::Instant::now();
+            call(&mut out) as f64 / start.elapsed().as_secs_f64()
+        });
+        let best = best.fold(0.0, f64::max);
+        println!("{title} a ruler of a million marks: {:.0} million bytes a second", best / 1e6);
+    };
+    rate("writing", &mut |out| write(axis, limit, m, out).unwrap().bytes);
+    rate("reading", &mut |out| {
+        let size = out.len() - 20;
+        assert_eq!(read(&out[..size]).map(|ruler| ruler.marks), Ok(1_000_000));
+        size
+    });
+}

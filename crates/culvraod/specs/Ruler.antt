@@ -1,0 +1,27 @@
+-- The C calls on rulers: what each returns, and what lies behind its pointers afterwards, in their order. Assumes nothing.
+use Prim.Native.Nat.{ℕ, _-_}
+use lib.IntN.{ℤ, pos}
+use Rattle.ranged1d.specs.Answer.{Answer}
+use Rattle.ruler.specs.declared.Ruler.{Ruler}
+use Rattle.ruler.specs.declared.Part.{Part}
+use Rattle.ruler.specs.Rule.{sideOf}
+use Rattle.culvraod.specs.Boundary.{code, outAfter}
+
+-- the numbers of a ruler, one behind each pointer
+abbrev pub rulerOf : ℤ → ℤ → ℤ → ℤ → ℕ → ℤ → ℕ → Ruler
+rulerOf a b p q m s n = record { a = a; b = b; p = p; q = q; m = m; step = s; marks = n }
+
+abbrev pub withNumbers : ℤ → Ruler → ℤ × ℤ × ℤ × ℤ × ℤ × ℕ × ℤ × ℕ
+withNumbers c r = (c, r .a, r .b, r .p, r .q, r .m, r .step, r .marks)
+
+-- the reader: the code, and the numbers of the ruler, or those that were there
+abbrev pub readC : Answer Ruler → Ruler → ℤ × ℤ × ℤ × ℤ × ℤ × ℕ × ℤ × ℕ
+readC x old = withNumbers (code x) (outAfter (λ r. r) x old)
+
+-- a look-up: always answered, with the part's start and its length
+abbrev pub partC : Part → ℤ × ℕ × ℕ
+partC r = (pos 0, r .start, r .end - r .start)
+
+-- a look-up in a pair: before these the side that was looked at, 0 for the left and 1 for the right
+abbrev pub pairC : ℤ → Part → ℤ × ℕ × ℕ × ℕ
+pairC v r = (pos 0, sideOf v 0 1, r .start, r .end - r .start)

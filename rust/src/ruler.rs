@@ -1,0 +1,205 @@
+//! Rulers as bytes.
+
+use crate::refusal::{answered, Refusal};
+use crate::{Limit, RangedCoordi32};
+
+// The C functions, as include/culvraod.h declares and describes them.
+extern "C" {
+    pub fn culv_ruler_write(
+        a: i32,
+        b: i32,
+        p: i32,
+        q: i32,
+        m: u32,
+        out: *mut u8,
+        len: usize,
+        bytes: *mut usize,
+        marks: *mut usize,
+    ) -> i32;
+
+    pub fn culv_ruler_read(
+        bytes: *const u8,
+        len: usize,
+        a: *mut i32,
+        b: *mut i32,
+        p: *mut i32,
+        q: *mut i32,
+        m: *mut u32,
+        step: *mut i32,
+        marks: *mut usize,
+    ) -> i32;
+
+    pub fn culv_ruler_label(
+        bytes: *const u8,
+        len: usize,
+        value: i32,
+        start: *mut usize,
+        part_len: *mut usize,
+    ) -> i32;
+
+    pub fn culv_ruler_pair(
+        left: *const u8,
+        left_len: usize,
+        right: *const u8,
+        right_len: usize,
+        value: i32,
+        which: *mut u32,
+        start: *mut usize,
+        part_len: *mut usize,
+    ) -> i32;
+}
+
+/// A ruler that was written to the beginning of lent bytes.
+#[derive(Clone, Copy, Debug, Default, PartialEq, Eq)]
+pub struct Written {
+    /// The number of bytes.
+    pub bytes: usize,
+    /// The number of marks.
+    pub marks: usize,
+}
+
+/// A ruler that was read.
+#[derive(Clone, Copy, Debug, PartialEq, Eq)]
+pub struct Ruler {
+    /// The axis.
+    pub axis: RangedCoordi32,
+    /// Its limits on the film.
+    pub limit: Limit,
+    /// The mark limit.
+    pub m: u32,
+    /// The distance between neighbouring marks.
+    pub step: i32,
+    /// The number of marks.
+    pub marks: usize,
+}
+
+/// Writes the ruler of the axis, its limits on the film and the mark limit to `out`.
+///
+/// Refused as [`Refusal::WholeNotAdmitted`], [`Refusal::LimitNotAdmitted`],
+/// [`Refusal::NoStep`] or [`Refusal::OutTooShort`].
+pub fn write(
+    axis: RangedCoordi32,
+    limit: Limit,
+    m: u32,
+    out: &mut [u8],
+) -> Result<Written, Refusal> {
+    let mut told = Written::default();
+    // SAFETY: `out` is bytes of that length, and the two results are locals of their own.
+    let code = unsafe {
+        culv_ruler_write(
+            axis.0,
+            axis.1,
+            limit.0,
+            limit.1,
+            m,
+            out.as_mut_ptr(),
+            out.len(),
+            &mut told.bytes,
+            &mut told.marks,
+        )
+    };
+    answered("culv_ruler_write", code).map(|()| told)
+}
+
+/// Reads a ruler, or refuses bytes that are none as [`Refusal::NotARuler`].
+pub fn read(bytes: &[u8]) -> Result<Ruler, Refusal> {
+    let (mut axis, mut limit) = (RangedCoordi32(0, 0), Limit(0, 0));
+    let (mut m, mut step, mut marks) = (0, 0, 0);
+    // SAFETY: `bytes` has that length, and the results are locals of their own.
+    let code = unsafe {
+        culv_ruler_read(
+            bytes.as_ptr(),
+            bytes.len(),
+            &mut axis.0,
+            &mut axis.1,
+            &mut limit.0,
+            &mut limit.1,
+            &mut m,
+            &mut step,
+            &mut marks,
+        )
+    };
+    answered("culv_ruler_read", code).map(|()| Ruler {
+        axis,
+        limit,
+        m,
+        step,
+        marks,
+    })
+}
+
+/// The label of a mark, without its blanks: a part of the ruler, or empty.
+pub fn label_of(bytes: &[u8], value: i32) -> &[u8] {
+    let (mut start, mut len) = (0, 0);
+    // SAFETY: `bytes` has that length, and the two results are locals of their own.
+    let code =
+        unsafe { culv_ruler_label(bytes.as_ptr(), bytes.len(), value, &mut start, &mut len) };
+    answered("culv_ruler_label", code).expect("a look-up is always answered");
+    &bytes[start..start + len]
+}
+
+/// The record of a mark in the left ruler if it is below zero, otherwise in the right one: a part
+/// of that ruler, or empty.
+pub fn pair_record<'a>(left: &'a [u8], right: &'a [u8], value: i32) -> &'a [u8] {
+    let (mut which, mut start, mut len) = (0, 0, 0);
+    // SAFETY: both rulers have those lengths, and the three results are locals of their own.
+    let code = unsafe {
+        culv_ruler_pair(
+            left.as_ptr(),
+            left.len(),
+            right.as_ptr(),
+            right.len(),
+            value,
+            &mut which,
+            &mut start,
+            &mut len,
+        )
+    };
+    answered("culv_ruler_pair", code).expect("a look-up is always answered");
+    &[left, right][which as usize][start..start + len]
+}
+
+#[cfg(test)]
+mod tests {
+    use super::*;
+
+    #[test]
+    fn a_ruler_is_written_read_and_looked_up() {
+        let (axis, limit) = (RangedCoordi32(-15, -3), Limit(0, 120));
+        let mut out = [77; 110];
+        let told = write(axis, limit, 4, &mut out);
+        let (bytes, marks) = (105, 4);
+        assert_eq!(told, Ok(Written { bytes, marks }));
+        assert_eq!(out[105..], [77; 5]);
+        let ruler = &out[..105];
+        let step = 5;
+        let whole = Ruler {
+            axis,
+            limit,
+            m: 4,
+            step,
+            marks,
+        };
+        assert_eq!(read(ruler), Ok(whole));
+        assert_eq!(label_of(ruler, -10), b"-10");
+        assert_eq!(label_of(ruler, -11), b"");
+        assert_eq!(pair_record(ruler, &[], -10), &ruler[45..65]);
+        assert_eq!(pair_record(&[], ruler, 0), &ruler[85..105]);
+        assert_eq!(pair_record(&[], ruler, -10), b"");
+    }
+
+    #[test]
+    fn refusals_write_nothing() {
+        let mut out = [77; 104];
+        let mut refused = |a, q, m| write(RangedCoordi32(a, -3), Limit(0, q), m, &mut out);
+        assert_eq!(
+            refused(1_000_000_001, 1_000_001, 0),
+            Err(Refusal::WholeNotAdmitted)
+        );
+        assert_eq!(refused(-15, 1_000_001, 0), Err(Refusal::LimitNotAdmitted));
+        assert_eq!(refused(-15, 120, 0), Err(Refusal::NoStep));
+        assert_eq!(refused(-15, 120, 4), Err(Refusal::OutTooShort));
+        assert_eq!(out, [77; 104]);
+        assert_eq!(read(&out), Err(Refusal::NotARuler));
+    }
+}
