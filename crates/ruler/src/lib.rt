@@ -199,12 +199,12 @@ fn put_marks(d: Draft, p: KeyPoints, n: usize, out: &mut [u8])
     requires { ⌜ ((k : ℕ) → k < n → Reachable p k) ⌝ }
     ensures { λ _. ⌜ now (out .exit) ≡ joined (map (markAt (d .a) (d .b) (d .limit)) (listOf (element (p .first) (p .step)) n)) ++ drop (20 * n) (now (out .entry)) ⌝ }
 {
-    let mut k = 0;
-    while k < n {
-        let body = body_at(d, p, k);
-        let at = 20 * k;
+    let mut i = 0;
+    while i < n {
+        let body = body_at(d, p, i);
+        let at = 20 * i;
         put_record(MARK, &body, &mut out[at..]);
-        k += 1;
+        i += 1;
     }
 }
 

@@ -20,7 +20,7 @@ loop-holds : tie.Need-loop-holds Inv-loop μ-loop
 loop-holds c = (omega arith, refl, refl)
 
 body-at-requires : tie.Need-body-at-requires Inv-loop μ-loop
-body-at-requires c κs = c .before .before .before .pre .1 (c .before .loop .k) (c .loop-test .taken)
+body-at-requires c κs = c .before .before .before .pre .1 (c .before .loop .i) (c .loop-test .taken)
 
 mul-at : tie.Need-mul-at Inv-loop μ-loop
 mul-at c = omega arith
@@ -40,10 +40,10 @@ part-put-record-end c = omega arith
 put-record-requires : tie.Need-put-record-requires Inv-loop μ-loop
 put-record-requires c κs =
     let looped = c .before .before .before .before in
-    rw (rest-is (20 * looped .loop .k) (looped .loop .out), length-drop) (omega (arith, c .before .before .body-at .ensures .1))
+    rw (rest-is (20 * looped .loop .i) (looped .loop .out), length-drop) (omega (arith, c .before .before .body-at .ensures .1))
 
-add-k : tie.Need-add-k Inv-loop μ-loop
-add-k c = omega arith
+add-i : tie.Need-add-i Inv-loop μ-loop
+add-i c = omega arith
 
 loop-less : tie.Need-loop-less Inv-loop μ-loop
 loop-less c = omega arith
@@ -54,7 +54,7 @@ loop-again c =
     let made = done .before .before .before in
     let looped = made .before .before in
     let at = looped .before .before in
-    let k = looped .loop .k in
+    let k = looped .loop .i in
     let old = at .args .out .now in
     let a = at .args .d .a in
     let b = at .args .d .b in
@@ -74,7 +74,7 @@ same-length c = c .before .loop .inv .2
 
 returns : tie.Need-returns Inv-loop μ-loop
 returns c =
-    let end : c .before .loop .k ≡ c .before .before .before .args .n = omega arith in
+    let end : c .before .loop .i ≡ c .before .before .before .args .n = omega arith in
     rw (← end) (c .before .loop .inv .1)
 
 pub put-marks-spec : {M : Type 1} → statement M
@@ -91,7 +91,7 @@ put-marks-spec =
     part-put-record-start
     part-put-record-end
     put-record-requires
-    add-k
+    add-i
     loop-less
     loop-again
     same-length
