@@ -142,5 +142,9 @@ pub fn bench<C: Library + Cases>() {
             black_box(behind_a_call(call));
         }
     };
-    report_batch(C::CALL, BATCH as u64, [&mut { ours }, &mut { plotters }, &mut { behind }]);
+    report_batch(
+        C::CALL,
+        BATCH as u64,
+        [&mut { ours }, &mut { plotters }, &mut { behind }],
+    );
 }

@@ -61,7 +61,9 @@ impl Draft {
         let axis = plotters::coord::RangedCoordi32::from(a..b);
         let limits = (self.limits[0], self.limits[1]);
         let needles = axis.key_points(self.m as usize);
-        let places = needles.iter().map(|needle| (*needle, axis.map(needle, limits)));
+        let places = needles
+            .iter()
+            .map(|needle| (*needle, axis.map(needle, limits)));
         Ok((rule.step as i32, places.collect()))
     }
 }
@@ -101,13 +103,17 @@ fn check_lookups(ruler: &[u8], marks: &[(i32, i32)]) -> Result<(), String> {
             (&[][..], ruler)
         };
         let found = pair_record(left, right, *needle);
-        ensure(std::ptr::eq(found, record), || format!("record of {needle}"))?;
+        ensure(std::ptr::eq(found, record), || {
+            format!("record of {needle}")
+        })?;
         let label = label_of(ruler, *needle);
         let wanted = &record[20 - needle.to_string().len()..];
         ensure(std::ptr::eq(label, wanted), || format!("label of {needle}"))?;
         let beside = needle + 1;
         if marks.iter().all(|&(other, _)| other != beside) {
-            ensure(label_of(ruler, beside).is_empty(), || format!("label of {beside}"))?;
+            ensure(label_of(ruler, beside).is_empty(), || {
+                format!("label of {beside}")
+            })?;
         }
     }
     Ok(())
@@ -124,9 +130,17 @@ fn check(draft: Draft, out: &mut [u8]) -> Result<(), String> {
     out.fill(77);
     let told = write(draft.axis(), draft.limit(), draft.m, out);
     let (bytes, count) = (size, marks.len());
-    ensure(told == Ok(Written { bytes, marks: count }), || format!("{told:?}"))?;
+    ensure(
+        told == Ok(Written {
+            bytes,
+            marks: count,
+        }),
+        || format!("{told:?}"),
+    )?;
     ensure(out[..size] == wanted, || format!("{:?}", &out[..size]))?;
-    ensure(out[size..].iter().all(|&byte| byte == 77), || "written past its end".into())?;
+    ensure(out[size..].iter().all(|&byte| byte == 77), || {
+        "written past its end".into()
+    })?;
     let (axis, limit, m) = (draft.axis(), draft.limit(), draft.m);
     let ruler = Ruler {
         axis,
@@ -135,7 +149,9 @@ fn check(draft: Draft, out: &mut [u8]) -> Result<(), String> {
         step,
         marks: count,
     };
-    ensure(read(&wanted) == Ok(ruler), || format!("read {:?}", read(&wanted)))?;
+    ensure(read(&wanted) == Ok(ruler), || {
+        format!("read {:?}", read(&wanted))
+    })?;
     check_lookups(&wanted, &marks)
 }
 
@@ -215,12 +231,18 @@ pub fn compare() -> bool {
         let draft = Draft::random(&mut random);
         tally.count(draft.size(), draft, check(draft, &mut out));
     }
-    [tally.close(), compare_damaged()].iter().all(|&agrees| agrees)
+    [tally.close(), compare_damaged()]
+        .iter()
+        .all(|&agrees| agrees)
 }
 
 /// Writes and reads a ruler of a million marks, in bytes a second.
 pub fn bench() {
-    let (axis, limit, m) = (RangedCoordi32(-500_000, 499_999), Limit(-1_000, 1_000), 1_000_000);
+    let (axis, limit, m) = (
+        RangedCoordi32(-500_000, 499_999),
+        Limit(-1_000, 1_000),
+        1_000_000,
+    );
     let mut out = vec![0; 25 + 20 * 1_000_001];
     let mut rate = |title: &str, call: &mut dyn FnMut(&mut [u8]) -> usize| {
         let best = (0..9).map(|_| {
@@ -228,9 +250,14 @@ pub fn bench() {
             call(&mut out) as f64 / start.elapsed().as_secs_f64()
         });
         let best = best.fold(0.0, f64::max);
-        println!("{title} a ruler of a million marks: {:.0} million bytes a second", best / 1e6);
+        println!(
+            "{title} a ruler of a million marks: {:.0} million bytes a second",
+            best / 1e6
+        );
     };
-    rate("writing", &mut |out| write(axis, limit, m, out).unwrap().bytes);
+    rate("writing", &mut |out| {
+        write(axis, limit, m, out).unwrap().bytes
+    });
     rate("reading", &mut |out| {
         let size = out.len() - 20;
         assert_eq!(read(&out[..size]).map(|ruler| ruler.marks), Ok(1_000_000));
