@@ -123,7 +123,7 @@ impl RangedCoordi32 {
         if a == b {
             return Whole::Number((l / 2) as i64);
         }
-        let t = ((v - a) as f64) / ((b - a) as f64);
+        let t = real::as_f64(v - a) / real::as_f64(b - a);
         real::place_along(p, q, l, t)
     }
 

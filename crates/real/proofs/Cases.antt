@@ -10,19 +10,18 @@ use lib.Signed.{ltZ, leZ}
 use lib.Ieee.{Float, nan, inf, fin, binary64, up, down, unlike, add, mul, eq, ofInt}
 use lib.Ieee.Fits.{down-pos}
 use lib.Ieee.Exact.{HasValue}
-use mir.Syntax.{w32}
-use mir.Val.{SFits, ofZ}
-use borrow.Author.Tests.{lt-ltb, le-leb, leb-true, ne-eqb}
+use borrow.Author.Tests.{ltb-true, le-leb, leb-true, ne-eqb}
 use Rattle.ranged1d.specs.Answer.{Answer, given, _when_, lowest}
 use Rattle.ranged1d.specs.declared.Limit.{Limit}
 use Rattle.ranged1d.specs.Admitted.{pixelAdmitted, limitAdmitted}
-use Rattle.ranged1d.proofs.Whole.{both-ways, far32, not-lt}
+use Rattle.ranged1d.proofs.Whole.{both-ways, not-lt}
 use Rattle.rounding.specs.Integral.{Way}
 use Rattle.rounding.specs.Within.{within}
 use Rattle.rounding.specs.declared.Whole.{Whole}
 use Rattle.rounding.specs.declared.Whole.the-variants.{Number, Beyond}
 use Rattle.rounding.proofs.Bounds.{Held, within-held}
-use Rattle.real.specs.Place.{farthest, along, plus, orEnd, product, rising, falling, isBeyond, number}
+use Rattle.rounding.proofs.Signs.{negated}
+use Rattle.real.specs.Place.{farthest, along, product, isBeyond, number}
 use Rattle.real.specs.Reading.{lower, upper, outside, same}
 use Rattle.real.proofs.Signs.{int-value}
 
@@ -31,21 +30,22 @@ pub along-none : (p q l : ℤ) (t : Float) → l ≡ pos 0 → along p q l t ≡
 unfolding along
 along-none p q l t e = rw e
 
--- a number that is not 0, as the code tests its bits
-abbrev pub Some : ℤ → Type 0
-Some l = ofZ w32 l ≡ 0 → ⊥
+-- The steps of a film of length l, from those of one that runs upward; and by the test that the code makes
+abbrev pub facing : ℤ → Whole → Whole
+facing (pos l) w = w
+facing (negsuc l) w = negated w
 
-pub along-up : (p q l : ℤ) (t : Float) → ltZ (pos 0) l ≡ true → along p q l t ≡ orEnd p q t (plus p (rising l t))
-unfolding along
-along-up p q (pos zero) t u = absurd (true≢false (sym u))
-along-up p q (pos (suc l)) t u = refl
-along-up p q (negsuc l) t u = absurd (true≢false (sym u))
+pub facing-up : (l : ℤ) (w : Whole) → ltZ l (pos 0) ≡ false → facing l w ≡ w
+facing-up (pos n) w h = refl
+facing-up (negsuc n) w h = absurd (true≢false h)
 
-pub along-down : (p q l : ℤ) (t : Float) → Some l → ltZ (pos 0) l ≡ false → along p q l t ≡ orEnd p q t (plus p (falling l t))
-unfolding along
-along-down p q (pos zero) t n u = absurd (n refl)
-along-down p q (pos (suc l)) t n u = absurd (true≢false (sym (lt-ltb 0 (suc l) (omega arith)) ∙ u))
-along-down p q (negsuc l) t n u = refl
+pub facing-down : (l : ℤ) (w : Whole) → ltZ l (pos 0) ≡ true → facing l w ≡ negated w
+facing-down (pos n) w h = absurd (omega (arith, ltb-true n 0 h))
+facing-down (negsuc n) w h = refl
+
+pub facing-beyond : (l : ℤ) → facing l Beyond ≡ Beyond
+facing-beyond (pos n) = refl
+facing-beyond (negsuc n) = refl
 
 -- ---- The whole number that is added to p, within a bound b: w is `floors` and d a thousandth, or w is `ceils` and d minus that
 abbrev pub steps : Way → ℕ → Float → ℤ → Float → Whole
@@ -83,10 +83,10 @@ is-inf (inf false) true h = absurd (true≢false (sym h))
 is-inf (inf false) false h = refl
 is-inf (fin s m e) u h = absurd (true≢false (sym h))
 
-module _ (w : Way) (b : ℕ) (s : Bool) (m : ℕ) (e : ℤ) (l : ℤ) (fits : SFits w32 l) (some : Some l) where
+module _ (w : Way) (b : ℕ) (s : Bool) (m : ℕ) (e : ℤ) (l : ℤ) (held : natAbs l ≤ 2 ^ 53) (some : 0 < natAbs l) where
   steps-inf : (u : Bool) → isBeyond (steps w b (fin s m e) l (inf u)) ≡ true
   unfolding within add
-  steps-inf u = rw (product-inf l u (omega (arith, far32 l fits)) (some-size l (λ e. some (ap (ofZ w32) e))) .1)
+  steps-inf u = rw (product-inf l u held some .1)
 
   -- so that a t that does not is not infinite
   pub no-end : (t : Float) → isBeyond (steps w b (fin s m e) l t) ≡ false → (u : Bool) → eq t (inf u) ≡ false

@@ -1,20 +1,23 @@
--- Whole numbers as floats: their differences are exact, so that the share of a whole axis is one quotient. Assumes nothing.
+-- Whole numbers as floats: their differences are exact, so that the share of a whole axis is one quotient; and what they are read from
+-- as bits. Assumes nothing.
 use mathlib.Core.Path.{_≡_, refl, sym, ap, ap₂, subst, _∙_}
 use mathlib.Core.Bool.{Bool, true, false, not, _||_, Bool·beq, true≢false}
 use mathlib.Core.Logic.{_⊎_, inl, inr}
-use Prim.Native.Nat.{ℕ, zero, suc, _+_, _-_, _*_, _^_, _≤_}
+use Prim.Native.Nat.{ℕ, zero, suc, _+_, _-_, _*_, _/_, _%_, _^_, _≤_, _<_}
 use native.Mathlib.Nat.{add-zero, mul-one, zero-mul, mul-right-comm, eq-of-mul-eq-mul-right}
 use native.Mathlib.Omega.{arith}
-use lib.IntN.{ℤ, pos, negsuc, natAbs, _+ℤ_, _-ℤ_, -ℤ-+ℤ-cancel, +ℤ-idl, +ℤ-idr}
+use lib.IntN.{ℤ, pos, negsuc, natAbs, negℤ, _+ℤ_, _-ℤ_, -ℤ-+ℤ-cancel, +ℤ-idl, +ℤ-idr, +ℤ-comm, +ℤ-assoc, +ℤ-invr, negℤ-+ℤ}
 use lib.Dec.{T, eqb, eqb→eq}
-use lib.Ieee.{Float, nan, inf, fin, binary64, up, down, round, neg, sum, add, sub, div, eq, ofInt, isNan}
-use lib.Ieee.Exact.{HasValue}
-use lib.Ieee.Back.{round-whole}
-use lib.Ieee.Fits.{down-pos}
+use lib.Ieee.{Float, nan, inf, fin, binary64, up, down, odd, round, neg, sum, add, sub, div, eq, ofInt, ofBits, ofFields, nanBits, isNan}
+use lib.Pow.{pow-pos}
+use lib.Ieee.Bits.{ofBits-fits, nanBits-above}
+use lib.Ieee.Exact.{HasValue, odd-sign}
+use lib.Ieee.Back.{round-whole, whole-unique}
+use lib.Ieee.Fits.{down-pos, round-fits}
 use mir.Facts.{and-yes, or-yes}
-use borrow.Author.Tests.{le-ltb}
+use borrow.Author.Tests.{le-ltb, lt-leb}
 use Rattle.rounding.proofs.Signs.{round-neg}
-use Rattle.rounding.proofs.Sums.{add-whole, whole-sum}
+use Rattle.rounding.proofs.Sums.{ones, add-whole, whole-sum}
 use Rattle.real.specs.Place.{share}
 use Rattle.real.proofs.Signs.{level-same, int-value, int-neg}
 
@@ -37,6 +40,41 @@ unfolding sub
 less-int x (pos zero) h k = ap (add binary64 (ofInt binary64 x)) none-turned ∙ minus-none x h ∙ ap (ofInt binary64) (sym (+ℤ-idr x))
 less-int x (pos (suc n)) h k = ap (add binary64 (ofInt binary64 x)) (sym (int-neg (pos (suc n)) (λ e. omega (arith, ap natAbs e)))) ∙ whole-sum binary64 x (negsuc n) h k
 less-int x (negsuc n) h k = ap (add binary64 (ofInt binary64 x)) (sym (int-neg (negsuc n) (λ e. omega (arith, ap natAbs e)))) ∙ whole-sum binary64 x (pos (suc n)) h k
+
+-- ---- from 2^52 to 2^53 the low bits count ones
+abbrev pub Low : ℕ → Type 0
+Low k = k < 4294967296
+
+low-number : (k : ℕ) → Low k → ofBits binary64 (4841369599423283200 + k) ≡ odd 53 false (4503599627370496 + k) 1074 1074
+unfolding ofBits ofFields
+low-number k h =
+    let field : (4841369599423283200 + k) % 9223372036854775808 / 4503599627370496 ≡ 1075 = omega arith in
+    let digits : (4841369599423283200 + k) % 4503599627370496 ≡ k = omega arith in
+    rw (lt-leb 9223372036854775808 (4841369599423283200 + k) (omega arith), field, digits)
+
+pub low-bits : (k : ℕ) → Low k → ofBits binary64 (4841369599423283200 + k) ≡ ofInt binary64 (pos (4503599627370496 + k))
+unfolding ofInt
+low-bits k h =
+    let n = 4503599627370496 + k in
+    let x = ofBits binary64 (4841369599423283200 + k) in
+    let v : HasValue x false n 1 = ones x false n (2 ^ 1074) (pow-pos 1074) (subst (λ (y : Float). HasValue y false (n * 2 ^ 1074) (2 ^ 1074)) (sym (low-number k h)) (odd-sign 53 false n 1074 1074)) in
+    whole-unique binary64 x (round binary64 false n 1) false n (ofBits-fits binary64 _) (round-fits binary64 false n 1) v (round-whole binary64 false n (omega arith))
+
+pub low-no-nan : (k : ℕ) → Low k → T (not (nanBits binary64 (4841369599423283200 + k)))
+low-no-nan k h =
+    let n = 4841369599423283200 + k in
+    subst (λ (b : Bool). T (not b)) (sym (nanBits-above binary64 n ∙ le-ltb 9218868437227405312 (n % 9223372036854775808) (omega arith))) tt
+
+-- with 2^52 and j taken off again
+pub low-less : (k j : ℕ) → Low k → Low j → sub binary64 (ofInt binary64 (pos (4503599627370496 + k))) (ofBits binary64 (4841369599423283200 + j)) ≡ ofInt binary64 (pos k -ℤ pos j)
+low-less k j h g =
+    let c = pos 4503599627370496 in
+    rw (low-bits j g) (less-int (c +ℤ pos k) (c +ℤ pos j) (omega arith) (omega arith) ∙ ap (ofInt binary64) (both-more c (pos k) (pos j)))
+  where
+    both-more : (c x y : ℤ) → (c +ℤ x) -ℤ (c +ℤ y) ≡ x -ℤ y
+    both-more c x y =
+        ap (λ (z : ℤ). z -ℤ (c +ℤ y)) (+ℤ-comm c x) ∙ ap (λ (z : ℤ). (x +ℤ c) +ℤ z) (negℤ-+ℤ c y) ∙ +ℤ-assoc x c (negℤ c +ℤ negℤ y)
+        ∙ ap (λ (z : ℤ). x +ℤ z) (sym (+ℤ-assoc c (negℤ c) (negℤ y)) ∙ ap (λ (z : ℤ). z +ℤ negℤ y) (+ℤ-invr c) ∙ +ℤ-idl (negℤ y))
 
 -- every number but NaN equals itself
 pub eq-self : (x : Float) → T (not (isNan x)) → eq x x ≡ true

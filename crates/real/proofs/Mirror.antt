@@ -5,7 +5,7 @@ use mathlib.Core.Bool.{Bool, true, false, not, cond, _&&_, true≢false}
 use Prim.Native.Nat.{ℕ, zero, suc, _≤_, _^_}
 use native.Mathlib.Omega.{arith}
 use lib.Dec.{leb}
-use lib.IntN.{ℤ, pos, negsuc, negℤ, negℤ-negℤ, negℤ-+ℤ, natAbs, _-ℤ_}
+use lib.IntN.{ℤ, pos, negsuc, negℤ, negℤ-negℤ, negℤ-+ℤ, natAbs, _+ℤ_, _-ℤ_}
 use lib.Signed.{quotZ}
 use lib.Ieee.{Float, inf, binary64, neg, add, sub, mul, eq, ofInt, ofBits}
 use borrow.Author.Tests.{leb-true}
@@ -19,9 +19,9 @@ use Rattle.rounding.specs.declared.Whole.{Whole}
 use Rattle.rounding.specs.declared.Whole.the-variants.{Number, Beyond}
 use Rattle.rounding.proofs.Laws.{ceil-within-neg}
 use Rattle.rounding.proofs.Signs as whole
-use Rattle.real.specs.Place.{farthest, milli, share, rising, falling, plus, orEnd, along, spot, realPlace, wholePlace, wholeSpot}
+use Rattle.real.specs.Place.{farthest, milli, share, rising, falling, plus, orEnd, along, spot, isBeyond, realPlace, wholePlace, wholeSpot}
 use Rattle.real.specs.Mirror.{mirrored, negated, Mirrored}
-use Rattle.real.proofs.Cases.{answered, steps}
+use Rattle.real.proofs.Cases.{answered, facing, facing-beyond, no-end, some-size, steps}
 use Rattle.real.proofs.Signs.{zeroOf, Alike, same-through, Turns, turns-alike, eq-neg, add-turns, sub-turns, mul-neg, mul-right, div-alike, eq-alike, int-neg, int-alike}
 use Rattle.real.proofs.Exact.{differ, no-difference, whole-share}
 use Rattle.real.proofs.Readings.{limit-neg, length-neg, readings}
@@ -55,6 +55,23 @@ rises : (n : ℕ) (t : Float) → rising (pos (suc n)) t ≡ whole.negated (fall
 rises n t = sym (ap whole.negated (falls n t) ∙ twice (rising (pos (suc n)) t))
 
 -- ---- the place at a share
+-- by the steps of the film that runs upward
+along-facing : (p q l : ℤ) (t : Float) → (l ≡ pos 0 → ⊥) → along p q l t ≡ orEnd p q t (plus p (facing l (rising (pos (natAbs l)) t)))
+unfolding along
+along-facing p q (pos zero) t n = absurd (n refl)
+along-facing p q (pos (suc l)) t n = refl
+along-facing p q (negsuc l) t n = ap (λ (w : Whole). orEnd p q t (plus p w)) (falls l t)
+
+module _ (p q l : ℤ) (t : Float) (some : l ≡ pos 0 → ⊥) where
+  pub along-number : (n k : ℤ) → natAbs l ≤ 2 ^ 53 → rising (pos (natAbs l)) t ≡ Number n → facing l (Number n) ≡ Number k → along p q l t ≡ Number (p +ℤ k)
+  unfolding rising ofBits
+  along-number n k held e f =
+      let finite = no-end floors farthest _ _ _ (pos (natAbs l)) held (some-size l some) t (ap isBeyond e) in
+      along-facing p q l t some ∙ rw (finite false, finite true) (ap (plus p) (ap (facing l) e ∙ f))
+
+  pub along-beyond : rising (pos (natAbs l)) t ≡ Beyond → along p q l t ≡ orEnd p q t Beyond
+  along-beyond e = along-facing p q l t some ∙ ap (λ (w : Whole). orEnd p q t (plus p w)) (ap (facing l) e ∙ facing-beyond l)
+
 plus-neg : (p : ℤ) (w : Whole) → plus (negℤ p) (whole.negated w) ≡ whole.negated (plus p w)
 plus-neg p (Number n) = ap Number (sym (negℤ-+ℤ p n))
 plus-neg p Beyond = refl

@@ -1,12 +1,13 @@
 // A real axis, after types/numeric.rs: the place of a value on the film, and the value that is read at a pixel.
 ghost use mathlib.Core.Path.{_≡_};
-ghost use mathlib.Core.Bool.{Bool, true, false};
-ghost use Prim.Native.Nat.{_≤_};
-ghost use lib.IntN.{natAbs};
+ghost use mathlib.Core.Bool.{true};
+ghost use Prim.Native.Nat.{_+_};
+ghost use lib.IntN.{pos};
 ghost use lib.Ieee as Ieee;
-ghost use lib.Ieee.{inf};
+ghost use lib.Ieee.{binary64};
 ghost use Rattle.ranged1d.specs.Admitted.{limitAdmitted};
-ghost use Rattle.real.specs.Place.{tellPlace, isBeyond, number, plus, orEnd, along, spot, realPlace};
+ghost use Rattle.rounding.specs.declared.Whole.the-variants.{Beyond};
+ghost use Rattle.real.specs.Place.{tellPlace, orEnd, along, spot, realPlace};
 ghost use Rattle.real.specs.Reading.{tellReading, outside, realReading};
 use ranged1d::Limit;
 use ranged1d::Refusal;
@@ -26,43 +27,62 @@ pub enum RealReading {
     Refused(Refusal),
 }
 
-// The place n pixels from p, or an end of the film where t is infinite. An infinite t has led to an n that is beyond, so that only
-// there it is looked for.
-fn step_from(p: i32, q: i32, t: f64, n: Whole) -> Whole
-    requires { ⌜ natAbs (number n) ≤ 1000000000 ⌝ }
-    requires { ⌜ (isBeyond n ≡ false → (s : Bool) → Ieee.eq t (inf s) ≡ false) ⌝ }
-    ensures { λ r. ⌜ r ≡ orEnd p q t (plus p n) ⌝ }
+// 2^52 + k as f64: from there to 2^53 a float's low bits count ones.
+fn above_2_52(k: u32) -> f64
+    ensures { λ r. ⌜ r ≡ Ieee.ofInt binary64 (pos (4503599627370496 + k)) ⌝ }
+{
+    f64::from_bits(4841369599423283200 + k as u64)
+}
+
+// k as f64.
+fn size_as_f64(k: u32) -> f64
+    ensures { λ r. ⌜ r ≡ Ieee.ofInt binary64 (pos k) ⌝ }
+{
+    above_2_52(k) - 4503599627370496.0
+}
+
+// d as f64. The instruction behind `d as f64` writes half a register, so that it waits for whatever wrote the register last, which may be
+// a division of the call before. Bits are moved into a whole one, and the difference, of numbers below 2^53, is exact.
+pub fn as_f64(d: i32) -> f64
+    ensures { λ r. ⌜ r ≡ Ieee.ofInt binary64 d ⌝ }
+{
+    above_2_52((d as i64 + 2147483648) as u32) - 4503601774854144.0
+}
+
+// The end of the film to which an infinite t leads; any other t is too far.
+fn end_at(p: i32, q: i32, t: f64) -> Whole
+    ensures { λ r. ⌜ r ≡ orEnd p q t Beyond ⌝ }
 {
     let first = p as i64;
     let last = q as i64;
-    match n {
-        Whole::Number(k) => Whole::Number(first + k),
-        Whole::Beyond => {
-            let inf = 1.0 / 0.0;
-            if t == inf {
-                return Whole::Number(last);
-            }
-            if t == -inf {
-                return Whole::Number(first);
-            }
-            Whole::Beyond
-        }
+    let inf = 1.0 / 0.0;
+    if t == inf {
+        return Whole::Number(last);
     }
+    if t == -inf {
+        return Whole::Number(first);
+    }
+    Whole::Beyond
 }
 
 // The place at the share t of the film from p to q, which is l long. The 0.001 keeps a place on its pixel where the product comes out
-// just short of a whole number.
+// just short of a whole number. A film that runs downward has the steps of its mirror, the other way: which way it runs is as good as
+// random, so that no branch turns on it. An infinite t leads beyond every bound, so that only there it is looked for.
 pub fn place_along(p: i32, q: i32, l: i32, t: f64) -> Whole
     ensures { λ r. ⌜ r ≡ along p q l t ⌝ }
 {
     if l == 0 {
         return Whole::Number(q as i64);
     }
-    let x = (l as f64) * t;
-    if l > 0 {
-        return step_from(p, q, t, rounding::floor_within(x + 0.001, 1000000000));
+    let first = p as i64;
+    let x = size_as_f64(ranged1d::unsigned_abs(l)) * t;
+    match rounding::floor_within(x + 0.001, 1000000000) {
+        Whole::Number(n) => {
+            let step = if l < 0 { 0 - n } else { n };
+            Whole::Number(first + step)
+        }
+        Whole::Beyond => end_at(p, q, t),
     }
-    step_from(p, q, t, rounding::ceil_within(x - 0.001, 1000000000))
 }
 
 // Whether x lies off the film. The limits are put in order without a branch, since which way they run is as good as random.
@@ -127,7 +147,7 @@ impl RangedCoordf64 {
         if p == q {
             return RealReading::Nothing;
         }
-        let t = ((x - p) as f64) / ((q - p) as f64);
+        let t = as_f64(x - p) / as_f64(q - p);
         let a = self.0;
         let b = self.1;
         RealReading::At((b - a) * t + a)

@@ -97,7 +97,7 @@ room binary32 = lit< tt
 room binary64 = lit< tt
 
 -- from units to ones
-ones : (x : Float) (s : Bool) (q c : ℕ) → 0 < c → HasValue x s (q * c) c → HasValue x s q 1
+pub ones : (x : Float) (s : Bool) (q c : ℕ) → 0 < c → HasValue x s (q * c) c → HasValue x s q 1
 ones (fin u m e) s q c p v = (v .0, mul-one (m * up e) ∙ eq-of-mul-eq-mul-right c p (m * up e) (q * down e) (v .1 ∙ mul-right-comm q c (down e)))
 
 module _ (f : Format) (n d : ℕ) (pd : 0 < d) (lo : 2 ^ (prec f - 1) * d ≤ n) (hi : n < 2 ^ prec f * d) where

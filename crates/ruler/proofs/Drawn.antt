@@ -16,10 +16,11 @@ use Rattle.numeric.specs.declared.KeyPoints.{KeyPoints}
 use Rattle.numeric.specs.Marks.{noStep, marks}
 use Rattle.numeric.specs.Calls.{wholePlan, planOf, element}
 use Rattle.numeric.proofs.Plans.{Good, planned-good}
+use Rattle.ruler.specs.declared.Draft.{Draft}
 use Rattle.ruler.specs.Bytes.{axis, laid, joined}
 use Rattle.ruler.specs.Rule.{markAt, rulerBytes, rulerWrite, hasRuler, rulerPlan}
-use Rattle.ruler.specs.Steps.{Reachable}
-use Rattle.ruler.proofs.Records.{axis-long, run, run-long}
+use Rattle.ruler.specs.Steps.{Reachable, firstOf}
+use Rattle.ruler.proofs.Records.{axis-long, run, run-long, first-more}
 
 -- what is known of a ruler's plan that was given
 pub record Drawn (a b : ℤ) (limit : Limit) (m : ℕ) (p : KeyPoints) : Type 0 where
@@ -134,3 +135,9 @@ module _ (a b : ℤ) (limit : Limit) (m : ℕ) where
 
     pub ruler-whole : (l : List ℕ) → take 25 l ≡ head → drop 25 l ≡ marksRun → l ≡ rulerBytes a b limit m
     ruler-whole l x y = sym (take-append-drop 25 l) ∙ ap₂ (λ (t u : List ℕ). t ++ u) x y ∙ sym ruler-is
+
+-- all records of a ruler, put at the start of a list
+pub all-put : (d : Draft) {p : KeyPoints} → rulerPlan (d .a) (d .b) (d .limit) (d .m) ≡ given p → {l : List ℕ} (old : List ℕ)
+    → l ≡ joined (firstOf d p (p .count + 1)) ++ drop (length (joined (firstOf d p (p .count + 1)))) old → l ≡ rulerBytes (d .a) (d .b) (d .limit) (d .m) ++ drop (25 + 20 * p .count) old
+all-put d {p} e old put =
+    put ∙ rw (first-more d p (p .count), ← ruler-is (d .a) (d .b) (d .limit) (d .m) e, ruler-long (d .a) (d .b) (d .limit) (d .m) e)

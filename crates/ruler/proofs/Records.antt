@@ -9,11 +9,15 @@ use lib.IntN.{ℤ}
 use lib.ListN.{length, take, drop, length-append, length-drop}
 use lib.Seq.{drop-append-le, take-append-le, drop-at, take-all}
 use Rattle.ranged1d.specs.declared.Limit.{Limit}
+use Rattle.numeric.specs.declared.KeyPoints.{KeyPoints}
 use Rattle.numeric.specs.Marks.{listOf}
+use Rattle.numeric.specs.Calls.{element}
 use Rattle.decimal.specs.Print.{decimal}
 use Rattle.decimal.proofs.Digits.{decimal-most, filled-long}
+use Rattle.ruler.specs.declared.Draft.{Draft}
 use Rattle.ruler.specs.Bytes.{Record, axis, mark, axisBody, markBody, laid, joined}
 use Rattle.ruler.specs.Rule.{markAt}
+use Rattle.ruler.specs.Steps.{firstOf}
 
 pub part-left : (xs ys : List ℕ) (a n : ℕ) → a + n ≤ length xs → take n (drop a (xs ++ ys)) ≡ take n (drop a xs)
 part-left xs ys a n h =
@@ -71,3 +75,24 @@ module _ (a b : ℤ) (limit : Limit) (f : ℕ → ℤ) where
       go (no g) rec =
           let e : n ≡ k = omega arith in
           rw (run-suc n, e, drop-at (run k) (one k) (20 * k) (run-long k)) (take-all 20 (one k) (omega (arith, one-long k)))
+
+-- the first records of a ruler, at the start of a list
+module _ (d : Draft) (p : KeyPoints) where
+  abbrev head : List ℕ
+  head = laid (axis (d .a) (d .b) (d .limit) (d .m) (p .step))
+
+  abbrev marksOf : ℕ → List ℕ
+  marksOf n = run (d .a) (d .b) (d .limit) (element (p .first) (p .step)) n
+
+  pub first-more : (n : ℕ) → joined (firstOf d p (n + 1)) ≡ head ++ marksOf n
+  unfolding firstOf
+  first-more n = rw add-one
+
+  pub first-none : {n : ℕ} (old : List ℕ) → n ≡ 0 → old ≡ joined (firstOf d p n) ++ drop (length (joined (firstOf d p n))) old
+  unfolding firstOf
+  first-none old e = rw e
+
+  pub first-put : (k : ℕ) {n : ℕ} {x : List ℕ} (old : List ℕ) → n ≡ k + 1 → x ≡ (head ++ marksOf k) ++ drop (25 + 20 * k) old → x ≡ joined (firstOf d p n) ++ drop (length (joined (firstOf d p n))) old
+  first-put k old e f =
+      let long : length (head ++ marksOf k) ≡ 25 + 20 * k = rw (length-append head (marksOf k)) (omega (arith, axis-long (d .a) (d .b) (d .limit) (d .m) (p .step), run-long (d .a) (d .b) (d .limit) (element (p .first) (p .step)) k)) in
+      f ∙ rw (e, first-more k, long)

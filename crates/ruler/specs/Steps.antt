@@ -1,23 +1,32 @@
 -- What private functions ask for and promise on the way to the rules: no part of the rules. Assumes nothing.
-use Prim.Native.Nat.{ℕ, _≤_, _<_}
+use Prim.Native.Nat.{ℕ, zero, suc, _≤_, _<_}
 use mathlib.Core.Bool.{cond, _&&_}
-use mathlib.Core.List.{List}
+use mathlib.Core.List.{List, [], _∷_, map}
 use lib.IntN.{ℤ, pos, natAbs, _*ℤ_}
 use lib.ListN.{length}
 use Rattle.numeric.specs.declared.KeyPoints.{KeyPoints}
+use Rattle.numeric.specs.Marks.{listOf}
 use Rattle.numeric.specs.Calls.{planOf, element}
 use Rattle.decimal.specs.Read.{sameBytes}
 use Rattle.ruler.specs.declared.Draft.{Draft}
 use Rattle.ruler.specs.declared.Part.{Part}
 use Rattle.ruler.specs.declared.Seen.{Seen}
 use Rattle.ruler.specs.declared.Seen.the-variants as seen-is
-use Rattle.ruler.specs.Rule.{aIn, bIn, limitIn, mIn, rulerBytes, hasRuler, isRuler}
+use Rattle.ruler.specs.Bytes.{Record, axis}
+use Rattle.ruler.specs.Rule.{aIn, bIn, limitIn, mIn, markAt, rulerBytes, hasRuler, isRuler}
 
 -- the numbers on the way to mark k fit an i32
 pub record Reachable (p : KeyPoints) (k : ℕ) : Type 0 where
   pub few : k < 2147483648
   pub product : natAbs (pos k *ℤ p .step) ≤ 2147483647
   pub sum : natAbs (element (p .first) (p .step) k) ≤ 2147483647
+
+-- the first n records of a ruler: the axis's, then those of marks
+unfoldable pub firstOf : Draft → KeyPoints → ℕ → List Record
+firstOf d p zero = []
+firstOf d p (suc n) =
+    axis (d .a) (d .b) (d .limit) (d .m) (p .step)
+    ∷ map (markAt (d .a) (d .b) (d .limit)) (listOf (element (p .first) (p .step)) n)
 
 -- a part lies within the bytes
 abbrev pub Inside : List ℕ → Part → Type 0

@@ -11,7 +11,7 @@ ghost use Rattle.decimal.specs.Read.{sameBytes};
 ghost use Rattle.ruler.specs.Place.{placeOf};
 ghost use Rattle.ruler.specs.Bytes.{word, wordAt, axis, laid, joined};
 ghost use Rattle.ruler.specs.Rule.{tellWrote, tellReading, rulerPlan, markAt, rulerWrite, rulerRead, indexOf, recordIn, labelIn, recordText, labelText, part, further, sideOf};
-ghost use Rattle.ruler.specs.Steps.{Reachable, Inside, seenBy, seenOf};
+ghost use Rattle.ruler.specs.Steps.{Reachable, Inside, firstOf, seenBy, seenOf};
 use numeric::KeyPoints;
 use numeric::Place;
 use numeric::Planned;
@@ -208,6 +208,20 @@ fn put_marks(d: Draft, p: KeyPoints, n: usize, out: &mut [u8])
     }
 }
 
+// The first n records of a ruler: the axis's of 25 bytes, then those of marks, of 20 each.
+fn put_records(d: Draft, p: KeyPoints, n: usize, out: &mut [u8])
+    requires { ⌜ 5 + 20 * n ≤ length (now out) ⌝ }
+    requires { ⌜ ((k : ℕ) → k + 1 < n → Reachable p k) ⌝ }
+    ensures { λ _. ⌜ now (out .exit) ≡ joined (firstOf d p n) ++ drop (length (joined (firstOf d p n))) (now (out .entry)) ⌝ }
+{
+    if n == 0 {
+        return;
+    }
+    let body = axis_body(d, p);
+    put_record(AXIS, &body, out);
+    put_marks(d, p, n - 1, &mut out[25..]);
+}
+
 // The marks of a ruler, or why there is none.
 fn planned(d: Draft) -> Planned
     ensures { λ r. ⌜ tellPlanned r ≡ rulerPlan (d .a) (d .b) (d .limit) (d .m) ⌝ }
@@ -246,9 +260,8 @@ fn write_draft(d: Draft, out: &mut [u8]) -> Wrote
             if out.len() < size {
                 return Wrote::Refused(Refusal::OutTooShort);
             }
-            let body = axis_body(d, p);
-            put_record(AXIS, &body, out);
-            put_marks(d, p, n, &mut out[25..]);
+            let records = n + 1;
+            put_records(d, p, records, out);
             Wrote::Bytes(size, n)
         }
     }

@@ -1,5 +1,5 @@
 -- `ruler::label_of` meets its contract. Assumes nothing.
-use mathlib.Core.Path.{_≡_, sym, subst}
+use mathlib.Core.Path.{_≡_, sym, ap, _∙_, subst}
 use mir.Facts.{toZ-ofZ}
 use Rattle.ruler.specs.Rule.{labelIn}
 use Rattle.ruler.specs.Steps.{Inside}
@@ -11,7 +11,7 @@ find-label-requires : tie.Need-find-label-requires
 find-label-requires c κs = tt
 
 found-is : (c : tie.After-find-label) → let at = c .before .before in c .find-label .result ≡ labelIn (at .args .bytes .now) (at .args .v)
-found-is c = rw (toZ-ofZ (c .before .before .fits .v)) at (c .find-label .ensures)
+found-is c = let at = c .before .before in c .find-label .ensures ∙ ap (labelIn (at .args .bytes .now)) (toZ-ofZ (at .fits .v))
 
 cut-requires : tie.Need-cut-requires
 cut-requires c κs = subst (Inside (c .before .before .args .bytes .now)) (sym (found-is c)) (label-inside _ _)

@@ -93,17 +93,17 @@ returns c =
     rw (q-is at, p-is at, toZ-ofZ (l-fits at), toZ-ofZ (half-fits at), toZ-ofZ (half64 at))
     (sym (level-spot (a at) (b at) (v at) (S at .args .limit) (a-near at) (sym (a-is at) ∙ ap (toZ w32) (c .if1 .taken) ∙ b-is at)))
 
-sub-t : tie.Need-sub-t
-sub-t c = let at = c .before in rw (v-is at, a-is at) (va-fits at)
+sub-as-f64 : tie.Need-sub-as-f64
+sub-as-f64 c = let at = c .before in rw (v-is at, a-is at) (va-fits at)
 
-int-to-float-t : tie.Need-int-to-float-t
-int-to-float-t c = search needs
+as-f64-requires : tie.Need-as-f64-requires
+as-f64-requires c κs = search needs
 
-sub-t-2 : tie.Need-sub-t-2
-sub-t-2 c = let at = c .before .before in rw (b-is at, a-is at) (ba-fits at)
+sub-as-f64-2 : tie.Need-sub-as-f64-2
+sub-as-f64-2 c = let at = c .before .before in rw (b-is at, a-is at) (ba-fits at)
 
-int-to-float-t-2 : tie.Need-int-to-float-t-2
-int-to-float-t-2 c = search needs
+as-f64-requires-2 : tie.Need-as-f64-requires-2
+as-f64-requires-2 c κs = search needs
 
 place-along-requires : tie.Need-place-along-requires
 place-along-requires c κs = search needs
@@ -111,7 +111,8 @@ place-along-requires c κs = search needs
 returns-2 : tie.Need-returns-2
 returns-2 c =
     let at = c .before .before .before .before in
-    rw (p-is at, q-is at, toZ-ofZ (l-fits at), v-is at, a-is at, b-is at, toZ-ofZ (va-fits at), toZ-ofZ (ba-fits at)) at (c .place-along .ensures)
+    let two = c .before in
+    rw (two .before .as-f64 .ensures, two .as-f642 .ensures, p-is at, q-is at, toZ-ofZ (l-fits at), v-is at, a-is at, b-is at, toZ-ofZ (va-fits at), toZ-ofZ (ba-fits at)) at (c .place-along .ensures)
     ∙ sym (sloped-spot (a at) (b at) (v at) (S at .args .limit) (a-near at) (b-near at) (v-near at) (λ e. c .before .before .before .if1 .left (ap (ofZ w32) e)))
 
 pub spot-of-spec : {M : Type 1} → statement M
@@ -122,9 +123,9 @@ spot-of-spec =
     div-t11
     cast-t12
     returns
-    sub-t
-    int-to-float-t
-    sub-t-2
-    int-to-float-t-2
+    sub-as-f64
+    as-f64-requires
+    sub-as-f64-2
+    as-f64-requires-2
     place-along-requires
     returns-2)

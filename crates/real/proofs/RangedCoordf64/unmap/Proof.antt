@@ -97,17 +97,17 @@ returns-4 c =
     let one : p at ≡ q at = sym (p-is at) ∙ ap (toZ w32) (c .if4 .taken) ∙ q-is at in
     rw (allowed at, x-allowed e, inside e, same-yes (p at) (q at) one)
 
-sub-t : tie.Need-sub-t
-sub-t c = let at = At (c .before) in rw (x-is at, p-is at) (from-p-fits (c .before))
+sub-as-f64 : tie.Need-sub-as-f64
+sub-as-f64 c = let at = At (c .before) in rw (x-is at, p-is at) (from-p-fits (c .before))
 
-int-to-float-t : tie.Need-int-to-float-t
-int-to-float-t c = search needs
+as-f64-requires : tie.Need-as-f64-requires
+as-f64-requires c κs = search needs
 
-sub-t-2 : tie.Need-sub-t-2
-sub-t-2 c = let at = At (c .before .before) in rw (q-is at, p-is at) (l-fits at)
+sub-as-f64-2 : tie.Need-sub-as-f64-2
+sub-as-f64-2 c = let at = At (c .before .before) in rw (q-is at, p-is at) (l-fits at)
 
-int-to-float-t-2 : tie.Need-int-to-float-t-2
-int-to-float-t-2 c = search needs
+as-f64-requires-2 : tie.Need-as-f64-requires-2
+as-f64-requires-2 c κs = search needs
 
 returns-5 : tie.Need-returns-5
 unfolding realReading
@@ -116,6 +116,8 @@ returns-5 c =
     let e = two .before in
     let at = At e in
     rw (
+      c .before .as-f64 .ensures,
+      c .as-f642 .ensures,
       x-is at,
       p-is at,
       q-is at,
@@ -138,8 +140,8 @@ unmap-spec =
     returns-2
     returns-3
     returns-4
-    sub-t
-    int-to-float-t
-    sub-t-2
-    int-to-float-t-2
+    sub-as-f64
+    as-f64-requires
+    sub-as-f64-2
+    as-f64-requires-2
     returns-5)
