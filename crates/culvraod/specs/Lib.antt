@@ -1,3 +1,4 @@
 pub mod Boundary
 pub mod Numeric
 pub mod Ruler
+pub mod Search

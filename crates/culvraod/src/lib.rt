@@ -1,9 +1,11 @@
 // The C interface: every call under its C name. include/culvraod.h documents them.
 ghost use mathlib.Core.Path.{_≡_};
 ghost use Rattle.numeric.specs.Calls.{wholeKeyPoints, indexKeyPoints};
-ghost use Rattle.numeric.specs.Whole.{wholeSize, wholeIndexOf, wholeFromIndex, wholeReading};
-ghost use Rattle.real.specs.Place.{wholePlace, realPlace};
-ghost use Rattle.real.specs.Reading.{realReading};
+ghost use Rattle.numeric.specs.Whole.{tellCount, tellIndex, tellValue, wholeSize, wholeIndexOf, wholeFromIndex, wholeReading};
+ghost use Rattle.real.specs.Place.{tellPlace, wholePlace, realPlace};
+ghost use Rattle.real.specs.Reading.{tellReading, realReading};
+ghost use Rattle.search.specs.Lists.{wholeSearch, realSearch};
+ghost use Rattle.culvraod.specs.Search.{methodOf, byMethod};
 ghost use Rattle.ruler.specs.Rule.{rulerWrite, rulerRead, recordIn, labelIn, sideOf};
 ghost use Rattle.culvraod.specs.Ruler.{rulerOf, readC, partC, pairC};
 ghost use Rattle.culvraod.specs.Boundary.{single, limitOf};
@@ -21,6 +23,95 @@ use numeric::Value;
 use ranged1d::Limit;
 use ruler::Reading;
 use ruler::Wrote;
+use search::RoundingMethod;
+
+// A search as C chooses it.
+enum Method {
+    Of(RoundingMethod),
+    Unknown,
+}
+
+fn method_of(method: u32) -> Method
+    ensures { λ r. ⌜ r ≡ methodOf method ⌝ }
+{
+    if method == 0 {
+        return Method::Of(RoundingMethod::Exact);
+    }
+    if method == 1 {
+        return Method::Of(RoundingMethod::Ceil);
+    }
+    if method == 2 {
+        return Method::Of(RoundingMethod::Floor);
+    }
+    if method == 3 {
+        return Method::Of(RoundingMethod::Round);
+    }
+    Method::Unknown
+}
+
+// What is handed out behind a pointer, and what is returned: an index, a count, a whole value, a place, a real value.
+fn give_index(x: Index, k: &mut u64) -> i32
+    ensures { λ r. ⌜ (r, now (k .exit)) ≡ single (tellIndex x) (now (k .entry)) ⌝ }
+{
+    match x {
+        Index::At(i) => {
+            *k = i;
+            0
+        }
+        Index::Nothing => -1,
+        Index::Refused(r) => r.number() as i32,
+    }
+}
+
+fn give_count(x: Count, n: &mut u64) -> i32
+    ensures { λ r. ⌜ (r, now (n .exit)) ≡ single (tellCount x) (now (n .entry)) ⌝ }
+{
+    match x {
+        Count::Of(k) => {
+            *n = k;
+            0
+        }
+        Count::Refused(r) => r.number() as i32,
+    }
+}
+
+fn give_value(x: Value, v: &mut i32) -> i32
+    ensures { λ r. ⌜ (r, now (v .exit)) ≡ single (tellValue x) (now (v .entry)) ⌝ }
+{
+    match x {
+        Value::At(w) => {
+            *v = w;
+            0
+        }
+        Value::Nothing => -1,
+        Value::Refused(r) => r.number() as i32,
+    }
+}
+
+fn give_place(x: Place, pixel: &mut i32) -> i32
+    ensures { λ r. ⌜ (r, now (pixel .exit)) ≡ single (tellPlace x) (now (pixel .entry)) ⌝ }
+{
+    match x {
+        Place::At(y) => {
+            *pixel = y;
+            0
+        }
+        Place::Refused(r) => r.number() as i32,
+    }
+}
+
+fn give_reading(x: RealReading, v: &mut f64) -> i32
+    ensures { λ r. ⌜ (r, now (v .exit)) ≡ single (tellReading x) (now (v .entry)) ⌝ }
+{
+    match x {
+        RealReading::At(w) => {
+            *v = w;
+            0
+        }
+        RealReading::Nothing => -1,
+        RealReading::Refused(r) => r.number() as i32,
+    }
+}
 
 #[no_mangle]
 pub extern "C" fn culv_whole_key_points(
@@ -68,95 +159,49 @@ pub extern "C" fn culv_index_key_points(
 pub extern "C" fn culv_whole_size(a: i32, b: i32, n: &mut u64) -> i32
     ensures { λ r. ⌜ (r, now (n .exit)) ≡ single (wholeSize a b) (now (n .entry)) ⌝ }
 {
-    match RangedCoordi32(a, b).size() {
-        Count::Of(k) => {
-            *n = k;
-            0
-        }
-        Count::Refused(r) => r.number() as i32,
-    }
+    give_count(RangedCoordi32(a, b).size(), n)
 }
 
 #[no_mangle]
 pub extern "C" fn culv_whole_index_of(a: i32, b: i32, v: i32, k: &mut u64) -> i32
     ensures { λ r. ⌜ (r, now (k .exit)) ≡ single (wholeIndexOf a b v) (now (k .entry)) ⌝ }
 {
-    match RangedCoordi32(a, b).index_of(v) {
-        Index::At(i) => {
-            *k = i;
-            0
-        }
-        Index::Nothing => -1,
-        Index::Refused(r) => r.number() as i32,
-    }
+    give_index(RangedCoordi32(a, b).index_of(v), k)
 }
 
 #[no_mangle]
 pub extern "C" fn culv_whole_from_index(a: i32, b: i32, k: u64, v: &mut i32) -> i32
     ensures { λ r. ⌜ (r, now (v .exit)) ≡ single (wholeFromIndex a b k) (now (v .entry)) ⌝ }
 {
-    match RangedCoordi32(a, b).from_index(k) {
-        Value::At(w) => {
-            *v = w;
-            0
-        }
-        Value::Nothing => -1,
-        Value::Refused(r) => r.number() as i32,
-    }
+    give_value(RangedCoordi32(a, b).from_index(k), v)
 }
 
 #[no_mangle]
 pub extern "C" fn culv_whole_unmap(a: i32, b: i32, x: i32, p: i32, q: i32, v: &mut i32) -> i32
     ensures { λ r. ⌜ (r, now (v .exit)) ≡ single (wholeReading a b x (limitOf p q)) (now (v .entry)) ⌝ }
 {
-    match RangedCoordi32(a, b).unmap(x, Limit(p, q)) {
-        Value::At(w) => {
-            *v = w;
-            0
-        }
-        Value::Nothing => -1,
-        Value::Refused(r) => r.number() as i32,
-    }
+    give_value(RangedCoordi32(a, b).unmap(x, Limit(p, q)), v)
 }
 
 #[no_mangle]
 pub extern "C" fn culv_whole_map(a: i32, b: i32, v: i32, p: i32, q: i32, pixel: &mut i32) -> i32
     ensures { λ r. ⌜ (r, now (pixel .exit)) ≡ single (wholePlace a b v (limitOf p q)) (now (pixel .entry)) ⌝ }
 {
-    match RangedCoordi32(a, b).map(v, Limit(p, q)) {
-        Place::At(y) => {
-            *pixel = y;
-            0
-        }
-        Place::Refused(r) => r.number() as i32,
-    }
+    give_place(RangedCoordi32(a, b).map(v, Limit(p, q)), pixel)
 }
 
 #[no_mangle]
 pub extern "C" fn culv_real_map(a: f64, b: f64, v: f64, p: i32, q: i32, pixel: &mut i32) -> i32
     ensures { λ r. ⌜ (r, now (pixel .exit)) ≡ single (realPlace a b v (limitOf p q)) (now (pixel .entry)) ⌝ }
 {
-    match RangedCoordf64(a, b).map(v, Limit(p, q)) {
-        Place::At(y) => {
-            *pixel = y;
-            0
-        }
-        Place::Refused(r) => r.number() as i32,
-    }
+    give_place(RangedCoordf64(a, b).map(v, Limit(p, q)), pixel)
 }
 
 #[no_mangle]
 pub extern "C" fn culv_real_unmap(a: f64, b: f64, x: i32, p: i32, q: i32, v: &mut f64) -> i32
     ensures { λ r. ⌜ (r, now (v .exit)) ≡ single (realReading a b x (limitOf p q)) (now (v .entry)) ⌝ }
 {
-    match RangedCoordf64(a, b).unmap(x, Limit(p, q)) {
-        RealReading::At(w) => {
-            *v = w;
-            0
-        }
-        RealReading::Nothing => -1,
-        RealReading::Refused(r) => r.number() as i32,
-    }
+    give_reading(RangedCoordf64(a, b).unmap(x, Limit(p, q)), v)
 }
 
 #[no_mangle]
@@ -253,4 +298,24 @@ pub extern "C" fn culv_ruler_pair(
     *start = part.start;
     *size = part.end - part.start;
     0
+}
+
+#[no_mangle]
+pub extern "C" fn culv_search_whole(list: &[i32], target: i32, method: u32, k: &mut u64) -> i32
+    ensures { λ r. ⌜ (r, now (k .exit)) ≡ single (byMethod (methodOf method) (wholeSearch (now (list .entry)) target)) (now (k .entry)) ⌝ }
+{
+    match method_of(method) {
+        Method::Of(m) => give_index(search::search_whole(list, target, m), k),
+        Method::Unknown => 1,
+    }
+}
+
+#[no_mangle]
+pub extern "C" fn culv_search_real(list: &[f64], target: f64, method: u32, k: &mut u64) -> i32
+    ensures { λ r. ⌜ (r, now (k .exit)) ≡ single (byMethod (methodOf method) (realSearch (now (list .entry)) target)) (now (k .entry)) ⌝ }
+{
+    match method_of(method) {
+        Method::Of(m) => give_index(search::search_real(list, target, m), k),
+        Method::Unknown => 1,
+    }
 }

@@ -1,50 +1,22 @@
 -- `culvraod::culv_whole_map` meets its contract. Assumes nothing.
-use native.Mathlib.Omega.{arith}
 use borrow.Author.Needs.{needs}
-use mir.Facts.{toZ-ofZ, toZ-pos}
+use denote.Ref.{now}
+use mir.Facts.{toZ-ofZ}
 use mir.Syntax.{w32}
-use Rattle.real.specs.Place.{tellPlace}
-use Rattle.culvraod.proofs.Crossing.{single-cross}
+use Rattle.culvraod.proofs.Crossing.{handed}
 use Rattle.culvraod.proofs.culv_whole_map.Statement.{statement}
 use Rattle.culvraod.proofs.culv_whole_map.Tie as tie
 
 map-requires : tie.Need-map-requires
 map-requires c κs = search needs
 
-enum-known-y : tie.Need-enum-known-y
-enum-known-y c = search needs
-
-enum-known-r : tie.Need-enum-known-r
-enum-known-r c = search needs
-
-number-requires : tie.Need-number-requires
-number-requires c κs = search needs
-
-cast-result : tie.Need-cast-result
-cast-result c = search needs
+give-place-requires : tie.Need-give-place-requires
+give-place-requires c κs = search needs
 
 returns : tie.Need-returns
 returns c =
-    let k = c .before .before .before in
-    let at = k .before in
-    rw (toZ-ofZ (record { sfits = c .known-told .given .0 .1 }))
-    (single-cross tellPlace (at .args .pixel .now) (rw (toZ-ofZ (at .fits .a), toZ-ofZ (at .fits .b), toZ-ofZ (at .fits .v), toZ-ofZ (at .fits .p), toZ-ofZ (at .fits .q)) at (k .map .ensures)) (c .before .y .given .1))
-
-returns-2 : tie.Need-returns-2
-returns-2 c =
-    let k = c .before .before .before .before in
-    let at = k .before in
-    rw (toZ-pos w32 {n = c .number .result} (omega (arith, c .number .ok)), c .number .ensures)
-    (single-cross tellPlace (at .args .pixel .now) (rw (toZ-ofZ (at .fits .a), toZ-ofZ (at .fits .b), toZ-ofZ (at .fits .v), toZ-ofZ (at .fits .p), toZ-ofZ (at .fits .q)) at (k .map .ensures)) (c .before .before .r .given .1))
+    let s = c .before .before .before in
+    rw (toZ-ofZ {w = w32} (record { sfits = c .give-place .ok })) (handed (now (s .args .pixel)) (c .give-place .ensures) (rw (toZ-ofZ (s .fits .a), toZ-ofZ (s .fits .b), toZ-ofZ (s .fits .v), toZ-ofZ (s .fits .p), toZ-ofZ (s .fits .q)) at (c .before .before .map .ensures)))
 
 pub culv-whole-map-spec : {M : Type 1} → statement M
-culv-whole-map-spec =
-    tie.close
-    (tie.spec
-    map-requires
-    enum-known-y
-    enum-known-r
-    number-requires
-    cast-result
-    returns
-    returns-2)
+culv-whole-map-spec = tie.close (tie.spec map-requires give-place-requires returns)

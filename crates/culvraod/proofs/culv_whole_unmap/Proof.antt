@@ -1,61 +1,22 @@
 -- `culvraod::culv_whole_unmap` meets its contract. Assumes nothing.
-use native.Mathlib.Omega.{arith}
 use borrow.Author.Needs.{needs}
-use mir.Facts.{toZ-ofZ, toZ-pos}
+use denote.Ref.{now}
+use mir.Facts.{toZ-ofZ}
 use mir.Syntax.{w32}
-use Rattle.numeric.specs.Whole.{tellValue}
-use Rattle.culvraod.proofs.Crossing.{single-cross}
+use Rattle.culvraod.proofs.Crossing.{handed}
 use Rattle.culvraod.proofs.culv_whole_unmap.Statement.{statement}
 use Rattle.culvraod.proofs.culv_whole_unmap.Tie as tie
 
 unmap-requires : tie.Need-unmap-requires
 unmap-requires c κs = search needs
 
-enum-known-w : tie.Need-enum-known-w
-enum-known-w c = search needs
-
-enum-told : tie.Need-enum-told
-enum-told c = search needs
-
-enum-known-r : tie.Need-enum-known-r
-enum-known-r c = search needs
-
-number-requires : tie.Need-number-requires
-number-requires c κs = search needs
-
-cast-result : tie.Need-cast-result
-cast-result c = search needs
+give-value-requires : tie.Need-give-value-requires
+give-value-requires c κs = search needs
 
 returns : tie.Need-returns
 returns c =
-    let k = c .before .before .before in
-    let at = k .before in
-    rw (toZ-ofZ (record { sfits = c .known-told .given .0 .1 }))
-    (single-cross tellValue (at .args .v .now) (rw (toZ-ofZ (at .fits .a), toZ-ofZ (at .fits .b), toZ-ofZ (at .fits .x), toZ-ofZ (at .fits .p), toZ-ofZ (at .fits .q)) at (k .unmap .ensures)) (c .before .w .given .1))
-
-returns-2 : tie.Need-returns-2
-returns-2 c =
-    let k = c .before .before in
-    let at = k .before in
-    single-cross tellValue (at .args .v .now) (rw (toZ-ofZ (at .fits .a), toZ-ofZ (at .fits .b), toZ-ofZ (at .fits .x), toZ-ofZ (at .fits .p), toZ-ofZ (at .fits .q)) at (k .unmap .ensures)) (c .enum-told .given .1)
-
-returns-3 : tie.Need-returns-3
-returns-3 c =
-    let k = c .before .before .before .before in
-    let at = k .before in
-    rw (toZ-pos w32 {n = c .number .result} (omega (arith, c .number .ok)), c .number .ensures)
-    (single-cross tellValue (at .args .v .now) (rw (toZ-ofZ (at .fits .a), toZ-ofZ (at .fits .b), toZ-ofZ (at .fits .x), toZ-ofZ (at .fits .p), toZ-ofZ (at .fits .q)) at (k .unmap .ensures)) (c .before .before .r .given .1))
+    let s = c .before .before .before in
+    rw (toZ-ofZ {w = w32} (record { sfits = c .give-value .ok })) (handed (now (s .args .v)) (c .give-value .ensures) (rw (toZ-ofZ (s .fits .a), toZ-ofZ (s .fits .b), toZ-ofZ (s .fits .x), toZ-ofZ (s .fits .p), toZ-ofZ (s .fits .q)) at (c .before .before .unmap .ensures)))
 
 pub culv-whole-unmap-spec : {M : Type 1} → statement M
-culv-whole-unmap-spec =
-    tie.close
-    (tie.spec
-    unmap-requires
-    enum-known-w
-    enum-told
-    enum-known-r
-    number-requires
-    cast-result
-    returns
-    returns-2
-    returns-3)
+culv-whole-unmap-spec = tie.close (tie.spec unmap-requires give-value-requires returns)

@@ -1,0 +1,9 @@
+pub mod Best
+pub mod Orders
+pub mod Settles
+pub mod WholeOrder
+pub mod RealOrder
+pub mod Cases
+pub mod Lists
+pub mod Halves
+pub mod Rules

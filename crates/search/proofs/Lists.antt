@@ -1,0 +1,169 @@
+-- Lists that are walked: their entries, their order, and which of them can be searched. Assumes nothing.
+use mathlib.Core.Path.{_≡_, refl, sym, ap, subst, _∙_}
+use mathlib.Core.Bool.{Bool, true, false, cond, true≢false, not, _&&_, _||_}
+use mathlib.Core.List.{List, [], _∷_}
+use Prim.Native.Nat.{ℕ, zero, suc, _+_, _-_, _≤_, _<_}
+use native.Mathlib.Omega.{arith}
+use lib.ListN.{length, getD, drop}
+use Rattle.search.specs.Search.{Numbers}
+use Rattle.search.specs.Lists.{every, goesOn, ascends, searchable}
+use Rattle.search.specs.Steps.{toward, risesFirst}
+use Rattle.search.proofs.Orders.{Order, turned}
+use Rattle.search.proofs.Settles.{Sorted, Ordinary}
+
+module _ {A : Type 0} where
+  -- an entry that there is does not depend on what stands for none
+  pub entry-any : (l : List A) (i : ℕ) (d d' : A) → i < length l → getD l i d ≡ getD l i d'
+  entry-any [] i d d' h = absurd (omega (arith, h))
+  entry-any (x ∷ xs) zero d d' h = refl
+  entry-any (x ∷ xs) (suc i) d d' h = entry-any xs i d d' (omega (arith, h))
+
+  -- ---- a test of every entry, from entry k on
+  pub every-step : (p : A → Bool) (d : A) (l : List A) (k : ℕ) → k < length l → every p (drop k l) ≡ (p (getD l k d) && every p (drop (suc k) l))
+  every-step p d [] k h = absurd (omega (arith, h))
+  every-step p d (x ∷ xs) zero h = refl
+  every-step p d (x ∷ xs) (suc k) h = every-step p d xs k (omega (arith, h))
+
+  pub every-end : (p : A → Bool) (l : List A) (k : ℕ) → length l ≤ k → every p (drop k l) ≡ true
+  every-end p [] zero h = refl
+  every-end p [] (suc k) h = refl
+  every-end p (x ∷ xs) zero h = absurd (omega (arith, h))
+  every-end p (x ∷ xs) (suc k) h = every-end p xs k (omega (arith, h))
+
+  -- ---- the order, from entry k on
+  module _ (lt : A → A → Bool) where
+    pub ascends-step : (d : A) (l : List A) (k : ℕ) → suc k < length l → ascends lt (drop k l) ≡ (lt (getD l k d) (getD l (suc k) d) && ascends lt (drop (suc k) l))
+    ascends-step d [] k h = absurd (omega (arith, h))
+    ascends-step d (x ∷ []) k h = absurd (omega (arith, h))
+    ascends-step d (x ∷ (y ∷ ys)) zero h = refl
+    ascends-step d (x ∷ (y ∷ ys)) (suc k) h = ascends-step d (y ∷ ys) k (omega (arith, h))
+
+    pub ascends-end : (l : List A) (k : ℕ) → length l ≤ suc k → ascends lt (drop k l) ≡ true
+    ascends-end [] zero h = refl
+    ascends-end [] (suc k) h = refl
+    ascends-end (x ∷ []) zero h = refl
+    ascends-end (x ∷ (y ∷ ys)) zero h = absurd (omega (arith, h))
+    ascends-end (x ∷ xs) (suc k) h = ascends-end xs k (omega (arith, h))
+
+and-left : (x y : Bool) → (x && y) ≡ true → x ≡ true
+and-left true y h = refl
+and-left false y h = h
+
+and-right : (x y : Bool) → (x && y) ≡ true → y ≡ true
+and-right true y h = h
+and-right false y h = absurd (true≢false (sym h))
+
+-- ---- what an ordered list is: each entry comes before every later one, and where there are two, every entry equals itself
+module _ {A : Type 0} {lt eq : A → A → Bool} (o : Order A lt eq) (d : A) where
+  goes-before : (x : A) (l : List A) → goesOn lt x l ≡ true → (k : ℕ) → k < length l → lt x (getD l k d) ≡ true
+  goes-before x [] g k h = absurd (omega (arith, h))
+  goes-before x (y ∷ ys) g zero h = and-left (lt x y) (goesOn lt y ys) g
+  goes-before x (y ∷ ys) g (suc k) h =
+      o .trans x y (getD ys k d) (and-left (lt x y) (goesOn lt y ys) g) (goes-before y ys (and-right (lt x y) (goesOn lt y ys) g) k (omega (arith, h)))
+
+  goes-on : (x : A) (l : List A) → goesOn lt x l ≡ true → ascends lt l ≡ true
+  goes-on x [] g = refl
+  goes-on x (y ∷ ys) g = and-right (lt x y) (goesOn lt y ys) g
+
+  pub sorted : (l : List A) → ascends lt l ≡ true → Sorted lt l d
+  sorted [] a j k h m = absurd (omega (arith, h, m))
+  sorted (x ∷ xs) a j zero h m = absurd (omega (arith, h))
+  sorted (x ∷ xs) a zero (suc k) h m = goes-before x xs a k (omega (arith, m))
+  sorted (x ∷ xs) a (suc j) (suc k) h m = sorted xs (goes-on x xs a) j k (omega (arith, h)) (omega (arith, m))
+
+  selves : (x : A) (l : List A) → eq x x ≡ true → goesOn lt x l ≡ true → every (λ z. eq z z) l ≡ true
+  selves x [] e g = refl
+  selves x (y ∷ ys) e g =
+      let r : eq y y ≡ true = o .right x y (and-left (lt x y) (goesOn lt y ys) g) in
+      rw (r, selves y ys r (and-right (lt x y) (goesOn lt y ys) g)) refl
+
+  pub all-selves : (x y : A) (l : List A) → ascends lt (x ∷ (y ∷ l)) ≡ true → every (λ z. eq z z) (x ∷ (y ∷ l)) ≡ true
+  all-selves x y l a =
+      let e : eq x x ≡ true = o .left x y (and-left (lt x y) (goesOn lt y l) a) in
+      rw (e, selves x (y ∷ l) e a) refl
+
+pub ordinary : {A : Type 0} (eq : A → A → Bool) (d : A) (l : List A) → every (λ z. eq z z) l ≡ true → Ordinary eq l d
+ordinary eq d [] e k h = absurd (omega (arith, h))
+ordinary eq d (x ∷ xs) e zero h = and-left (eq x x) (every (λ z. eq z z) xs) e
+ordinary eq d (x ∷ xs) e (suc k) h = ordinary eq d xs (and-right (eq x x) (every (λ z. eq z z) xs) e) k (omega (arith, h))
+
+-- ---- 8: a list can be searched exactly where it goes on as its first two entries do, and its one entry, if it has one, equals itself
+module _ {A : Type 0} (num : Numbers A) (o : Order A (num .less) (num .equal)) where
+  abbrev own : A → Bool
+  own z = num .equal z z
+
+  pub way : (rises : Bool) → Order A (toward rises (num .less)) (num .equal)
+  way true = o
+  way false = turned o
+
+  -- one entry
+  pub searchable-one : (l : List A) (d : A) → length l ≡ 1 → searchable num l ≡ own (getD l 0 d)
+  unfolding searchable
+  searchable-one [] d h = absurd (omega (arith, h))
+  searchable-one (x ∷ []) d h = go (own x)
+    where
+      go : (b : Bool) → ((b && true) && (true || true)) ≡ b
+      go true = refl
+      go false = refl
+  searchable-one (x ∷ (y ∷ ys)) d h = absurd (omega (arith, h))
+
+  -- more than one
+  two : (x y : A) (ys : List A) (rises : Bool) → num .less x y ≡ rises
+      → (ascends (num .less) (x ∷ (y ∷ ys)) || ascends (λ v w. num .less w v) (x ∷ (y ∷ ys))) ≡ ascends (toward rises (num .less)) (x ∷ (y ∷ ys))
+  two x y ys true e = rw (e, o .asym x y e) (go (goesOn (num .less) y ys))
+    where
+      go : (b : Bool) → (b || false) ≡ b
+      go true = refl
+      go false = refl
+  two x y ys false e = rw e refl
+
+  pub searchable-is : (l : List A) → (length l ≡ 1 → ⊥) → searchable num l ≡ ascends (toward (risesFirst (num .less) l) (num .less)) l
+  unfolding searchable
+  searchable-is [] h = refl
+  searchable-is (x ∷ []) h = absurd (h refl)
+  searchable-is (x ∷ (y ∷ ys)) h =
+      ap (λ (b : Bool). every own (x ∷ (y ∷ ys)) && b) (two x y ys (num .less x y) refl) ∙ go (ascends (toward (num .less x y) (num .less)) (x ∷ (y ∷ ys))) refl
+    where
+      go : (b : Bool) → ascends (toward (num .less x y) (num .less)) (x ∷ (y ∷ ys)) ≡ b → (every own (x ∷ (y ∷ ys)) && b) ≡ b
+      go true a = rw (all-selves (way (num .less x y)) x x y ys a) refl
+      go false a = none-of (every own (x ∷ (y ∷ ys)))
+        where
+          none-of : (b : Bool) → (b && false) ≡ false
+          none-of true = refl
+          none-of false = refl
+
+  -- every entry of a list that can be searched equals itself
+  pub searchable-own : (l : List A) → searchable num l ≡ true → every own l ≡ true
+  unfolding searchable
+  searchable-own l h = and-left (every own l) (ascends (num .less) l || ascends (λ v w. num .less w v) l) h
+
+-- ---- the first two entries
+pub rises-short : {A : Type 0} (lt : A → A → Bool) (l : List A) → length l < 2 → risesFirst lt l ≡ true
+rises-short lt [] h = refl
+rises-short lt (x ∷ []) h = refl
+rises-short lt (x ∷ (y ∷ ys)) h = absurd (omega (arith, h))
+
+pub rises-two : {A : Type 0} (lt : A → A → Bool) (d : A) (l : List A) → 2 ≤ length l → lt (getD l 0 d) (getD l 1 d) ≡ risesFirst lt l
+rises-two lt d [] h = absurd (omega (arith, h))
+rises-two lt d (x ∷ []) h = absurd (omega (arith, h))
+rises-two lt d (x ∷ (y ∷ ys)) h = refl
+
+-- ---- a walk along a list from its second entry on: each entry against the one before it
+module _ {A : Type 0} (lt : A → A → Bool) (d : A) (l : List A) where
+  less-one : (j : ℕ) → suc j - 1 ≡ j
+  less-one j = omega arith
+
+  more-one : (j : ℕ) → suc j + 1 - 1 ≡ suc j
+  more-one j = omega arith
+
+  pub walk-on : (k : ℕ) → 1 ≤ k → k < length l → lt (getD l (k - 1) d) (getD l k d) ≡ true → ascends lt (drop (k - 1) l) ≡ ascends lt (drop (k + 1 - 1) l)
+  walk-on zero h m e = absurd (omega (arith, h))
+  walk-on (suc j) h m e = rw (less-one j, more-one j) (ascends-step lt d l j m ∙ rw (rw (less-one j) at e) refl)
+
+  pub walk-stop : (k : ℕ) → 1 ≤ k → k < length l → lt (getD l (k - 1) d) (getD l k d) ≡ false → ascends lt (drop (k - 1) l) ≡ false
+  walk-stop zero h m e = absurd (omega (arith, h))
+  walk-stop (suc j) h m e = rw (less-one j) (ascends-step lt d l j m ∙ rw (rw (less-one j) at e) refl)
+
+  pub walk-done : (k : ℕ) → 1 ≤ k → length l ≤ k → ascends lt (drop (k - 1) l) ≡ true
+  walk-done zero h m = absurd (omega (arith, h))
+  walk-done (suc j) h m = rw (less-one j) (ascends-end lt l j m)

@@ -1,0 +1,30 @@
+-- What the proofs on searches ask of an order and its equality, in either direction. Assumes nothing.
+use mathlib.Core.Path.{_≡_, refl, sym, ap, subst, _∙_}
+use mathlib.Core.Bool.{Bool, true, false}
+use Prim.Native.Nat.{ℕ}
+
+-- `total` is asked of numbers that equal themselves: a NaN does not
+pub record Order (A : Type 0) (lt eq : A → A → Bool) : Type 0 where
+  pub trans : (x y z : A) → lt x y ≡ true → lt y z ≡ true → lt x z ≡ true
+  pub asym : (x y : A) → lt x y ≡ true → lt y x ≡ false
+  pub apart : (x y : A) → lt x y ≡ true → eq x y ≡ false
+  pub even : (x y : A) → eq x y ≡ eq y x
+  pub follow : (x y z : A) → eq x y ≡ true → lt y z ≡ true → lt x z ≡ true
+  pub lead : (x y z : A) → lt x y ≡ true → eq y z ≡ true → lt x z ≡ true
+  pub left : (x y : A) → lt x y ≡ true → eq x x ≡ true
+  pub right : (x y : A) → lt x y ≡ true → eq y y ≡ true
+  pub total : (x y : A) → eq x x ≡ true → eq y y ≡ true → lt x y ≡ false → eq x y ≡ false → lt y x ≡ true
+
+-- the same order downward
+pub turned : {A : Type 0} {lt eq : A → A → Bool} → Order A lt eq → Order A (λ x y. lt y x) eq
+turned o = record {
+  trans = λ x y z p q. o .trans z y x q p;
+  asym = λ x y p. o .asym y x p;
+  apart = λ x y p. o .even x y ∙ o .apart y x p;
+  even = o .even;
+  follow = λ x y z p q. o .lead z y x q (o .even y x ∙ p);
+  lead = λ x y z p q. o .follow z y x (o .even z y ∙ q) p;
+  left = λ x y p. o .right y x p;
+  right = λ x y p. o .left y x p;
+  total = λ x y p q l e. o .total y x q p l (o .even y x ∙ e);
+}

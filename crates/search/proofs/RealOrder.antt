@@ -1,0 +1,335 @@
+-- Floats are ordered by IEEE 754's comparisons, but for a NaN, which equals nothing. Assumes nothing.
+use mathlib.Core.Path.{_≡_, refl, sym, ap, subst, _∙_}
+use mathlib.Core.Bool.{Bool, true, false, true≢false, _&&_, _||_, not, Bool·beq}
+use Prim.Native.Nat.{ℕ, zero, suc, _+_, _*_, _≤_, _<_}
+use native.Mathlib.Nat.{add-comm, mul-right-comm, zero-mul, mul-pos, lt-of-mul-lt-mul-right, mul-lt-mul-of-pos-right}
+use native.Mathlib.Omega.{arith}
+use native.Mathlib.Decide.{decLt}
+use borrow.Author.Tests.{lt-ltb, le-ltb, eq-eqb, ne-eqb, ltb-true, ltb-false, eqb-true, eqb-false}
+use lib.Dec.{ltb, eqb, T}
+use lib.IntN.{ℤ, pos, negsuc}
+use lib.Ieee as Ieee
+use lib.Ieee.{Float, nan, inf, fin, up, down, below, level, lt, eq, neg}
+use lib.Ieee.Fits.{down-pos}
+use Rattle.real.proofs.Signs.{eq-neg}
+use Rattle.real.proofs.Exact.{eq-self}
+use Rattle.search.proofs.Orders.{Order}
+
+never : {A : Type 0} → _≡_ {A = Bool} false true → A
+never e = absurd (true≢false (sym e))
+
+-- ---- fractions a ÷ p, b ÷ q, c ÷ r
+positive : (x y : ℕ) → 0 < x * y → 0 < x
+positive zero y h = absurd (omega (arith, h, zero-mul y))
+positive (suc x) y h = omega arith
+
+nothing : (x y : ℕ) → 0 < y → x * y ≡ 0 → x ≡ 0
+nothing zero y h e = refl
+nothing (suc x) y h e = let m : 0 < suc x * y = mul-pos (omega arith) h in absurd (omega (arith, m, e))
+
+less-across : (a b c p q r : ℕ) → 0 < p → 0 < r → a * q < b * p → b * r < c * q → a * r < c * p
+less-across a b c p q r P R h k =
+    let u : a * q * r < b * p * r = mul-lt-mul-of-pos-right h R in
+    let v : b * r * p < c * q * p = mul-lt-mul-of-pos-right k P in
+    let x : a * q * r ≡ a * r * q = mul-right-comm _ _ _ in
+    let y : b * p * r ≡ b * r * p = mul-right-comm _ _ _ in
+    let z : c * q * p ≡ c * p * q = mul-right-comm _ _ _ in
+    let w : a * r * q < c * p * q = omega (arith, u, v, x, y, z) in
+    lt-of-mul-lt-mul-right q w
+
+same-across : (a b c p q r : ℕ) → 0 < p → a * q ≡ b * p → b * r < c * q → a * r < c * p
+same-across a b c p q r P h k =
+    let v : b * r * p < c * q * p = mul-lt-mul-of-pos-right k P in
+    let u : a * q * r ≡ b * p * r = ap (λ (z : ℕ). z * r) h in
+    let x : a * q * r ≡ a * r * q = mul-right-comm _ _ _ in
+    let y : b * p * r ≡ b * r * p = mul-right-comm _ _ _ in
+    let z : c * q * p ≡ c * p * q = mul-right-comm _ _ _ in
+    let w : a * r * q < c * p * q = omega (arith, u, v, x, y, z) in
+    lt-of-mul-lt-mul-right q w
+
+same-above : (a b c p q r : ℕ) → 0 < p → a * q ≡ b * p → c * q < b * r → c * p < a * r
+same-above a b c p q r P h k =
+    let v : c * q * p < b * r * p = mul-lt-mul-of-pos-right k P in
+    let u : a * q * r ≡ b * p * r = ap (λ (z : ℕ). z * r) h in
+    let x : a * q * r ≡ a * r * q = mul-right-comm _ _ _ in
+    let y : b * p * r ≡ b * r * p = mul-right-comm _ _ _ in
+    let z : c * q * p ≡ c * p * q = mul-right-comm _ _ _ in
+    let w : c * p * q < a * r * q = omega (arith, u, v, x, y, z) in
+    lt-of-mul-lt-mul-right q w
+
+-- ---- with their signs
+below-trans : (s t u : Bool) (a b c p q r : ℕ) → 0 < p → 0 < q → 0 < r → below s (a * q) t (b * p) ≡ true → below t (b * r) u (c * q) ≡ true → below s (a * r) u (c * p) ≡ true
+below-trans false false false a b c p q r P Q R h k = lt-ltb (a * r) (c * p) (less-across a b c p q r P R (ltb-true (a * q) (b * p) h) (ltb-true (b * r) (c * q) k))
+below-trans false false true a b c p q r P Q R h k = never k
+below-trans false true u a b c p q r P Q R h k = never h
+below-trans true false false a b c p q r P Q R h k =
+    let m : 0 < c * p = mul-pos (positive c q (omega (arith, ltb-true (b * r) (c * q) k))) P in
+    lt-ltb 0 (a * r + c * p) (omega (arith, m))
+below-trans true false true a b c p q r P Q R h k = never k
+below-trans true true false a b c p q r P Q R h k =
+    let m : 0 < a * r = mul-pos (positive a q (omega (arith, ltb-true (b * p) (a * q) h))) R in
+    lt-ltb 0 (a * r + c * p) (omega (arith, m))
+below-trans true true true a b c p q r P Q R h k = lt-ltb (c * p) (a * r) (less-across c b a r q p R P (ltb-true (c * q) (b * r) k) (ltb-true (b * p) (a * q) h))
+
+below-asym : (s t : Bool) (a b : ℕ) → below s a t b ≡ true → below t b s a ≡ false
+below-asym false false a b h = let l : a < b = ltb-true a b h in le-ltb b a (omega (arith, l))
+below-asym false true a b h = never h
+below-asym true false a b h = refl
+below-asym true true a b h = let l : b < a = ltb-true b a h in le-ltb a b (omega (arith, l))
+
+and-no : (x : Bool) → (x && false) ≡ false
+and-no true = refl
+and-no false = refl
+
+below-apart : (s t : Bool) (a b : ℕ) → below s a t b ≡ true → level s a t b ≡ false
+below-apart false false a b h = let l : a < b = ltb-true a b h in rw (ne-eqb a b (λ e. omega (arith, l, e))) refl
+below-apart false true a b h = never h
+below-apart true false a b h = go (eqb a b) refl
+  where
+    l : 0 < a + b
+    l = ltb-true 0 (a + b) h
+
+    go : (x : Bool) → eqb a b ≡ x → (x && eqb a 0) ≡ false
+    go true e = ne-eqb a 0 (λ z. omega (arith, l, z, eqb-true a b e))
+    go false e = refl
+below-apart true true a b h = let l : b < a = ltb-true b a h in rw (ne-eqb a b (λ e. omega (arith, l, e))) refl
+
+level-even : (s t : Bool) (a b : ℕ) → level s a t b ≡ level t b s a
+level-even s t a b = go (eqb a b) refl
+  where
+    turn : (s t x : Bool) → (Bool·beq s t || x) ≡ (Bool·beq t s || x)
+    turn true true x = refl
+    turn true false x = refl
+    turn false true x = refl
+    turn false false x = refl
+
+    go : (x : Bool) → eqb a b ≡ x → level s a t b ≡ level t b s a
+    go true e = let d : a ≡ b = eqb-true a b e in subst (λ (z : ℕ). level s a t z ≡ level t z s a) d (ap (λ (w : Bool). eqb a a && w) (turn s t (eqb a 0)))
+    go false e = rw (e, ne-eqb b a (λ d. eqb-false a b e (sym d))) refl
+
+-- the signs of equal fractions are equal, or both are zero
+data Level (s t : Bool) (x y : ℕ) : Type 0 where
+  signs : s ≡ t → x ≡ y → Level s t x y
+  zeros : x ≡ 0 → y ≡ 0 → Level s t x y
+
+levelled : (s t : Bool) (x y : ℕ) → level s x t y ≡ true → Level s t x y
+levelled s t x y h = go (eqb x y) refl h
+  where
+    side : (s t : Bool) → x ≡ y → (Bool·beq s t || eqb x 0) ≡ true → Level s t x y
+    side true true e k = signs refl e
+    side true false e k = let z : x ≡ 0 = eqb-true x 0 k in zeros z (omega (arith, z, e))
+    side false true e k = let z : x ≡ 0 = eqb-true x 0 k in zeros z (omega (arith, z, e))
+    side false false e k = signs refl e
+
+    go : (w : Bool) → eqb x y ≡ w → (w && (Bool·beq s t || eqb x 0)) ≡ true → Level s t x y
+    go true e k = side s t (eqb-true x y e) k
+    go false e k = never k
+
+level-follow : (s t u : Bool) (a b c p q r : ℕ) → 0 < p → 0 < q → 0 < r → level s (a * q) t (b * p) ≡ true → below t (b * r) u (c * q) ≡ true → below s (a * r) u (c * p) ≡ true
+level-follow s t u a b c p q r P Q R h k = go (levelled s t (a * q) (b * p) h)
+  where
+    like : (t u : Bool) → a * q ≡ b * p → below t (b * r) u (c * q) ≡ true → below t (a * r) u (c * p) ≡ true
+    like false false e k = lt-ltb (a * r) (c * p) (same-across a b c p q r P e (ltb-true (b * r) (c * q) k))
+    like false true e k = never k
+    like true false e k = some (decLt 0 c)
+      where
+        some : Dec (0 < c) → ltb 0 (a * r + c * p) ≡ true
+        some (yes g) = let m : 0 < c * p = mul-pos g P in lt-ltb 0 (a * r + c * p) (omega (arith, m))
+        some (no g) =
+            let z : c ≡ 0 = omega (arith, g) in
+            let y : c * q ≡ 0 = ap (λ (w : ℕ). w * q) z ∙ zero-mul q in
+            let m : 0 < b * p = mul-pos (positive b r (omega (arith, ltb-true 0 (b * r + c * q) k, y))) P in
+            let n : 0 < a * r = mul-pos (positive a q (omega (arith, m, e))) R in
+            lt-ltb 0 (a * r + c * p) (omega (arith, n))
+    like true true e k = lt-ltb (c * p) (a * r) (same-above a b c p q r P e (ltb-true (c * q) (b * r) k))
+
+    -- both zero: what lies past one lies past the other
+    zero-to : (t u : Bool) → a ≡ 0 → b ≡ 0 → below t (b * r) u (c * q) ≡ true → (u ≡ false) × (0 < c)
+    zero-to false false x y k = (refl, positive c q (omega (arith, ltb-true (b * r) (c * q) k)))
+    zero-to false true x y k = never k
+    zero-to true false x y k =
+        let z : b * r ≡ 0 = ap (λ (w : ℕ). w * r) y ∙ zero-mul r in
+        (refl, positive c q (omega (arith, ltb-true 0 (b * r + c * q) k, z)))
+    zero-to true true x y k =
+        let z : b * r ≡ 0 = ap (λ (w : ℕ). w * r) y ∙ zero-mul r in
+        absurd (omega (arith, ltb-true (c * q) (b * r) k, z))
+
+    zero-from : (s : Bool) → a ≡ 0 → 0 < c → below s (a * r) false (c * p) ≡ true
+    zero-from false x g =
+        let z : a * r ≡ 0 = ap (λ (w : ℕ). w * r) x ∙ zero-mul r in
+        let m : 0 < c * p = mul-pos g P in
+        lt-ltb (a * r) (c * p) (omega (arith, z, m))
+    zero-from true x g = let m : 0 < c * p = mul-pos g P in lt-ltb 0 (a * r + c * p) (omega (arith, m))
+
+    go : Level s t (a * q) (b * p) → below s (a * r) u (c * p) ≡ true
+    go (signs e d) = subst (λ (w : Bool). below w (a * r) u (c * p) ≡ true) (sym e) (like t u d k)
+    go (zeros x y) =
+        let z = zero-to t u (nothing a q Q x) (nothing b p P y) k in
+        subst (λ (w : Bool). below s (a * r) w (c * p) ≡ true) (sym (z .0)) (zero-from s (nothing a q Q x) (z .1))
+
+below-total : (s t : Bool) (a b : ℕ) → below s a t b ≡ false → level s a t b ≡ false → below t b s a ≡ true
+below-total false false a b h k =
+    let l : b ≤ a = ltb-false a b h in
+    lt-ltb b a (other (decLt b a) l)
+  where
+    other : Dec (b < a) → b ≤ a → b < a
+    other (yes g) l = g
+    other (no g) l = let e : a ≡ b = omega (arith, g, l) in absurd (true≢false (sym (rw (eq-eqb a b e) refl) ∙ k))
+below-total false true a b h k = other (decLt 0 (b + a))
+  where
+    other : Dec (0 < b + a) → ltb 0 (b + a) ≡ true
+    other (yes g) = lt-ltb 0 (b + a) g
+    other (no g) =
+        let e : a ≡ b = omega (arith, g) in
+        let z : a ≡ 0 = omega (arith, g) in
+        absurd (true≢false (sym (rw (eq-eqb a b e, eq-eqb a 0 z) refl) ∙ k))
+below-total true false a b h k =
+    let l : a + b ≤ 0 = ltb-false 0 (a + b) h in
+    let e : a ≡ b = omega (arith, l) in
+    let z : a ≡ 0 = omega (arith, l) in
+    absurd (true≢false (sym (rw (eq-eqb a b e, eq-eqb a 0 z) refl) ∙ k))
+below-total true true a b h k =
+    let l : a ≤ b = ltb-false b a h in
+    lt-ltb a b (other (decLt a b) l)
+  where
+    other : Dec (a < b) → a ≤ b → a < b
+    other (yes g) l = g
+    other (no g) l = let e : a ≡ b = omega (arith, g, l) in absurd (true≢false (sym (rw (eq-eqb a b e) refl) ∙ k))
+
+-- ---- floats
+-- nothing lies past infinity
+past-top : (t : Bool) (z : Float) → not t ≡ true → lt (inf t) z ≡ true → ⊥
+unfolding lt
+past-top true z h k = never h
+past-top false nan h k = never k
+past-top false (inf u) h k = never k
+past-top false (fin u c g) h k = never k
+
+last-of : (s t : Bool) → (s && t) ≡ true → t ≡ true
+last-of true t h = h
+last-of false t h = never h
+
+lt-trans : (x y z : Float) → lt x y ≡ true → lt y z ≡ true → lt x z ≡ true
+unfolding lt
+lt-trans nan y z h k = never h
+lt-trans (inf s) nan z h k = never h
+lt-trans (inf s) (inf t) z h k = absurd (past-top t z (last-of s (not t) h) k)
+lt-trans (inf s) (fin t b d) nan h k = never k
+lt-trans (inf s) (fin t b d) (inf u) h k = rw (h, k) refl
+lt-trans (inf s) (fin t b d) (fin u c g) h k = h
+lt-trans (fin s a e) nan z h k = never h
+lt-trans (fin s a e) (inf t) z h k = absurd (past-top t z h k)
+lt-trans (fin s a e) (fin t b d) nan h k = never k
+lt-trans (fin s a e) (fin t b d) (inf u) h k = k
+lt-trans (fin s a e) (fin t b d) (fin u c g) h k = below-trans s t u (a * up e) (b * up d) (c * up g) (down e) (down d) (down g) (down-pos e) (down-pos d) (down-pos g) h k
+
+lt-asym : (x y : Float) → lt x y ≡ true → lt y x ≡ false
+unfolding lt
+lt-asym nan y h = never h
+lt-asym (inf s) nan h = never h
+lt-asym (inf true) (inf false) h = refl
+lt-asym (inf true) (inf true) h = never h
+lt-asym (inf false) (inf t) h = never h
+lt-asym (inf true) (fin t b d) h = refl
+lt-asym (inf false) (fin t b d) h = never h
+lt-asym (fin s a e) nan h = never h
+lt-asym (fin s a e) (inf true) h = never h
+lt-asym (fin s a e) (inf false) h = refl
+lt-asym (fin s a e) (fin t b d) h = below-asym s t (a * up e * down d) (b * up d * down e) h
+
+lt-apart : (x y : Float) → lt x y ≡ true → eq x y ≡ false
+unfolding lt eq
+lt-apart nan y h = never h
+lt-apart (inf s) nan h = never h
+lt-apart (inf true) (inf false) h = refl
+lt-apart (inf true) (inf true) h = never h
+lt-apart (inf false) (inf t) h = never h
+lt-apart (inf s) (fin t b d) h = refl
+lt-apart (fin s a e) nan h = never h
+lt-apart (fin s a e) (inf t) h = refl
+lt-apart (fin s a e) (fin t b d) h = below-apart s t (a * up e * down d) (b * up d * down e) h
+
+eq-even : (x y : Float) → eq x y ≡ eq y x
+unfolding eq
+eq-even nan nan = refl
+eq-even nan (inf t) = refl
+eq-even nan (fin t b d) = refl
+eq-even (inf s) nan = refl
+eq-even (inf true) (inf true) = refl
+eq-even (inf true) (inf false) = refl
+eq-even (inf false) (inf true) = refl
+eq-even (inf false) (inf false) = refl
+eq-even (inf s) (fin t b d) = refl
+eq-even (fin s a e) nan = refl
+eq-even (fin s a e) (inf t) = refl
+eq-even (fin s a e) (fin t b d) = level-even s t (a * up e * down d) (b * up d * down e)
+
+lt-follow : (x y z : Float) → eq x y ≡ true → lt y z ≡ true → lt x z ≡ true
+unfolding lt eq
+lt-follow nan y z h k = never h
+lt-follow (inf s) nan z h k = never h
+lt-follow (inf true) (inf true) z h k = k
+lt-follow (inf true) (inf false) z h k = never h
+lt-follow (inf false) (inf true) z h k = never h
+lt-follow (inf false) (inf false) z h k = k
+lt-follow (inf s) (fin t b d) z h k = never h
+lt-follow (fin s a e) nan z h k = never h
+lt-follow (fin s a e) (inf t) z h k = never h
+lt-follow (fin s a e) (fin t b d) nan h k = never k
+lt-follow (fin s a e) (fin t b d) (inf u) h k = k
+lt-follow (fin s a e) (fin t b d) (fin u c g) h k = level-follow s t u (a * up e) (b * up d) (c * up g) (down e) (down d) (down g) (down-pos e) (down-pos d) (down-pos g) h k
+
+-- negation turns the order round
+pub lt-neg : (x y : Float) → lt (neg x) (neg y) ≡ lt y x
+unfolding lt neg
+lt-neg nan nan = refl
+lt-neg nan (inf t) = refl
+lt-neg nan (fin t b d) = refl
+lt-neg (inf s) nan = refl
+lt-neg (inf true) (inf true) = refl
+lt-neg (inf true) (inf false) = refl
+lt-neg (inf false) (inf true) = refl
+lt-neg (inf false) (inf false) = refl
+lt-neg (inf true) (fin t b d) = refl
+lt-neg (inf false) (fin t b d) = refl
+lt-neg (fin s a e) nan = refl
+lt-neg (fin s a e) (inf true) = refl
+lt-neg (fin s a e) (inf false) = refl
+lt-neg (fin false a e) (fin false b d) = refl
+lt-neg (fin false a e) (fin true b d) = ap (ltb 0) (add-comm (a * up e * down d) (b * up d * down e))
+lt-neg (fin true a e) (fin false b d) = refl
+lt-neg (fin true a e) (fin true b d) = refl
+
+lt-lead : (x y z : Float) → lt x y ≡ true → eq y z ≡ true → lt x z ≡ true
+lt-lead x y z h k = sym (lt-neg z x) ∙ lt-follow (neg z) (neg y) (neg x) (eq-neg z y ∙ eq-even z y ∙ k) (lt-neg y x ∙ h)
+
+lt-total : (x y : Float) → eq x x ≡ true → eq y y ≡ true → lt x y ≡ false → eq x y ≡ false → lt y x ≡ true
+unfolding lt eq
+lt-total nan y p q h k = never p
+lt-total (inf s) nan p q h k = never q
+lt-total (inf true) (inf true) p q h k = absurd (true≢false k)
+lt-total (inf true) (inf false) p q h k = absurd (true≢false h)
+lt-total (inf false) (inf true) p q h k = refl
+lt-total (inf false) (inf false) p q h k = absurd (true≢false k)
+lt-total (inf true) (fin t b d) p q h k = absurd (true≢false h)
+lt-total (inf false) (fin t b d) p q h k = refl
+lt-total (fin s a e) nan p q h k = never q
+lt-total (fin s a e) (inf true) p q h k = refl
+lt-total (fin s a e) (inf false) p q h k = absurd (true≢false h)
+lt-total (fin s a e) (fin t b d) p q h k = below-total s t (a * up e * down d) (b * up d * down e) h k
+
+-- what is less than a number, or more, equals itself
+own : (x : Float) → Ieee.isNan x ≡ false → eq x x ≡ true
+own x n = eq-self x (subst (λ (b : Bool). T (not b)) (sym n) tt)
+
+lt-left : (x y : Float) → lt x y ≡ true → eq x x ≡ true
+unfolding lt Ieee.isNan
+lt-left nan y h = never h
+lt-left (inf s) y h = own (inf s) refl
+lt-left (fin s a e) y h = own (fin s a e) refl
+
+lt-right : (x y : Float) → lt x y ≡ true → eq y y ≡ true
+lt-right x y h = sym (eq-neg y y) ∙ lt-left (neg y) (neg x) (lt-neg y x ∙ h)
+
+pub real-order : Order Float lt eq
+real-order = record { trans = lt-trans; asym = lt-asym; apart = lt-apart; even = eq-even; follow = lt-follow; lead = lt-lead; left = lt-left; right = lt-right; total = lt-total }

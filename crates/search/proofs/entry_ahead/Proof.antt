@@ -1,0 +1,15 @@
+use mathlib.Core.Path.{_≡_, refl, sym, ap, _∙_}
+use borrow.Author.Tests.{lt-ltb, le-ltb, le-leb, lt-leb}
+use Rattle.search.proofs.entry_ahead.Statement.{statement}
+use Rattle.search.proofs.entry_ahead.Tie as tie
+use Rattle.search.proofs.entry_ahead.Reads as reads
+use Rattle.search.proofs.entry_ahead.Lts as lts
+
+returns : tie.Need-returns
+returns c = rw (lt-ltb _ _ (c .if1 .taken)) refl
+
+returns-2 : tie.Need-returns-2
+returns-2 c = rw (le-ltb _ _ (c .if1 .left)) refl
+
+pub entry-ahead-spec : {M : Type 1} → statement M
+entry-ahead-spec = tie.close (tie.spec returns returns-2)

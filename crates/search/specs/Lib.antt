@@ -1,0 +1,4 @@
+pub mod Search
+pub mod Lists
+pub mod Settled
+pub mod Steps

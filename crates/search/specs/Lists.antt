@@ -1,0 +1,62 @@
+-- The searches of a lent list, with the refusals of 01 "Why a call stops". Assumes nothing.
+use Prim.Native.Nat.{ℕ, zero, suc}
+use mathlib.Core.Bool.{Bool, true, false, cond, not, _&&_, _||_}
+use mathlib.Core.List.{List, [], _∷_}
+use lib.Dec.{ltb}
+use lib.IntN.{ℤ}
+use lib.ListN.{length}
+use lib.Ieee as Ieee
+use lib.Ieee.{Float}
+use Rattle.ranged1d.specs.Answer.{Answer, given, none, refused, _when_, lowest}
+use Rattle.ranged1d.specs.Admitted.{wholeAdmitted}
+use Rattle.search.specs.Search.{Numbers, wholes, reals, search}
+use Rattle.search.specs.declared.RoundingMethod.{RoundingMethod}
+use Rattle.search.specs.declared.RoundingMethod.the-variants.{Exact, Ceil, Floor, Round}
+
+-- ---- 8: which lists can be searched. No entry is a NaN, which is an entry that does not equal itself, and each is less than the next,
+-- or each is greater than the next.
+abbrev pub every : {A : Type 0} → (A → Bool) → List A → Bool
+every p [] = true
+every p (x ∷ xs) = p x && every p xs
+
+abbrev pub goesOn : {A : Type 0} → (A → A → Bool) → A → List A → Bool
+goesOn lt x [] = true
+goesOn lt x (y ∷ ys) = lt x y && goesOn lt y ys
+
+abbrev pub ascends : {A : Type 0} → (A → A → Bool) → List A → Bool
+ascends lt [] = true
+ascends lt (x ∷ xs) = goesOn lt x xs
+
+unfoldable pub searchable : {A : Type 0} → Numbers A → List A → Bool
+searchable num l = every (λ x. num .equal x x) l && (ascends (num .less) l || ascends (λ x y. num .less y x) l)
+
+-- ---- 9: a NaN as the target, where the list has an entry and the search is not the exact one
+abbrev pub isExact : RoundingMethod → Bool
+isExact Exact = true
+isExact Ceil = false
+isExact Floor = false
+isExact Round = false
+
+abbrev pub isNan : Float → Bool
+isNan t = not (Ieee.eq t t)
+
+abbrev pub nanTarget : Float → RoundingMethod → ℕ → Bool
+nanTarget t method n = isNan t && (ltb 0 n && not (isExact method))
+
+-- ---- `search_whole`: 1 where an entry or the target is not admitted, 8 where the list cannot be searched
+unfoldable pub wholeSearch : List ℤ → ℤ → RoundingMethod → Answer ℕ
+wholeSearch l t method =
+    lowest (
+    1 when not (every wholeAdmitted l && wholeAdmitted t)
+    ∷ 8 when not (searchable wholes l)
+    ∷ []
+    ) (search wholes t method l)
+
+-- ---- `search_real`: 8 and 9
+unfoldable pub realSearch : List Float → Float → RoundingMethod → Answer ℕ
+realSearch l t method =
+    lowest (
+    8 when not (searchable reals l)
+    ∷ 9 when nanTarget t method (length l)
+    ∷ []
+    ) (search reals t method l)
