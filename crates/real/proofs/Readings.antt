@@ -93,7 +93,7 @@ same-self nan = inl (refl, refl)
 same-self (inf s) = inr (eq-self (inf s) tt)
 same-self (fin s m e) = inr (eq-self (fin s m e) tt)
 
-alike-same : {x y : Float} → Alike x y → Same x y
+pub alike-same : {x y : Float} → Alike x y → Same x y
 unfolding eq
 alike-same {x} (inl e) = subst (Same x) e (same-self x)
 alike-same (inr w) = rw (w .0 .1, w .1 .1) (inr (zeros-equal (w .0 .0) (w .1 .0)))

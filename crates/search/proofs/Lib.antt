@@ -7,3 +7,5 @@ pub mod Cases
 pub mod Lists
 pub mod Halves
 pub mod Rules
+pub mod Turned
+pub mod Mirror

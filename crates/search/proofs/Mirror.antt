@@ -1,0 +1,185 @@
+-- The mirror theorem for searches of lent lists. Assumes nothing.
+use mathlib.Core.Path.{_≡_, refl, sym, ap, subst, _∙_}
+use mathlib.Core.Bool.{Bool, true, false, cond, not, _&&_, _||_, Bool·beq}
+use mathlib.Core.Logic.{_⊎_, inl, inr}
+use mathlib.Core.List.{List, [], _∷_, map}
+use Prim.Native.Nat.{ℕ, zero, suc, _+_, _-_, _*_, _≤_, _<_}
+use native.Mathlib.Nat.{add-comm, mul-comm, zero-mul}
+use native.Mathlib.Omega.{arith}
+use native.Mathlib.Decide.{decLt}
+use borrow.Author.Tests.{lt-ltb, le-ltb}
+use lib.Dec.{ltb}
+use lib.IntN.{ℤ, pos, negsuc, negℤ, natAbs, _+ℤ_, _-ℤ_, negℤ-negℤ, +ℤ-comm}
+use lib.ListN.{length}
+use lib.Signed.{ltZ, leZ}
+use lib.Ieee.{Float, nan, inf, fin, binary64, up, down, below, round, neg, sum, add, sub, lt, eq}
+use Rattle.ranged1d.specs.Admitted.{wholeAdmitted}
+use Rattle.ranged1d.proofs.Whole.{neg-far, neg-le, not-lt, lt-not}
+use Rattle.rounding.proofs.Signs.{neg-neg}
+use Rattle.real.proofs.Signs.{Alike, zeroOf, eq-neg, eq-alike, alike-back, alike-on, alike-through, same-through, add-left}
+use Rattle.search.specs.Search.{wholes, reals, search}
+use Rattle.search.specs.Lists.{every, isExact, isNan, wholeSearch, realSearch}
+use Rattle.search.specs.Mirror.{turned, Mirrored}
+use Rattle.search.specs.declared.RoundingMethod.{RoundingMethod}
+use Rattle.search.specs.declared.RoundingMethod.the-variants.{Exact, Ceil, Floor, Round}
+use Rattle.search.proofs.RealOrder.{lt-neg}
+use Rattle.search.proofs.Turned.{Turns, Each, end, more, each-length, search-turned, searchable-turned, exact-stays}
+
+-- ---- whole numbers: each is the negation of the other
+abbrev pub Opposite : ℤ → ℤ → Type 0
+Opposite x x' = x ≡ negℤ x'
+
+not-le : (x y : ℤ) → ltZ x y ≡ not (leZ y x)
+not-le x y = go (ltZ x y) refl
+  where
+    go : (b : Bool) → ltZ x y ≡ b → ltZ x y ≡ not (leZ y x)
+    go true e = e ∙ sym (ap not (lt-not x y e))
+    go false e = e ∙ sym (ap not (not-lt x y e))
+
+neg-lt : (x y : ℤ) → ltZ (negℤ x) (negℤ y) ≡ ltZ y x
+neg-lt x y = not-le (negℤ x) (negℤ y) ∙ ap not (neg-le y x) ∙ sym (not-le y x)
+
+less-opposite : (x y : ℤ) → negℤ x -ℤ negℤ y ≡ y -ℤ x
+less-opposite x y = ap (λ (z : ℤ). negℤ x +ℤ z) (negℤ-negℤ y) ∙ +ℤ-comm (negℤ x) y
+
+pub whole-turns : Turns wholes Opposite
+whole-turns = record {
+  less-turns = λ {x} {x'} {y} {y'} r s. rw (r, s) (neg-lt x' y');
+  equal-turns = λ {x} {x'} {y} {y'} r s. rw (r, s, neg-le x' y', neg-le y' x') (and-turns (leZ y' x') (leZ x' y'));
+  apart-turns = λ {x} {x'} {y} {y'} {z} {z'} {w} {w'} r s u v. rw (r, s, u, v, less-opposite x' y', less-opposite z' w') refl;
+}
+  where
+    and-turns : (s t : Bool) → (s && t) ≡ (t && s)
+    and-turns true true = refl
+    and-turns true false = refl
+    and-turns false true = refl
+    and-turns false false = refl
+
+-- ---- floats: negated, up to the sign of a zero
+abbrev pub Across : Float → Float → Type 0
+Across x x' = Alike x (neg x')
+
+sum-comm : (s t : Bool) (a b c : ℕ) → sum binary64 s a t b c ≡ sum binary64 t b s a c
+unfolding sum
+sum-comm true true a b c = ap (λ (k : ℕ). round binary64 true k c) (add-comm a b)
+sum-comm false false a b c = ap (λ (k : ℕ). round binary64 false k c) (add-comm a b)
+sum-comm true false a b c = go (decLt a b) (decLt b a)
+  where
+    go : Dec (a < b) → Dec (b < a) → cond (ltb a b) (round binary64 false (b - a) c) (round binary64 (ltb b a) (a - b) c) ≡ cond (ltb b a) (round binary64 true (a - b) c) (round binary64 false (b - a) c)
+    go (yes h) k = rw (lt-ltb a b h, le-ltb b a (omega (arith, h))) refl
+    go (no h) (yes k) = rw (le-ltb a b (omega (arith, h)), lt-ltb b a k) refl
+    go (no h) (no k) = let e : a - b ≡ b - a = omega (arith, h, k) in rw (le-ltb a b (omega (arith, h)), le-ltb b a (omega (arith, k)), e) refl
+sum-comm false true a b c = go (decLt a b) (decLt b a)
+  where
+    go : Dec (a < b) → Dec (b < a) → cond (ltb a b) (round binary64 true (b - a) c) (round binary64 false (a - b) c) ≡ cond (ltb b a) (round binary64 false (a - b) c) (round binary64 (ltb a b) (b - a) c)
+    go (yes h) k = rw (lt-ltb a b h, le-ltb b a (omega (arith, h))) refl
+    go (no h) (yes k) = rw (le-ltb a b (omega (arith, h)), lt-ltb b a k) refl
+    go (no h) (no k) = let e : a - b ≡ b - a = omega (arith, h, k) in rw (le-ltb a b (omega (arith, h)), le-ltb b a (omega (arith, k)), e) refl
+
+beq-same : (s t : Bool) → cond (Bool·beq s t) (inf s) nan ≡ cond (Bool·beq t s) (inf t) nan
+beq-same true true = refl
+beq-same true false = refl
+beq-same false true = refl
+beq-same false false = refl
+
+pub add-comm-float : (x y : Float) → add binary64 x y ≡ add binary64 y x
+unfolding add
+add-comm-float nan nan = refl
+add-comm-float nan (inf t) = refl
+add-comm-float nan (fin t n d) = refl
+add-comm-float (inf s) nan = refl
+add-comm-float (inf s) (inf t) = beq-same s t
+add-comm-float (inf s) (fin t n d) = refl
+add-comm-float (fin s m e) nan = refl
+add-comm-float (fin s m e) (inf t) = refl
+add-comm-float (fin s m e) (fin t n d) =
+    sum-comm s t (m * up e * down d) (n * up d * down e) (down e * down d)
+    ∙ ap (sum binary64 t (n * up d * down e) s (m * up e * down d)) (mul-comm (down e) (down d))
+
+-- the difference of negated numbers is the difference the other way round
+sub-opposite : (x y : Float) → sub binary64 (neg x) (neg y) ≡ sub binary64 y x
+unfolding sub
+sub-opposite x y = ap (add binary64 (neg x)) (neg-neg y) ∙ add-comm-float (neg x) y
+
+pub add-alike : {x x' y y' : Float} → Alike x x' → Alike y y' → Alike (add binary64 x y) (add binary64 x' y')
+add-alike {x' = x'} {y = y} {y' = y'} v w =
+    alike-on (alike-through (λ (z : Float). add binary64 z y) (add-left y) v)
+    (alike-through (add binary64 x') (λ s t. subst (λ (z : Float). Alike z (add binary64 x' (zeroOf t))) (add-comm-float (zeroOf s) x') (subst (λ (z : Float). Alike (add binary64 (zeroOf s) x') z) (add-comm-float (zeroOf t) x') (add-left x' s t))) w)
+
+neg-zeros : (s t : Bool) → Alike (neg (zeroOf s)) (neg (zeroOf t))
+unfolding neg
+neg-zeros s t = inr ((not s, refl), (not t, refl))
+
+neg-alike : {x y : Float} → Alike x y → Alike (neg x) (neg y)
+neg-alike v = alike-through neg neg-zeros v
+
+-- a zero of either sign compares alike
+below-zero : (s u : Bool) (b : ℕ) → below s 0 u b ≡ below false 0 u b
+below-zero false u b = refl
+below-zero true false b = let e : 0 + b ≡ b = omega arith in ap (ltb 0) e
+below-zero true true b = let l : 0 ≤ b = omega arith in le-ltb b 0 l
+
+lt-zero : (y : Float) (s t : Bool) → lt (zeroOf s) y ≡ lt (zeroOf t) y
+unfolding lt
+lt-zero nan s t = refl
+lt-zero (inf u) s t = refl
+lt-zero (fin u n d) s t = rw (zero-mul (down d)) (below-zero s u (n * up d * 1) ∙ sym (below-zero t u (n * up d * 1)))
+
+lt-past-zero : (x : Float) (s t : Bool) → lt x (zeroOf s) ≡ lt x (zeroOf t)
+unfolding neg
+lt-past-zero x s t = sym (lt-neg (zeroOf s) x) ∙ lt-zero (neg x) (not s) (not t) ∙ lt-neg (zeroOf t) x
+
+pub lt-alike : {x' x y' y : Float} → Alike x' x → Alike y' y → lt x' y' ≡ lt x y
+lt-alike {x = x} {y' = y'} v w = same-through (λ (z : Float). lt z y') (lt-zero y') v ∙ same-through (lt x) (lt-past-zero x) w
+
+sub-across : {x y : Float} (x' y' : Float) → Across x x' → Across y y' → Alike (sub binary64 x y) (sub binary64 y' x')
+unfolding sub
+sub-across {x} {y} x' y' r s = subst (Alike (sub binary64 x y)) (sub-opposite x' y') (add-alike r (neg-alike s))
+
+pub real-turns : Turns reals Across
+real-turns = record {
+  less-turns = λ {x} {x'} {y} {y'} r s. lt-alike r s ∙ lt-neg x' y';
+  equal-turns = λ {x} {x'} {y} {y'} r s. eq-alike r s ∙ eq-neg x' y';
+  apart-turns = λ {x} {x'} {y} {y'} {z} {z'} {w} {w'} r s u v. lt-alike (sub-across x' y' r s) (sub-across z' w' u v);
+}
+
+-- ---- the theorem
+opposites : (l : List ℤ) → Each Opposite (map negℤ l) l
+opposites [] = end
+opposites (x ∷ xs) = more refl (opposites xs)
+
+across : (l : List Float) → Each Across (map neg l) l
+across [] = end
+across (x ∷ xs) = more (inl refl) (across xs)
+
+admitted-neg : (z : ℤ) → wholeAdmitted (negℤ z) ≡ wholeAdmitted z
+admitted-neg z = rw (neg-far z) refl
+
+all-admitted : (l : List ℤ) → every wholeAdmitted (map negℤ l) ≡ every wholeAdmitted l
+all-admitted [] = refl
+all-admitted (x ∷ xs) = rw (admitted-neg x, all-admitted xs) refl
+
+pub turned-twice : (method : RoundingMethod) → turned (turned method) ≡ method
+turned-twice Exact = refl
+turned-twice Ceil = refl
+turned-twice Floor = refl
+turned-twice Round = refl
+
+whole-found : (l : List ℤ) (t : ℤ) (method : RoundingMethod) → search wholes (negℤ t) (turned method) (map negℤ l) ≡ search wholes t method l
+whole-found l t method = sym (search-turned wholes Opposite whole-turns (map negℤ l) l (opposites l) (negℤ t) t refl (turned method)) ∙ ap (λ (m : RoundingMethod). search wholes t m l) (turned-twice method)
+
+real-found : (l : List Float) (t : Float) (method : RoundingMethod) → search reals (neg t) (turned method) (map neg l) ≡ search reals t method l
+real-found l t method = sym (search-turned reals Across real-turns (map neg l) l (across l) (neg t) t (inl refl) (turned method)) ∙ ap (λ (m : RoundingMethod). search reals t m l) (turned-twice method)
+
+whole-searches : (l : List ℤ) (t : ℤ) (method : RoundingMethod) → wholeSearch (map negℤ l) (negℤ t) (turned method) ≡ wholeSearch l t method
+unfolding wholeSearch
+whole-searches l t method =
+    rw (all-admitted l, admitted-neg t, sym (searchable-turned wholes Opposite whole-turns (map negℤ l) l (opposites l)), whole-found l t method) refl
+
+real-searches : (l : List Float) (t : Float) (method : RoundingMethod) → realSearch (map neg l) (neg t) (turned method) ≡ realSearch l t method
+unfolding realSearch
+real-searches l t method =
+    rw (sym (searchable-turned reals Across real-turns (map neg l) l (across l)), eq-neg t t, each-length (map neg l) l (across l), exact-stays method, real-found l t method) refl
+
+pub mirror : Mirrored
+mirror = record { whole-searches = whole-searches; real-searches = real-searches }

@@ -1,0 +1,143 @@
+-- A search of two lists that mirror each other. What mirrors what is any relation that turns comparisons round. Assumes nothing.
+use mathlib.Core.Path.{_≡_, refl, sym, ap, subst, _∙_}
+use mathlib.Core.Bool.{Bool, true, false, cond, true≢false, not, _&&_, _||_}
+use mathlib.Core.List.{List, [], _∷_}
+use Prim.Native.Nat.{ℕ, zero, suc, _≤_, _<_}
+use native.Mathlib.Omega.{arith}
+use native.Mathlib.Decide.{decLt}
+use borrow.Author.Tests.{lt-ltb, le-ltb}
+use lib.Dec.{ltb}
+use lib.ListN.{length}
+use Rattle.ranged1d.specs.Answer.{Answer, given, none, refused}
+use Rattle.search.specs.Search.{Numbers, further, unlessBetter, best, exact, up, down, nearer, between, indexOf, search}
+use Rattle.search.specs.Lists.{every, goesOn, ascends, searchable, isExact}
+use Rattle.search.specs.Mirror.{turned}
+use Rattle.search.specs.declared.RoundingMethod.{RoundingMethod}
+use Rattle.search.specs.declared.RoundingMethod.the-variants.{Exact, Ceil, Floor, Round}
+
+-- y mirrors x
+pub record Turns {A : Type 0} (num : Numbers A) (R : A → A → Type 0) : Type 0 where
+  pub less-turns : {x x' y y' : A} → R x x' → R y y' → num .less x y ≡ num .less y' x'
+  pub equal-turns : {x x' y y' : A} → R x x' → R y y' → num .equal x y ≡ num .equal x' y'
+  pub apart-turns : {x x' y y' z z' w w' : A} → R x x' → R y y' → R z z' → R w w'
+      → num .less (num .minus x y) (num .minus z w) ≡ num .less (num .minus y' x') (num .minus w' z')
+
+-- entry for entry
+pub data Each {A : Type 0} (R : A → A → Type 0) : List A → List A → Type 0 where
+  end : Each R [] []
+  more : {x y : A} {xs ys : List A} → R x y → Each R xs ys → Each R (x ∷ xs) (y ∷ ys)
+
+-- the same index and a mirrored entry, or both none
+pub data Both {A : Type 0} (R : A → A → Type 0) : Answer (ℕ × A) → Answer (ℕ × A) → Type 0 where
+  givens : {k : ℕ} {x y : A} → R x y → Both R (given (k, x)) (given (k, y))
+  nones : Both R none none
+
+pub each-length : {A : Type 0} {R : A → A → Type 0} (l l' : List A) → Each R l l' → length l ≡ length l'
+each-length [] [] end = refl
+each-length (x ∷ xs) (y ∷ ys) (more r e) = ap suc (each-length xs ys e)
+
+module _ {A : Type 0} (R : A → A → Type 0) (p p' : A → Bool) (b b' : A → A → Bool)
+    (pp : (x y : A) → R x y → p x ≡ p' y) (bb : (x y z w : A) → R x y → R z w → b x z ≡ b' y w) where
+  step : (x y : A) (f f' : Answer (ℕ × A)) → R x y → Both R f f' → (t : Bool)
+      → Both R (cond t (unlessBetter b x f) (further f)) (cond t (unlessBetter b' y f') (further f'))
+  step x y (given (k, z)) (given (k', w)) r (givens s) true = subst (λ (c : Bool). Both R (cond c (given (suc k, z)) (given (0, x))) (cond (b' w y) (given (suc k, w)) (given (0, y)))) (sym (bb z w x y s r)) (go (b' w y))
+    where
+      go : (c : Bool) → Both R (cond c (given (suc k, z)) (given (0, x))) (cond c (given (suc k, w)) (given (0, y)))
+      go true = givens s
+      go false = givens r
+  step x y none none r nones true = givens r
+  step x y (given (k, z)) (given (k', w)) r (givens s) false = givens s
+  step x y none none r nones false = nones
+
+  pub best-turned : (l l' : List A) → Each R l l' → Both R (best p b l) (best p' b' l')
+  best-turned [] [] end = nones
+  best-turned (x ∷ xs) (y ∷ ys) (more r e) =
+      subst (λ (t : Bool). Both R (cond t (unlessBetter b x (best p b xs)) (further (best p b xs))) (cond (p' y) (unlessBetter b' y (best p' b' ys)) (further (best p' b' ys)))) (sym (pp x y r))
+      (step x y (best p b xs) (best p' b' ys) r (best-turned xs ys e) (p' y))
+
+-- ---- the searches
+module _ {A : Type 0} (num : Numbers A) (R : A → A → Type 0) (T : Turns num R) (l l' : List A) (each : Each R l l') (t t' : A) (rt : R t t') where
+  exact-turned : Both R (exact num t l) (exact num t' l')
+  exact-turned = best-turned R (λ x. num .equal x t) (λ x. num .equal x t') (λ x y. false) (λ x y. false) (λ x y r. T .equal-turns r rt) (λ x y z w r s. refl) l l' each
+
+  past : (x y : A) → R x y → (num .less t x || num .equal x t) ≡ (num .less y t' || num .equal y t')
+  past x y r = rw (T .less-turns rt r, T .equal-turns r rt) refl
+
+  before : (x y : A) → R x y → (num .less x t || num .equal x t) ≡ (num .less t' y || num .equal y t')
+  before x y r = rw (T .less-turns r rt, T .equal-turns r rt) refl
+
+  up-turned : Both R (up num t l) (down num t' l')
+  up-turned = best-turned R (λ x. num .less t x || num .equal x t) (λ x. num .less x t' || num .equal x t') (num .less) (λ x y. num .less y x) past (λ x y z w r s. T .less-turns r s) l l' each
+
+  down-turned : Both R (down num t l) (up num t' l')
+  down-turned = best-turned R (λ x. num .less x t || num .equal x t) (λ x. num .less t' x || num .equal x t') (λ x y. num .less y x) (num .less) before (λ x y z w r s. T .less-turns s r) l l' each
+
+  index-turned : (f f' : Answer (ℕ × A)) → Both R f f' → indexOf num t' f' ≡ indexOf num t f
+  index-turned (given (k, x)) (given (k', y)) (givens r) = refl
+  index-turned none none nones = refl
+
+  -- which of two neighbours is nearer: i below the target at x, j above it at y
+  module _ (i j : ℕ) (x x' y y' : A) (rx : R x x') (ry : R y y') where
+    under : num .less (num .minus t' y') (num .minus x' t') ≡ num .less (num .minus y t) (num .minus t x)
+    under = sym (T .apart-turns ry rt rt rx)
+
+    over : num .less (num .minus x' t') (num .minus t' y') ≡ num .less (num .minus t x) (num .minus y t)
+    over = sym (T .apart-turns rt rx ry rt)
+
+    nearer-turned : nearer num t' (j, y') (i, x') ≡ nearer num t (i, x) (j, y)
+    nearer-turned = rw (under, over) (go (decLt i j) (decLt j i) (num .less (num .minus t x) (num .minus y t)) (num .less (num .minus y t) (num .minus t x)))
+      where
+        same : (c : Bool) (m n : ℕ) → m ≡ n → cond c m n ≡ n
+        same true m n e = e
+        same false m n e = refl
+
+        go : Dec (i < j) → Dec (j < i) → (u v : Bool) → cond (ltb j i) (cond v j i) (cond u i j) ≡ cond (ltb i j) (cond u i j) (cond v j i)
+        go (yes h) k u v = let n : j ≤ j = omega arith in rw (lt-ltb i j h, le-ltb j i (omega (arith, h))) refl
+        go (no h) (yes k) u v = rw (lt-ltb j i k, le-ltb i j (omega (arith, h))) refl
+        go (no h) (no k) u v =
+            let e : i ≡ j = omega (arith, h, k) in
+            rw (le-ltb j i (omega (arith, k)), le-ltb i j (omega (arith, h))) (same u i j e ∙ sym (same v j i (sym e) ∙ e))
+
+  between-turned : (f f' g g' : Answer (ℕ × A)) → Both R f f' → Both R g g' → between num t' g' f' ≡ between num t f g
+  between-turned (given (i, x)) (given (i', x')) (given (j, y)) (given (j', y')) (givens r) (givens s) = ap given (nearer-turned i j x x' y y' r s)
+  between-turned (given (i, x)) (given (i', x')) none none (givens r) nones = refl
+  between-turned none none (given (j, y)) (given (j', y')) nones (givens s) = refl
+  between-turned none none none none nones nones = refl
+
+  pub search-turned : (method : RoundingMethod) → search num t' (turned method) l' ≡ search num t method l
+  search-turned Exact = index-turned (exact num t l) (exact num t' l') exact-turned
+  search-turned Ceil = index-turned (up num t l) (down num t' l') up-turned
+  search-turned Floor = index-turned (down num t l) (up num t' l') down-turned
+  search-turned Round = between-turned (down num t l) (up num t' l') (up num t l) (down num t' l') down-turned up-turned
+
+pub exact-stays : (method : RoundingMethod) → isExact (turned method) ≡ isExact method
+exact-stays Exact = refl
+exact-stays Ceil = refl
+exact-stays Floor = refl
+exact-stays Round = refl
+
+-- ---- 8: a list can be searched where its mirror can
+module _ {A : Type 0} (num : Numbers A) (R : A → A → Type 0) (T : Turns num R) where
+  every-turned : (l l' : List A) → Each R l l' → every (λ x. num .equal x x) l' ≡ every (λ x. num .equal x x) l
+  every-turned [] [] end = refl
+  every-turned (x ∷ xs) (y ∷ ys) (more r e) = rw (T .equal-turns r r, every-turned xs ys e) refl
+
+  goes-turned : (a b : A → A → Bool) → ((x x' y y' : A) → R x x' → R y y' → a x y ≡ b x' y') → (x x' : A) (l l' : List A) → R x x' → Each R l l' → goesOn b x' l' ≡ goesOn a x l
+  goes-turned a b h x x' [] [] r end = refl
+  goes-turned a b h x x' (y ∷ ys) (y' ∷ ys') r (more s e) = rw (h x x' y y' r s, goes-turned a b h y y' ys ys' s e) refl
+
+  ascends-turned : (a b : A → A → Bool) → ((x x' y y' : A) → R x x' → R y y' → a x y ≡ b x' y') → (l l' : List A) → Each R l l' → ascends b l' ≡ ascends a l
+  ascends-turned a b h [] [] end = refl
+  ascends-turned a b h (x ∷ xs) (x' ∷ xs') (more r e) = goes-turned a b h x x' xs xs' r e
+
+  or-turns : (x y : Bool) → (x || y) ≡ (y || x)
+  or-turns true true = refl
+  or-turns true false = refl
+  or-turns false true = refl
+  or-turns false false = refl
+
+  pub searchable-turned : (l l' : List A) → Each R l l' → searchable num l' ≡ searchable num l
+  unfolding searchable
+  searchable-turned l l' e =
+      rw (every-turned l l' e, ascends-turned (λ x y. num .less y x) (num .less) (λ x x' y y' r s. T .less-turns s r) l l' e, ascends-turned (num .less) (λ x y. num .less y x) (λ x x' y y' r s. T .less-turns r s) l l' e)
+      (ap (λ (b : Bool). every (λ x. num .equal x x) l && b) (or-turns (ascends (λ x y. num .less y x) l) (ascends (num .less) l)))
