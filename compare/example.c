@@ -1,4 +1,4 @@
-/* Prints marks of two axes, one the mirror of the other, and a value through every other call. */
+/* Prints marks of two axes, one the mirror of the other, and a value through the other calls on axes. */
 #include <inttypes.h>
 #include <stdio.h>
 
@@ -45,8 +45,51 @@ static int print_real(double a, double b, double v)
     return 0;
 }
 
+/* The list has entries, but at most 16, as in the next function. */
+static int print_stepped(int32_t a, int32_t b, int32_t d, int32_t v)
+{
+    int32_t list[16], marks[16], pixel, at_pixel, at_index;
+    size_t count, marked;
+    uint64_t n, k, found;
+    if (culv_step_whole_values(a, b, d, list, 16, &count) != 0
+        || culv_step_whole_size(a, b, d, &n) != 0
+        || culv_step_whole_index_of(a, b, d, v, 3, &k) != 0
+        || culv_search_whole(list, count, v, 3, &found) != 0
+        || culv_step_whole_from_index(a, b, d, k, &at_index) != 0
+        || culv_step_whole_map(a, b, d, v, 0, 120, &pixel) != 0
+        || culv_step_whole_unmap(a, b, d, pixel, 0, 120, &at_pixel) != 0
+        || culv_step_whole_key_points(a, b, d, 5, marks, 16, &marked) != 0)
+        return 1;
+    printf("%" PRIu64 " entries, the last %" PRId32 "; %" PRId32 " nearest, index %" PRIu64 " and %" PRIu64
+           "; %" PRId32 " at pixel %" PRId32 "; %zu marks from %" PRId32 "\n",
+           n, list[count - 1], at_index, k, found, at_pixel, pixel, marked, marks[0]);
+    return 0;
+}
+
+static int print_stepped_real(double a, double b, double d, double v)
+{
+    double list[16], marks[16], at_pixel, at_index;
+    int32_t pixel;
+    size_t count, marked;
+    uint64_t n, k, found;
+    if (culv_step_real_values(a, b, d, list, 16, &count) != 0
+        || culv_step_real_size(a, b, d, &n) != 0
+        || culv_step_real_index_of(a, b, d, v, 3, &k) != 0
+        || culv_search_real(list, count, v, 3, &found) != 0
+        || culv_step_real_from_index(a, b, d, k, &at_index) != 0
+        || culv_step_real_map(a, b, d, v, 0, 120, &pixel) != 0
+        || culv_step_real_unmap(a, b, d, pixel, 0, 120, &at_pixel) != 0
+        || culv_step_real_key_points(a, b, d, 5, marks, 16, &marked) != 0)
+        return 1;
+    printf("%" PRIu64 " entries, the last %g; %g nearest, index %" PRIu64 " and %" PRIu64
+           "; %g at pixel %" PRId32 "; %zu marks from %g\n",
+           n, list[count - 1], at_index, k, found, at_pixel, pixel, marked, marks[0]);
+    return 0;
+}
+
 int main(void)
 {
     return print_marks(3, 15, 4) | print_marks(-15, -3, 4)
-        | print_whole(-15, -3, -10) | print_real(0, 49, 1);
+        | print_whole(-15, -3, -10) | print_real(0, 49, 1)
+        | print_stepped(8, -1, -4, 2) | print_stepped_real(0, 1, 0.25, 0.4);
 }

@@ -192,6 +192,256 @@ int32_t culv_whole_unmap(int32_t a, int32_t b, int32_t x, int32_t p, int32_t q,
 int32_t culv_real_unmap(double a, double b, int32_t x, int32_t p, int32_t q,
                         double *v);
 
+/* ---- Searches ---- */
+
+/*
+ * The index of an entry of a list of whole numbers, which strictly rises or
+ * strictly falls and may have any length. method says which entry is meant:
+ *    0   exact: the one that is target;
+ *    1   up: the least one that is not below target;
+ *    2   down: the greatest one that is not above target;
+ *    3   nearest: of the last one before target and the next one, in the
+ *        list's order, the one that differs less from it, the later one if
+ *        they differ alike; the only one of them if there is no other.
+ * In an empty list the nearest has the index 0.
+ *
+ * 0: *k is the index, counted from 0.
+ * None, with nothing written: there is no such entry.
+ * Refused, with nothing written:
+ *    1: an entry or target is not within -1000000000 to 1000000000, or method
+ *       is above 3;
+ *    8: the list neither strictly rises nor strictly falls.
+ */
+int32_t culv_search_whole(const int32_t *list, size_t len, int32_t target,
+                          uint32_t method, uint64_t *k);
+
+/*
+ * The index of an entry of a list of doubles. All doubles may be passed, -0.0
+ * is 0.0, and the entries are those of culv_search_whole; the differences are
+ * rounded as doubles.
+ *
+ * 0: *k is the index, counted from 0.
+ * None, with nothing written: there is no such entry.
+ * Refused, with nothing written:
+ *    1: method is above 3;
+ *    8: the list neither strictly rises nor strictly falls, or holds NaN;
+ *    9: target is NaN, the list has entries, and method is not 0.
+ */
+int32_t culv_search_real(const double *list, size_t len, double target,
+                         uint32_t method, uint64_t *k);
+
+/* ---- Stepped lists ---- */
+
+/*
+ * The list of the whole axis from a to b by the step d: a, a + d and so on
+ * while before b, so that b is never an entry. The list is empty if a is b, or
+ * if a + d has reached or passed b; otherwise it has two entries or more.
+ *
+ * 0: *count is the number of entries, out[0] to out[*count - 1] are the
+ *    entries. out[*count] to out[len - 1] are as before.
+ * Refused, with nothing written:
+ *    1: a, b or d is not within -1000000000 to 1000000000;
+ *    6: d is 0 or leads away from b, and a is not b;
+ *    7: the list has more than 65536 entries, or more than len.
+ */
+int32_t culv_step_whole_values(int32_t a, int32_t b, int32_t d,
+                               int32_t *out, size_t len, size_t *count);
+
+/*
+ * The number of entries of the list of culv_step_whole_values.
+ *
+ * 0: *n is the number.
+ * Refused, with nothing written:
+ *    1: a, b or d is not within -1000000000 to 1000000000;
+ *    6: d is 0 or leads away from b, and a is not b;
+ *    7: the list has more than 65536 entries.
+ */
+int32_t culv_step_whole_size(int32_t a, int32_t b, int32_t d, uint64_t *n);
+
+/*
+ * The entry at the index k, counted from 0, of the list of
+ * culv_step_whole_values.
+ *
+ * 0: *v is the entry.
+ * None, with nothing written: the list has no more than k entries.
+ * Refused, with nothing written:
+ *    1: a, b or d is not within -1000000000 to 1000000000;
+ *    6: d is 0 or leads away from b, and a is not b;
+ *    7: the list has more than 65536 entries.
+ */
+int32_t culv_step_whole_from_index(int32_t a, int32_t b, int32_t d, uint64_t k,
+                                   int32_t *v);
+
+/*
+ * The index of v in the list of culv_step_whole_values, by the method of
+ * culv_search_whole.
+ *
+ * 0: *k is the index, counted from 0.
+ * None, with nothing written: there is no such entry.
+ * Refused, with nothing written:
+ *    1: a, b, d or v is not within -1000000000 to 1000000000, or method is
+ *       above 3;
+ *    6: d is 0 or leads away from b, and a is not b;
+ *    7: the list has more than 65536 entries.
+ */
+int32_t culv_step_whole_index_of(int32_t a, int32_t b, int32_t d, int32_t v,
+                                 uint32_t method, uint64_t *k);
+
+/*
+ * The pixel of the value v on the stepped whole axis: that of culv_whole_map
+ * on the axis from a to b.
+ *
+ * 0: *pixel is the place.
+ * Refused, with nothing written:
+ *    1: a, b, d or v is not within -1000000000 to 1000000000;
+ *    2: p or q is not within -1000000 to 1000000;
+ *    5: the whole number added to p is not within -1000000000 to 1000000000;
+ *    6: d is 0 or leads away from b, and a is not b;
+ *    7: the list of culv_step_whole_values has more than 65536 entries.
+ */
+int32_t culv_step_whole_map(int32_t a, int32_t b, int32_t d, int32_t v,
+                            int32_t p, int32_t q, int32_t *pixel);
+
+/*
+ * The entry of the list of culv_step_whole_values at the pixel x of a film
+ * from p to q, which may rise or fall.
+ *
+ * With n as in culv_step_whole_size, its index is the floor of
+ * (x - p) * n / (q - p), worked out exactly, and 0 where that is below zero.
+ * If p is q, the index is 0, but there is none where x is above p and n is not
+ * 0.
+ *
+ * 0: *v is the entry.
+ * None, with nothing written: there is no index, or no entry at it.
+ * Refused, with nothing written:
+ *    1: a, b or d is not within -1000000000 to 1000000000;
+ *    2: x, p or q is not within -1000000 to 1000000;
+ *    6: d is 0 or leads away from b, and a is not b;
+ *    7: the list has more than 65536 entries.
+ */
+int32_t culv_step_whole_unmap(int32_t a, int32_t b, int32_t d, int32_t x,
+                              int32_t p, int32_t q, int32_t *v);
+
+/*
+ * Marks of the stepped whole axis, with the mark limit m: the entries of the
+ * list of culv_step_whole_values at the indices that culv_index_key_points
+ * marks from 0 to the last one. There is none if the list is empty, and there
+ * are at most m + 1.
+ *
+ * 0: *count is the number of marks, out[0] to out[*count - 1] are the marks.
+ *    out[*count] to out[len - 1] are as before.
+ * Refused, with nothing written:
+ *    1: a, b or d is not within -1000000000 to 1000000000;
+ *    3: m is 0 and the list has entries, be there too many of them or without
+ *       end;
+ *    6: d is 0 or leads away from b, and a is not b;
+ *    7: the list has more than 65536 entries;
+ *   13: len is less than the number of marks.
+ */
+int32_t culv_step_whole_key_points(int32_t a, int32_t b, int32_t d, uint32_t m,
+                                   int32_t *out, size_t len, size_t *count);
+
+/*
+ * The list of the real axis from a to b by the step d: a, a + d, (a + d) + d
+ * and so on while before b, every sum rounded as a double. All doubles may be
+ * passed, and -0.0 is 0.0. The list is empty if a is b, if a + d has reached
+ * or passed b, or if a, b or a + d is NaN; otherwise it has two entries or
+ * more, and no end where the step is too small to move a sum.
+ *
+ * 0: *count is the number of entries, out[0] to out[*count - 1] are the
+ *    entries. out[*count] to out[len - 1] are as before.
+ * Refused, with nothing written:
+ *    6: a is below b and d is 0 or below, or a is above b and d is 0 or above;
+ *    7: the list has more than 65536 entries, or more than len.
+ */
+int32_t culv_step_real_values(double a, double b, double d,
+                              double *out, size_t len, size_t *count);
+
+/*
+ * The number of entries of the list of culv_step_real_values.
+ *
+ * 0: *n is the number.
+ * Refused, with nothing written:
+ *    6: as in culv_step_real_values;
+ *    7: the list has more than 65536 entries.
+ */
+int32_t culv_step_real_size(double a, double b, double d, uint64_t *n);
+
+/*
+ * The entry at the index k, counted from 0, of the list of
+ * culv_step_real_values.
+ *
+ * 0: *v is the entry.
+ * None, with nothing written: the list has no more than k entries.
+ * Refused, with nothing written:
+ *    6: as in culv_step_real_values;
+ *    7: the list has more than 65536 entries.
+ */
+int32_t culv_step_real_from_index(double a, double b, double d, uint64_t k,
+                                  double *v);
+
+/*
+ * The index of v in the list of culv_step_real_values, by the method of
+ * culv_search_real.
+ *
+ * 0: *k is the index, counted from 0.
+ * None, with nothing written: there is no such entry.
+ * Refused, with nothing written:
+ *    1: method is above 3;
+ *    6: as in culv_step_real_values;
+ *    7: the list has more than 65536 entries;
+ *    9: v is NaN, the list has entries, and method is not 0.
+ */
+int32_t culv_step_real_index_of(double a, double b, double d, double v,
+                                uint32_t method, uint64_t *k);
+
+/*
+ * The pixel of the value v on the stepped real axis: that of culv_real_map on
+ * the axis from a to b.
+ *
+ * 0: *pixel is the place.
+ * Refused, with nothing written:
+ *    2: p or q is not within -1000000 to 1000000;
+ *    5: the whole number added to p is not within -1000000000 to 1000000000;
+ *    6: as in culv_step_real_values;
+ *    7: the list of culv_step_real_values has more than 65536 entries.
+ */
+int32_t culv_step_real_map(double a, double b, double d, double v,
+                           int32_t p, int32_t q, int32_t *pixel);
+
+/*
+ * The entry of the list of culv_step_real_values at the pixel x of a film from
+ * p to q, which may rise or fall. Its index is worked out as in
+ * culv_step_whole_unmap.
+ *
+ * 0: *v is the entry.
+ * None, with nothing written: there is no index, or no entry at it.
+ * Refused, with nothing written:
+ *    2: x, p or q is not within -1000000 to 1000000;
+ *    6: as in culv_step_real_values;
+ *    7: the list has more than 65536 entries.
+ */
+int32_t culv_step_real_unmap(double a, double b, double d, int32_t x,
+                             int32_t p, int32_t q, double *v);
+
+/*
+ * Marks of the stepped real axis, with the mark limit m: the entries of the
+ * list of culv_step_real_values at the indices that culv_index_key_points
+ * marks from 0 to the last one. There is none if the list is empty, and there
+ * are at most m + 1.
+ *
+ * 0: *count is the number of marks, out[0] to out[*count - 1] are the marks.
+ *    out[*count] to out[len - 1] are as before.
+ * Refused, with nothing written:
+ *    3: m is 0 and the list has entries, be there too many of them or without
+ *       end;
+ *    6: as in culv_step_real_values;
+ *    7: the list has more than 65536 entries;
+ *   13: len is less than the number of marks.
+ */
+int32_t culv_step_real_key_points(double a, double b, double d, uint32_t m,
+                                  double *out, size_t len, size_t *count);
+
 /* ---- Rulers as bytes ---- */
 
 /*

@@ -11,16 +11,13 @@ use crate::random::Random;
 use crate::tally::{ensure, Tally};
 use crate::timing::report_batch;
 
-/// How many random inputs of a call are compared, and how many beside their mirror.
-const DRAWN: usize = 100_000_000;
-const MIRRORED: usize = 30_000_000;
-
-/// How many calls are timed.
-const BATCH: usize = 1_000_000;
-
 /// A call as culvraod has it: the safe one, and the C function itself.
 pub trait Library: Call<Number: Fill> {
     const CALL: &'static str;
+    /// How many random inputs are compared.
+    const DRAWN: usize = 100_000_000;
+    /// How many calls are timed.
+    const BATCH: usize = 1_000_000;
 
     fn safe(self) -> Result<Option<Self::Number>, Refusal>;
 
@@ -29,7 +26,7 @@ pub trait Library: Call<Number: Fill> {
     unsafe fn function(self, out: *mut Self::Number) -> i32;
 }
 
-fn told<N: Into<Number>>(safe: Result<Option<N>, Refusal>) -> Told {
+pub fn told<N: Into<Number>>(safe: Result<Option<N>, Refusal>) -> Told {
     let answer: Answer<N> = safe.map_err(Refusal::number);
     answer.into()
 }
@@ -84,20 +81,28 @@ fn inputs<C: Cases>(drawn: usize) -> impl Iterator<Item = C> {
 pub fn compare<C: Library + Cases>() -> bool {
     let mut tally = Tally::new(C::CALL);
     let cell = &mut Lent::new();
-    inputs::<C>(DRAWN).for_each(|call| tally.count(size(call), Shown(call), check(call, cell)));
+    inputs::<C>(C::DRAWN).for_each(|call| tally.count(size(call), Shown(call), check(call, cell)));
     tally.close()
 }
 
 /// A call that the mirror theorem covers.
 pub trait Mirrored: Library + Cases {
+    /// How many random inputs are compared with their mirror.
+    const MIRRORED: usize = 30_000_000;
+
     /// The mirrored input, if the type can hold it.
     fn mirror(self) -> Option<Self>;
+
+    /// Whether an input and its mirror may give these.
+    fn agree(one: Number, other: Number) -> bool {
+        one.mirrors(other)
+    }
 }
 
 fn check_mirror<C: Mirrored>(call: C, mirror: C) -> Result<(), String> {
     let (one, other) = (told(call.safe()), told(mirror.safe()));
     let holds = match (one, other) {
-        (Told::Given(one), Told::Given(other)) => one.mirrors(other),
+        (Told::Given(one), Told::Given(other)) => C::agree(one, other),
         _ => one == other,
     };
     ensure(holds, || format!("{one}, mirror {other}"))
@@ -106,7 +111,7 @@ fn check_mirror<C: Mirrored>(call: C, mirror: C) -> Result<(), String> {
 /// The mirror theorem on culvraod's own answers.
 pub fn compare_mirror<C: Mirrored>() -> bool {
     let mut tally = Tally::new(format!("{} beside its mirror", C::CALL));
-    inputs::<C>(MIRRORED)
+    inputs::<C>(C::MIRRORED)
         .filter_map(|call| call.mirror().map(|mirror| (call, mirror)))
         .for_each(|(call, mirror)| {
             tally.count(size(call), Shown(call), check_mirror(call, mirror));
@@ -123,7 +128,7 @@ fn behind_a_call<C: Call>(call: &C) -> Option<C::Number> {
 /// Times a batch of ordinary calls, the C function beside plotters.
 pub fn bench<C: Library + Cases>() {
     let mut random = Random::fixed(1);
-    let batch: Vec<C> = (0..BATCH).map(|_| C::ordinary(&mut random)).collect();
+    let batch: Vec<C> = (0..C::BATCH).map(|_| C::ordinary(&mut random)).collect();
     let ours = || {
         for call in black_box(&batch) {
             let mut out = C::Number::fill(0);
@@ -144,7 +149,7 @@ pub fn bench<C: Library + Cases>() {
     };
     report_batch(
         C::CALL,
-        BATCH as u64,
+        C::BATCH as u64,
         [&mut { ours }, &mut { plotters }, &mut { behind }],
     );
 }

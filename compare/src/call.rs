@@ -18,6 +18,17 @@ pub trait Call: Copy {
     fn rule(self) -> Answer<Self::Number>;
     fn plotters(self) -> Option<Self::Number>;
 
+    /// Whether plotters can be asked where the rule gives this.
+    fn asks_plotters(self, rule: Answer<Self::Number>) -> bool {
+        !matches!(rule, Err(1 | 2))
+    }
+
+    /// Whether the list of answers may have the input: the program that replays it chooses a
+    /// search by its name, so that a number which is no search stays out.
+    fn listed(self) -> bool {
+        true
+    }
+
     /// Whether plotters may give this, or panic, where the rule refuses an admitted input.
     fn may_give(self, plotters: Option<Option<Self::Number>>) -> bool {
         plotters.is_none()
@@ -77,7 +88,7 @@ impl<C: Call> fmt::Display for Shown<C> {
 pub fn wanted<C: Call>(call: C) -> Result<Told, String> {
     let rule = call.rule();
     let told = Told::from(rule);
-    if let Err(1 | 2) = rule {
+    if !call.asks_plotters(rule) {
         return Ok(told);
     }
     let plotters = caught(|| call.plotters());

@@ -8,6 +8,9 @@ use crate::random::Random;
 pub trait Cases: Call + 'static {
     /// The rows of the scope document's table.
     const WORKED: &'static [Self];
+    /// How many lines the list of plotters' answers has for it, and how many more where the input
+    /// is not admitted.
+    const LINES: [usize; 2] = [340, 60];
 
     /// Of numbers at the edges of what is held and admitted.
     fn corner(pick: &mut impl Pick) -> Self;

@@ -84,3 +84,13 @@ impl<N: Fill> Lent<N> {
             && kept(behind, EDGE + written.len())
     }
 }
+
+/// Lengths of lent lists: none, one short, exact, one more, some more.
+pub fn lengths(count: usize) -> Vec<usize> {
+    let around = [count.wrapping_sub(1), count, count + 1];
+    match count {
+        0 => vec![0, 1, 7],
+        1..=64 => [&[0][..], &around, &[count + 7]].concat(),
+        _ => around.to_vec(),
+    }
+}

@@ -7,10 +7,6 @@ use crate::call::{wanted, Call, Shown, Told};
 use crate::cases::Cases;
 use crate::random::Random;
 
-/// How many lines a call has, and in how many of them its input is not admitted.
-const LINES: usize = 400;
-const NOT_ADMITTED: usize = 60;
-
 fn line<C: Call>(call: C, told: Told) -> String {
     let mut words = vec![C::KEYWORD.to_string()];
     words.extend(call.fields().map(|(_, number)| number.digits()));
@@ -29,23 +25,28 @@ fn any<C: Cases>(random: &mut Random) -> C {
     }
 }
 
-/// The worked rows, then corners and random inputs, each line once.
-pub fn print<C: Cases>(seed: u64) {
-    let mut random = Random::fixed(seed);
-    let (mut answers, mut not_admitted) = (BTreeSet::new(), BTreeSet::new());
-    let drawn = repeat_with(|| any::<C>(&mut random));
-    for call in C::WORKED.iter().copied().chain(drawn) {
+/// Prints so many lines, and so many more whose input is not admitted, each once.
+pub fn print_all<C: Call>(calls: impl Iterator<Item = C>, most: [usize; 2]) {
+    let mut printed = [BTreeSet::new(), BTreeSet::new()];
+    for call in calls.filter(|&call| call.listed()) {
         let told = wanted(call).unwrap_or_else(|what| panic!("{}: {what}", Shown(call)));
-        let (lines, most) = match told {
-            Told::Refused(1 | 2) => (&mut not_admitted, NOT_ADMITTED),
-            _ => (&mut answers, LINES - NOT_ADMITTED),
-        };
+        let sort = usize::from(matches!(told, Told::Refused(1 | 2)));
         let line = line(call, told);
-        if lines.len() < most && lines.insert(line.clone()) {
+        if printed[sort].len() < most[sort] && printed[sort].insert(line.clone()) {
             println!("{line}");
         }
-        if answers.len() + not_admitted.len() == LINES {
+        if printed.each_ref().map(BTreeSet::len) == most {
             return;
         }
     }
+}
+
+/// How many inputs are drawn at most: some calls have no input that is not admitted.
+const DRAWN: usize = 20_000;
+
+/// The worked rows, then corners and random inputs.
+pub fn print<C: Cases>(seed: u64) {
+    let mut random = Random::fixed(seed);
+    let drawn = repeat_with(|| any::<C>(&mut random)).take(DRAWN);
+    print_all(C::WORKED.iter().copied().chain(drawn), C::LINES);
 }

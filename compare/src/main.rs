@@ -3,13 +3,16 @@
 //! Each family of calls has a module with an entry of each name; a new family is added below.
 
 mod counts;
+mod linspace;
 mod numeric;
 mod places;
 mod readings;
+mod search;
 
 mod admitted;
 mod call;
 mod cases;
+mod entry;
 mod lines;
 mod number;
 mod program;
@@ -39,6 +42,8 @@ fn compare() -> bool {
         counts::compare(),
         readings::compare(),
         rulers::compare(),
+        search::compare(),
+        linspace::compare(),
     ];
     agrees.iter().all(|&agrees| agrees)
 }
@@ -52,6 +57,8 @@ fn bench() -> bool {
     counts::bench();
     readings::bench();
     rulers::bench();
+    search::bench();
+    linspace::bench();
     true
 }
 
@@ -62,6 +69,8 @@ fn vectors() -> bool {
     places::vectors();
     counts::vectors();
     readings::vectors();
+    search::vectors();
+    linspace::vectors();
     true
 }
 

@@ -21,12 +21,16 @@
 
 pub mod counts;
 mod limit;
+pub mod linspace;
 pub mod numeric;
 pub mod places;
 pub mod readings;
 mod refusal;
 pub mod ruler;
+pub mod search;
 
 pub use limit::Limit;
+pub use linspace::{Linspacef64, Linspacei32};
 pub use numeric::{KeyPoints, RangedCoordf64, RangedCoordi32, RangedCoordusize};
 pub use refusal::Refusal;
+pub use search::{search_real, search_whole, RoundingMethod};

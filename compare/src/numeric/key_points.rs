@@ -6,7 +6,7 @@ use std::fmt::Display;
 use super::axis::{Index, Library, Whole};
 use super::cases::{fewer, large, small, Case, LONG};
 use super::rule::BOUND;
-use crate::lent::{Fill, Lent};
+use crate::lent::{lengths, Fill, Lent};
 use crate::random::Random;
 use crate::tally::{ensure, Tally};
 
@@ -117,16 +117,6 @@ fn with_list<A: Library>(
     by_function::<A>(case, memory, wanted)?;
     memory.refill(len);
     by_wrapper::<A>(case, &mut memory.list, wanted)
-}
-
-/// Lengths of lent lists: none, one short, exact, one more, some more.
-fn lengths(count: usize) -> Vec<usize> {
-    let around = [count.wrapping_sub(1), count, count + 1];
-    match count {
-        0 => vec![0, 1, 7],
-        1..=64 => [&[0][..], &around, &[count + 7]].concat(),
-        _ => around.to_vec(),
-    }
 }
 
 fn check<A: Library>(case: Case, memory: &mut Memory<A::Number>) -> Result<(), String> {

@@ -1,7 +1,7 @@
 //! Places of values on the film.
 
 mod cases;
-mod rule;
+pub mod rule;
 
 #[cfg(feature = "library")]
 mod library;
@@ -20,11 +20,11 @@ pub use library::{bench, compare};
 /// A value, the ends of its axis, and the limits of the film.
 #[derive(Clone, Copy)]
 pub struct Place<N> {
-    a: N,
-    b: N,
-    v: N,
-    p: i32,
-    q: i32,
+    pub a: N,
+    pub b: N,
+    pub v: N,
+    pub p: i32,
+    pub q: i32,
 }
 
 impl<N: Into<Number>> Place<N> {
@@ -41,7 +41,7 @@ impl<N: Into<Number>> Place<N> {
     }
 
     /// Whether plotters panics, or gives a pixel further from p than the rule allows.
-    fn goes_too_far(self, plotters: Option<Option<i32>>) -> bool {
+    pub fn goes_too_far(self, plotters: Option<Option<i32>>) -> bool {
         let distance = |pixel: i32| (i64::from(pixel) - i64::from(self.p)).abs();
         plotters
             .flatten()

@@ -20,12 +20,12 @@ fn picked<N: Copy>(pick: &mut impl Pick, ends: &[N], pixels: &[i32]) -> Reading<
 }
 
 /// A pixel at such a part of the way from p to q, or beside it.
-fn pixel_at(random: &mut Random, part: f64, (p, q): (i32, i32)) -> i32 {
+pub fn pixel_at(random: &mut Random, part: f64, (p, q): (i32, i32)) -> i32 {
     let at = f64::from(p) + part * (f64::from(q) - f64::from(p));
     (at.round() as i32).saturating_add(random.pick(&[0, 0, 1, -1]))
 }
 
-fn any_pixel(random: &mut Random, limits: (i32, i32)) -> i32 {
+pub fn any_pixel(random: &mut Random, limits: (i32, i32)) -> i32 {
     let part = match random.below(8) {
         0 => return pixel(random),
         1 => 0.0,

@@ -1,7 +1,7 @@
 //! Readings: the value at a pixel.
 
-mod cases;
-mod rule;
+pub mod cases;
+pub mod rule;
 
 #[cfg(feature = "library")]
 mod library;

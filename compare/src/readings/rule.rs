@@ -15,7 +15,7 @@ fn floor_div(n: i128, d: i128) -> i128 {
 }
 
 /// The index of a pixel on an axis of n values.
-fn index(n: i128, x: i32, p: i32, q: i32) -> Option<i128> {
+pub fn index(n: i128, x: i32, p: i32, q: i32) -> Option<i128> {
     let (offset, length) = (i128::from(x - p), i128::from(q - p));
     match length {
         0 if offset > 0 && n > 0 => None,

@@ -10,6 +10,7 @@ use Rattle.culvraod.specs.declared.Method.the-variants as method-is
 use Rattle.culvraod.specs.Search.{methodOf, byMethod}
 use Rattle.culvraod.specs.Boundary.{single}
 use Rattle.culvraod.specs.Numeric.{keyPointsC}
+use Rattle.culvraod.specs.Steps.{listC}
 
 pub key-points-cross : {A E : Type 0} (tell : E → Answer (A × ℕ)) {rule : Answer (A × ℕ) × List A} {r x : E} (held : List A) (step : A) (count : ℕ) → (tell r, held) ≡ rule → r ≡ x → keyPointsC (tell x, held) step count ≡ keyPointsC rule step count
 key-points-cross {A} {E} tell held step count e q = sym (ap (λ (d : Answer (A × ℕ) × List A). keyPointsC d step count) (sym e ∙ ap (λ (y : E). (tell y, held)) q))
@@ -37,3 +38,7 @@ other-method (suc (suc (suc (suc n)))) a b c d = refl
 -- what was handed out for an answer, where the rule is that answer
 pub handed : {A : Type 0} (old : A) {r : ℤ} {last : A} {x rule : Answer A} → (r, last) ≡ single x old → x ≡ rule → (r, last) ≡ single rule old
 handed {A} old e d = e ∙ ap (λ (x : Answer A). single x old) d
+
+-- a written list, whose length was handed out
+pub listed-cross : {A : Type 0} (old : ℕ) {r : ℤ} {last : ℕ} {t : Answer ℕ} {held : List A} {rule : Answer ℕ × List A} → (r, last) ≡ single t old → (t, held) ≡ rule → (r, held, last) ≡ listC rule old
+listed-cross {A} old {held = held} e d = ap (λ (p : ℤ × ℕ). (p .0, held, p .1)) e ∙ ap (λ (x : Answer ℕ × List A). listC x old) d

@@ -2,3 +2,4 @@ pub mod Boundary
 pub mod Numeric
 pub mod Ruler
 pub mod Search
+pub mod Steps

@@ -4,12 +4,18 @@ ghost use Rattle.numeric.specs.Calls.{wholeKeyPoints, indexKeyPoints};
 ghost use Rattle.numeric.specs.Whole.{tellCount, tellIndex, tellValue, wholeSize, wholeIndexOf, wholeFromIndex, wholeReading};
 ghost use Rattle.real.specs.Place.{tellPlace, wholePlace, realPlace};
 ghost use Rattle.real.specs.Reading.{tellReading, realReading};
+ghost use Rattle.linspace.specs.List.{whole, real};
+ghost use Rattle.linspace.specs.Calls.{tellListed, stepValues, stepSize, stepFromIndex, stepIndexOf, stepPlace, stepReading, stepKeyPoints};
+ghost use Rattle.culvraod.specs.Steps.{listC};
 ghost use Rattle.search.specs.Lists.{wholeSearch, realSearch};
 ghost use Rattle.culvraod.specs.Search.{methodOf, byMethod};
 ghost use Rattle.ruler.specs.Rule.{rulerWrite, rulerRead, recordIn, labelIn, sideOf};
 ghost use Rattle.culvraod.specs.Ruler.{rulerOf, readC, partC, pairC};
 ghost use Rattle.culvraod.specs.Boundary.{single, limitOf};
 ghost use Rattle.culvraod.specs.Numeric.{keyPointsC};
+use linspace::Linspacef64;
+use linspace::Linspacei32;
+use linspace::Listed;
 use numeric::Count;
 use numeric::Index;
 use numeric::IndexMarks;
@@ -110,6 +116,18 @@ fn give_reading(x: RealReading, v: &mut f64) -> i32
         }
         RealReading::Nothing => -1,
         RealReading::Refused(r) => r.number() as i32,
+    }
+}
+
+fn give_listed(x: Listed, count: &mut usize) -> i32
+    ensures { λ r. ⌜ (r, now (count .exit)) ≡ single (tellListed x) (now (count .entry)) ⌝ }
+{
+    match x {
+        Listed::Written(n) => {
+            *count = n;
+            0
+        }
+        Listed::Refused(r) => r.number() as i32,
     }
 }
 
@@ -318,4 +336,236 @@ pub extern "C" fn culv_search_real(list: &[f64], target: f64, method: u32, k: &m
         Method::Of(m) => give_index(search::search_real(list, target, m), k),
         Method::Unknown => 1,
     }
+}
+
+#[no_mangle]
+pub extern "C" fn culv_step_whole_values(
+    a: i32,
+    b: i32,
+    d: i32,
+    out: &mut [i32],
+    count: &mut usize,
+) -> i32
+    ensures { λ r. ⌜ (r, now (out .exit), now (count .exit)) ≡ listC (stepValues whole a b d (now (out .entry))) (now (count .entry)) ⌝ }
+{
+    let wholes = Linspacei32 {
+        inner: RangedCoordi32(a, b),
+        step: d,
+    };
+    give_listed(wholes.values(out), count)
+}
+
+#[no_mangle]
+pub extern "C" fn culv_step_whole_size(a: i32, b: i32, d: i32, n: &mut u64) -> i32
+    ensures { λ r. ⌜ (r, now (n .exit)) ≡ single (stepSize whole a b d) (now (n .entry)) ⌝ }
+{
+    let wholes = Linspacei32 {
+        inner: RangedCoordi32(a, b),
+        step: d,
+    };
+    give_count(wholes.size(), n)
+}
+
+#[no_mangle]
+pub extern "C" fn culv_step_whole_from_index(a: i32, b: i32, d: i32, k: u64, v: &mut i32) -> i32
+    ensures { λ r. ⌜ (r, now (v .exit)) ≡ single (stepFromIndex whole a b d k) (now (v .entry)) ⌝ }
+{
+    let wholes = Linspacei32 {
+        inner: RangedCoordi32(a, b),
+        step: d,
+    };
+    give_value(wholes.from_index(k), v)
+}
+
+#[no_mangle]
+pub extern "C" fn culv_step_whole_index_of(
+    a: i32,
+    b: i32,
+    d: i32,
+    v: i32,
+    method: u32,
+    k: &mut u64,
+) -> i32
+    ensures { λ r. ⌜ (r, now (k .exit)) ≡ single (byMethod (methodOf method) (stepIndexOf whole a b d v)) (now (k .entry)) ⌝ }
+{
+    let wholes = Linspacei32 {
+        inner: RangedCoordi32(a, b),
+        step: d,
+    };
+    match method_of(method) {
+        Method::Of(m) => give_index(wholes.index_of(v, m), k),
+        Method::Unknown => 1,
+    }
+}
+
+#[no_mangle]
+pub extern "C" fn culv_step_whole_map(
+    a: i32,
+    b: i32,
+    d: i32,
+    v: i32,
+    p: i32,
+    q: i32,
+    pixel: &mut i32,
+) -> i32
+    ensures { λ r. ⌜ (r, now (pixel .exit)) ≡ single (stepPlace whole a b d v (limitOf p q)) (now (pixel .entry)) ⌝ }
+{
+    let wholes = Linspacei32 {
+        inner: RangedCoordi32(a, b),
+        step: d,
+    };
+    give_place(wholes.map(v, Limit(p, q)), pixel)
+}
+
+#[no_mangle]
+pub extern "C" fn culv_step_whole_unmap(
+    a: i32,
+    b: i32,
+    d: i32,
+    x: i32,
+    p: i32,
+    q: i32,
+    v: &mut i32,
+) -> i32
+    ensures { λ r. ⌜ (r, now (v .exit)) ≡ single (stepReading whole a b d x (limitOf p q)) (now (v .entry)) ⌝ }
+{
+    let wholes = Linspacei32 {
+        inner: RangedCoordi32(a, b),
+        step: d,
+    };
+    give_value(wholes.unmap(x, Limit(p, q)), v)
+}
+
+#[no_mangle]
+pub extern "C" fn culv_step_whole_key_points(
+    a: i32,
+    b: i32,
+    d: i32,
+    m: u32,
+    out: &mut [i32],
+    count: &mut usize,
+) -> i32
+    ensures { λ r. ⌜ (r, now (out .exit), now (count .exit)) ≡ listC (stepKeyPoints whole a b d m (now (out .entry))) (now (count .entry)) ⌝ }
+{
+    let wholes = Linspacei32 {
+        inner: RangedCoordi32(a, b),
+        step: d,
+    };
+    give_listed(wholes.key_points(m, out), count)
+}
+
+#[no_mangle]
+pub extern "C" fn culv_step_real_values(
+    a: f64,
+    b: f64,
+    d: f64,
+    out: &mut [f64],
+    count: &mut usize,
+) -> i32
+    ensures { λ r. ⌜ (r, now (out .exit), now (count .exit)) ≡ listC (stepValues real a b d (now (out .entry))) (now (count .entry)) ⌝ }
+{
+    let reals = Linspacef64 {
+        inner: RangedCoordf64(a, b),
+        step: d,
+    };
+    give_listed(reals.values(out), count)
+}
+
+#[no_mangle]
+pub extern "C" fn culv_step_real_size(a: f64, b: f64, d: f64, n: &mut u64) -> i32
+    ensures { λ r. ⌜ (r, now (n .exit)) ≡ single (stepSize real a b d) (now (n .entry)) ⌝ }
+{
+    let reals = Linspacef64 {
+        inner: RangedCoordf64(a, b),
+        step: d,
+    };
+    give_count(reals.size(), n)
+}
+
+#[no_mangle]
+pub extern "C" fn culv_step_real_from_index(a: f64, b: f64, d: f64, k: u64, v: &mut f64) -> i32
+    ensures { λ r. ⌜ (r, now (v .exit)) ≡ single (stepFromIndex real a b d k) (now (v .entry)) ⌝ }
+{
+    let reals = Linspacef64 {
+        inner: RangedCoordf64(a, b),
+        step: d,
+    };
+    give_reading(reals.from_index(k), v)
+}
+
+#[no_mangle]
+pub extern "C" fn culv_step_real_index_of(
+    a: f64,
+    b: f64,
+    d: f64,
+    v: f64,
+    method: u32,
+    k: &mut u64,
+) -> i32
+    ensures { λ r. ⌜ (r, now (k .exit)) ≡ single (byMethod (methodOf method) (stepIndexOf real a b d v)) (now (k .entry)) ⌝ }
+{
+    let reals = Linspacef64 {
+        inner: RangedCoordf64(a, b),
+        step: d,
+    };
+    match method_of(method) {
+        Method::Of(m) => give_index(reals.index_of(v, m), k),
+        Method::Unknown => 1,
+    }
+}
+
+#[no_mangle]
+pub extern "C" fn culv_step_real_map(
+    a: f64,
+    b: f64,
+    d: f64,
+    v: f64,
+    p: i32,
+    q: i32,
+    pixel: &mut i32,
+) -> i32
+    ensures { λ r. ⌜ (r, now (pixel .exit)) ≡ single (stepPlace real a b d v (limitOf p q)) (now (pixel .entry)) ⌝ }
+{
+    let reals = Linspacef64 {
+        inner: RangedCoordf64(a, b),
+        step: d,
+    };
+    give_place(reals.map(v, Limit(p, q)), pixel)
+}
+
+#[no_mangle]
+pub extern "C" fn culv_step_real_unmap(
+    a: f64,
+    b: f64,
+    d: f64,
+    x: i32,
+    p: i32,
+    q: i32,
+    v: &mut f64,
+) -> i32
+    ensures { λ r. ⌜ (r, now (v .exit)) ≡ single (stepReading real a b d x (limitOf p q)) (now (v .entry)) ⌝ }
+{
+    let reals = Linspacef64 {
+        inner: RangedCoordf64(a, b),
+        step: d,
+    };
+    give_reading(reals.unmap(x, Limit(p, q)), v)
+}
+
+#[no_mangle]
+pub extern "C" fn culv_step_real_key_points(
+    a: f64,
+    b: f64,
+    d: f64,
+    m: u32,
+    out: &mut [f64],
+    count: &mut usize,
+) -> i32
+    ensures { λ r. ⌜ (r, now (out .exit), now (count .exit)) ≡ listC (stepKeyPoints real a b d m (now (out .entry))) (now (count .entry)) ⌝ }
+{
+    let reals = Linspacef64 {
+        inner: RangedCoordf64(a, b),
+        step: d,
+    };
+    give_listed(reals.key_points(m, out), count)
 }

@@ -1,5 +1,5 @@
 // Lines on the calls that answer with one number: the arguments, then 0 and the answer, or -1 for none, or the number of the refusal.
-ghost use Prim.Native.Nat.{_≤_, _<_};
+ghost use Prim.Native.Nat.{_≤_};
 ghost use lib.ListN.{length};
 use crate::bits::bits;
 use crate::bits::double;
@@ -41,14 +41,14 @@ fn refused(r: Refusal) -> Outcome {
     }
 }
 
-fn of_place(p: Place) -> Outcome {
+pub(crate) fn of_place(p: Place) -> Outcome {
     match p {
         Place::At(x) => answered(bits(x)),
         Place::Refused(r) => refused(r),
     }
 }
 
-fn of_value(v: Value) -> Outcome {
+pub(crate) fn of_value(v: Value) -> Outcome {
     match v {
         Value::At(z) => answered(bits(z)),
         Value::Nothing => nothing(),
@@ -56,7 +56,7 @@ fn of_value(v: Value) -> Outcome {
     }
 }
 
-fn of_index(i: Index) -> Outcome {
+pub(crate) fn of_index(i: Index) -> Outcome {
     match i {
         Index::At(k) => answered(k),
         Index::Nothing => nothing(),
@@ -64,14 +64,14 @@ fn of_index(i: Index) -> Outcome {
     }
 }
 
-fn of_count(c: Count) -> Outcome {
+pub(crate) fn of_count(c: Count) -> Outcome {
     match c {
         Count::Of(n) => answered(n),
         Count::Refused(r) => refused(r),
     }
 }
 
-fn of_reading(y: RealReading) -> Outcome {
+pub(crate) fn of_reading(y: RealReading) -> Outcome {
     match y {
         RealReading::At(v) => answered(pattern(v)),
         RealReading::Nothing => nothing(),
@@ -80,8 +80,8 @@ fn of_reading(y: RealReading) -> Outcome {
 }
 
 // Whether the line of n numbers, `args` of them arguments, has this outcome and nothing after it.
-fn same(numbers: &[u64], n: usize, args: usize, o: Outcome) -> bool
-    requires { ⌜ (n ≤ length (now numbers)) × (args < 8) ⌝ }
+pub(crate) fn same(numbers: &[u64], n: usize, args: usize, o: Outcome) -> bool
+    requires { ⌜ n ≤ length (now numbers) ⌝ }
 {
     if n <= args {
         return false;
@@ -98,11 +98,11 @@ fn same(numbers: &[u64], n: usize, args: usize, o: Outcome) -> bool
     numbers[args + 1] == o.answer
 }
 
-fn word(numbers: &[u64], k: usize) -> u64 {
+pub(crate) fn word(numbers: &[u64], k: usize) -> u64 {
     if k < numbers.len() { numbers[k] } else { 0 }
 }
 
-fn whole(numbers: &[u64], k: usize) -> i32 {
+pub(crate) fn whole(numbers: &[u64], k: usize) -> i32 {
     signed(low_half(word(numbers, k)))
 }
 

@@ -7,15 +7,17 @@ ghost use lib.ListN.{length};
 mod bits;
 mod calls;
 mod marks;
+mod searches;
+mod steps;
 mod text;
 
 use libc::STDIN_FILENO;
 use libc::STDOUT_FILENO;
 
 // The calls have numbers from 0 on; after them come the lines that differ and the comments. A total is kept of each.
-const DIFFERS: usize = 9;
+const DIFFERS: usize = 21;
 
-const COMMENT: usize = 10;
+const COMMENT: usize = 22;
 
 fn call_of(word: &[u8]) -> usize {
     if text::equal(word, b"whole") {
@@ -45,11 +47,58 @@ fn call_of(word: &[u8]) -> usize {
     if text::equal(word, b"runmap") {
         return 8;
     }
+    if text::equal(word, b"wsearch") {
+        return 9;
+    }
+    if text::equal(word, b"rsearch") {
+        return 10;
+    }
+    step_call_of(word)
+}
+
+fn step_call_of(word: &[u8]) -> usize {
+    if text::equal(word, b"wstepsize") {
+        return 11;
+    }
+    if text::equal(word, b"wstepat") {
+        return 12;
+    }
+    if text::equal(word, b"wstepidx") {
+        return 13;
+    }
+    if text::equal(word, b"wstepmap") {
+        return 14;
+    }
+    if text::equal(word, b"wstepread") {
+        return 15;
+    }
+    if text::equal(word, b"rstepsize") {
+        return 16;
+    }
+    if text::equal(word, b"rstepat") {
+        return 17;
+    }
+    if text::equal(word, b"rstepidx") {
+        return 18;
+    }
+    if text::equal(word, b"rstepmap") {
+        return 19;
+    }
+    if text::equal(word, b"rstepread") {
+        return 20;
+    }
     DIFFERS
 }
 
 // Whether the call answers as the line of n numbers has it.
-fn matched(call: usize, numbers: &[u64], n: usize, whole: &mut [i32], index: &mut [usize]) -> bool
+fn matched(
+    call: usize,
+    numbers: &[u64],
+    n: usize,
+    whole: &mut [i32],
+    real: &mut [f64],
+    index: &mut [usize],
+) -> bool
     requires { ⌜ n ≤ length (now numbers) ⌝ }
 {
     match call {
@@ -62,11 +111,37 @@ fn matched(call: usize, numbers: &[u64], n: usize, whole: &mut [i32], index: &mu
         6 => calls::from_index(numbers, n),
         7 => calls::whole_unmap(numbers, n),
         8 => calls::real_unmap(numbers, n),
+        9 => searches::whole_search(numbers, n, whole),
+        10 => searches::real_search(numbers, n, real),
+        _ => step_matched(call, numbers, n),
+    }
+}
+
+fn step_matched(call: usize, numbers: &[u64], n: usize) -> bool
+    requires { ⌜ n ≤ length (now numbers) ⌝ }
+{
+    match call {
+        11 => steps::whole_size(numbers, n),
+        12 => steps::whole_from_index(numbers, n),
+        13 => steps::whole_index_of(numbers, n),
+        14 => steps::whole_map(numbers, n),
+        15 => steps::whole_unmap(numbers, n),
+        16 => steps::real_size(numbers, n),
+        17 => steps::real_from_index(numbers, n),
+        18 => steps::real_index_of(numbers, n),
+        19 => steps::real_map(numbers, n),
+        20 => steps::real_unmap(numbers, n),
         _ => false,
     }
 }
 
-fn judge(line: &[u8], numbers: &mut [u64], whole: &mut [i32], index: &mut [usize]) -> usize {
+fn judge(
+    line: &[u8],
+    numbers: &mut [u64],
+    whole: &mut [i32],
+    real: &mut [f64],
+    index: &mut [usize],
+) -> usize {
     if line.len() == 0 {
         return DIFFERS;
     }
@@ -76,7 +151,7 @@ fn judge(line: &[u8], numbers: &mut [u64], whole: &mut [i32], index: &mut [usize
     let end = text::find(line, 0, b' ');
     let call = call_of(&line[0..end]);
     let n = text::numbers(line, end + 1, numbers);
-    if matched(call, numbers, n, whole, index) {
+    if matched(call, numbers, n, whole, real, index) {
         return call;
     }
     DIFFERS
@@ -97,13 +172,14 @@ fn replay(
     s: &[u8],
     numbers: &mut [u64],
     whole: &mut [i32],
+    real: &mut [f64],
     index: &mut [usize],
     totals: &mut [u32],
 ) {
     let mut at = 0;
     while at < s.len() {
         let end = text::find(s, at, b'\n');
-        count(totals, judge(&s[at..end], numbers, whole, index));
+        count(totals, judge(&s[at..end], numbers, whole, real, index));
         at = end + 1;
     }
 }
@@ -121,6 +197,19 @@ fn report(name: &[u8], n: u32) {
     io::print_decimal(STDOUT_FILENO, n as u64);
 }
 
+fn report_steps(totals: &[u32]) {
+    report(b"\nstep_whole_size matched: ", total(totals, 11));
+    report(b"\nstep_whole_from_index matched: ", total(totals, 12));
+    report(b"\nstep_whole_index_of matched: ", total(totals, 13));
+    report(b"\nstep_whole_map matched: ", total(totals, 14));
+    report(b"\nstep_whole_unmap matched: ", total(totals, 15));
+    report(b"\nstep_real_size matched: ", total(totals, 16));
+    report(b"\nstep_real_from_index matched: ", total(totals, 17));
+    report(b"\nstep_real_index_of matched: ", total(totals, 18));
+    report(b"\nstep_real_map matched: ", total(totals, 19));
+    report(b"\nstep_real_unmap matched: ", total(totals, 20));
+}
+
 fn report_all(totals: &[u32]) {
     report(b"whole_key_points matched: ", total(totals, 0));
     report(b"\nindex_key_points matched: ", total(totals, 1));
@@ -131,6 +220,9 @@ fn report_all(totals: &[u32]) {
     report(b"\nwhole_from_index matched: ", total(totals, 6));
     report(b"\nwhole_unmap matched: ", total(totals, 7));
     report(b"\nreal_unmap matched: ", total(totals, 8));
+    report(b"\nsearch_whole matched: ", total(totals, 9));
+    report(b"\nsearch_real matched: ", total(totals, 10));
+    report_steps(totals);
     report(b"\nlines that differ: ", total(totals, DIFFERS));
     io::write_all(STDOUT_FILENO, b"\n");
 }
@@ -139,11 +231,12 @@ fn lend(
     space: &mut [u8],
     numbers: &mut [u64],
     whole: &mut [i32],
+    real: &mut [f64],
     index: &mut [usize],
     totals: &mut [u32],
 ) {
     let n = io::read_full(STDIN_FILENO, space);
-    replay(&space[..n], numbers, whole, index, totals);
+    replay(&space[..n], numbers, whole, real, index, totals);
     report_all(totals);
 }
 
@@ -158,12 +251,14 @@ fn main() {
     let mut space = room();
     let mut numbers = [0u64; 64];
     let mut whole = [0i32; 64];
+    let mut real = [0.0; 64];
     let mut index = [0usize; 64];
-    let mut totals = [0u32; 11];
+    let mut totals = [0u32; 23];
     lend(
         &mut space,
         &mut numbers,
         &mut whole,
+        &mut real,
         &mut index,
         &mut totals,
     );

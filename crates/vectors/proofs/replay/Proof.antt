@@ -12,10 +12,10 @@ use Rattle.vectors.proofs.judge.Reads as judge-reads
 use Rattle.vectors.proofs.text.find.Reads as find-reads
 
 abbrev Inv-loop : tie.InvT-loop
-Inv-loop s numbers₀ whole₀ index₀ totals₀ at₀ numbers whole index totals at = (length numbers ≡ length numbers₀) × (length whole ≡ length whole₀) × (length index ≡ length index₀) × (length totals ≡ length totals₀)
+Inv-loop s numbers₀ whole₀ real₀ index₀ totals₀ at₀ numbers whole real index totals at = (length numbers ≡ length numbers₀) × (length whole ≡ length whole₀) × (length real ≡ length real₀) × (length index ≡ length index₀) × (length totals ≡ length totals₀)
 
 abbrev μ-loop : tie.MeasureT-loop
-μ-loop s numbers₀ whole₀ index₀ totals₀ at₀ numbers whole index totals at = length s - at
+μ-loop s numbers₀ whole₀ real₀ index₀ totals₀ at₀ numbers whole real index totals at = length s - at
 
 loop-holds : tie.Need-loop-holds Inv-loop μ-loop
 loop-holds c = search needs
@@ -59,6 +59,9 @@ same-length-3 c = search needs
 same-length-4 : tie.Need-same-length-4 Inv-loop μ-loop
 same-length-4 c = search needs
 
+same-length-5 : tie.Need-same-length-5 Inv-loop μ-loop
+same-length-5 c = search needs
+
 returns : tie.Need-returns Inv-loop μ-loop
 returns c = search needs
 
@@ -82,4 +85,5 @@ replay-spec =
     same-length-2
     same-length-3
     same-length-4
+    same-length-5
     returns)

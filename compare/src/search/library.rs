@@ -1,0 +1,274 @@
+//! Searches of culvraod.
+
+use culvraod::search::{culv_search_real, culv_search_whole};
+use culvraod::{search_real, search_whole, Refusal, RoundingMethod};
+use std::hint::black_box;
+use std::ops::Neg;
+
+use super::cases::{self, Lists};
+use super::rule::{DOWN, EXACT, NEAREST, UP};
+use super::Search;
+use crate::beside::told;
+use crate::call::{wanted, Call, Shown, Told};
+use crate::lent::{Fill, Lent};
+use crate::random::Random;
+use crate::tally::{ensure, Tally};
+use crate::timing::report;
+
+/// How many random lists are made; each is searched by every method, for some targets.
+const DRAWN: usize = 1_500_000;
+const TARGETS: usize = 2;
+
+/// Every method, and some numbers that are none.
+const METHODS: [u32; 6] = [EXACT, UP, DOWN, NEAREST, NEAREST + 1, u32::MAX];
+
+/// The searches of a kind of list: the safe one, and the C function itself.
+trait Library: Lists + Fill + Neg<Output = Self> {
+    const CALL: &'static str;
+    #[allow(clippy::type_complexity)]
+    const SAFE: fn(&[Self], Self, RoundingMethod) -> Result<Option<u64>, Refusal>;
+    const FUNCTION: unsafe extern "C" fn(*const Self, usize, Self, u32, *mut u64) -> i32;
+
+    /// Whether the type can hold the negated number.
+    fn negatable(self) -> bool;
+}
+
+impl Library for i32 {
+    const CALL: &'static str = "search_whole";
+    const SAFE: fn(&[i32], i32, RoundingMethod) -> Result<Option<u64>, Refusal> = search_whole;
+    const FUNCTION: unsafe extern "C" fn(*const i32, usize, i32, u32, *mut u64) -> i32 =
+        culv_search_whole;
+
+    fn negatable(self) -> bool {
+        self != i32::MIN
+    }
+}
+
+impl Library for f64 {
+    const CALL: &'static str = "search_real";
+    const SAFE: fn(&[f64], f64, RoundingMethod) -> Result<Option<u64>, Refusal> = search_real;
+    const FUNCTION: unsafe extern "C" fn(*const f64, usize, f64, u32, *mut u64) -> i32 =
+        culv_search_real;
+
+    fn negatable(self) -> bool {
+        true
+    }
+}
+
+/// The method with this number; where there is none, what C refuses it with.
+pub fn chosen(method: u32) -> Result<RoundingMethod, Refusal> {
+    match method {
+        EXACT => Ok(RoundingMethod::Exact),
+        UP => Ok(RoundingMethod::Ceil),
+        DOWN => Ok(RoundingMethod::Floor),
+        NEAREST => Ok(RoundingMethod::Round),
+        _ => Err(Refusal::WholeNotAdmitted),
+    }
+}
+
+/// The method of the mirror: up and down are exchanged.
+pub fn exchanged(method: u32) -> u32 {
+    match method {
+        UP => DOWN,
+        DOWN => UP,
+        _ => method,
+    }
+}
+
+fn safe<N: Library>(search: Search<N>) -> Told {
+    let found =
+        chosen(search.method).and_then(|method| (N::SAFE)(search.list, search.target, method));
+    told(found)
+}
+
+/// What is lent in one call.
+struct Memory<N> {
+    list: Lent<N>,
+    index: Lent<u64>,
+}
+
+impl<N: Library> Memory<N> {
+    fn new() -> Memory<N> {
+        let (list, index) = (Lent::new(), Lent::new());
+        Memory { list, index }
+    }
+
+    fn lend(&mut self, list: &[N]) {
+        self.list.refill(list.len());
+        self.list.list().copy_from_slice(list);
+    }
+}
+
+/// Calls the C function on the lent list and holds its answer and all memory in reach against
+/// what is wanted.
+fn by_function<N: Library>(
+    search: Search<N>,
+    memory: &mut Memory<N>,
+    wanted: Told,
+) -> Result<(), String> {
+    let Memory { list, index } = memory;
+    index.refill(1);
+    let (start, len) = (list.pointer(), list.len());
+    // SAFETY: the pointers are those of a list of this length and of one number.
+    let code = unsafe { (N::FUNCTION)(start, len, search.target, search.method, index.pointer()) };
+    let given = index.list()[0];
+    let found = |what: &str| format!("returned {code}, {given}; wanted {wanted}{what}");
+    ensure(code == wanted.code(), || found(""))?;
+    let kept = match wanted {
+        Told::Given(number) => {
+            ensure(number == given.into(), || found(""))?;
+            index.holds(&[given])
+        }
+        _ => index.holds(&[]),
+    };
+    ensure(kept && list.holds(search.list), || {
+        found("; memory was written to")
+    })
+}
+
+fn check<N: Library>(search: Search<N>, memory: &mut Memory<N>) -> Result<(), String> {
+    let wanted = wanted(search)?;
+    by_function(search, memory, wanted)?;
+    let safe = safe(search);
+    ensure(safe == wanted, || {
+        format!("safe call: {safe}, wanted {wanted}")
+    })
+}
+
+/// The same search of the mirrored list for the mirrored target.
+fn check_mirror<N: Library>(search: Search<N>, mirror: &[N]) -> Result<(), String> {
+    let (one, other) = (
+        safe(search),
+        safe(Search {
+            list: mirror,
+            target: -search.target,
+            method: exchanged(search.method),
+        }),
+    );
+    ensure(one == other, || format!("{one}, mirror {other}"))
+}
+
+fn size<N: Lists>(search: Search<N>) -> u128 {
+    search.fields().map(|(_, number)| number.size()).sum()
+}
+
+struct Run<N> {
+    tally: Tally,
+    mirrored: Tally,
+    memory: Memory<N>,
+}
+
+impl<N: Library> Run<N> {
+    fn new() -> Run<N> {
+        Run {
+            tally: Tally::new(N::CALL),
+            mirrored: Tally::new(format!("{} beside its mirror", N::CALL)),
+            memory: Memory::new(),
+        }
+    }
+
+    /// Searches a list and its mirror for every target, by every method.
+    fn list(&mut self, list: &[N], targets: &[N]) {
+        self.memory.lend(list);
+        let negatable = |numbers: &[N]| numbers.iter().all(|&n| n.negatable());
+        let mirror: Option<Vec<N>> =
+            negatable(list).then(|| list.iter().map(|&entry| -entry).collect());
+        for (&target, method) in targets.iter().flat_map(|t| METHODS.map(|m| (t, m))) {
+            let search = Search {
+                list,
+                target,
+                method,
+            };
+            let found = check(search, &mut self.memory);
+            self.tally.count(size(search), Shown(search), found);
+            if let (Some(mirror), true) = (&mirror, target.negatable()) {
+                let found = check_mirror(search, mirror);
+                self.mirrored.count(size(search), Shown(search), found);
+            }
+        }
+    }
+
+    /// All lists of these entries with at most so many, for all of them as targets.
+    fn all(&mut self, entries: &[N], most: u32) {
+        for len in 0..=most {
+            for number in 0..entries.len().pow(len) {
+                let digit = |place| number / entries.len().pow(place) % entries.len();
+                let list: Vec<N> = (0..len).map(|place| entries[digit(place)]).collect();
+                self.list(&list, entries);
+            }
+        }
+    }
+
+    fn random(&mut self, random: &mut Random) {
+        let len = length(random);
+        let list = cases::list(random, len);
+        let targets = [(); TARGETS].map(|()| cases::target(random, &list));
+        self.list(&list, &targets);
+    }
+}
+
+/// How long a random list is: short as a rule, so that there can be many.
+fn length(random: &mut Random) -> usize {
+    let most = match random.below(100_000) {
+        0 => 200_000,
+        1..=9 => 10_000,
+        10..=999 => 500,
+        _ => 14,
+    };
+    random.below(most) as usize
+}
+
+fn run<N: Library>() -> bool {
+    let mut run = Run::<N>::new();
+    run.all(N::SMALL, 4);
+    run.all(N::EDGES, 3);
+    let random = &mut Random::new();
+    (0..DRAWN).for_each(|_| run.random(random));
+    run.tally.close() & run.mirrored.close()
+}
+
+pub fn compare() -> bool {
+    run::<i32>() & run::<f64>()
+}
+
+/// Times searches of a list for targets all over it, ours beside plotters' bare search.
+fn time<N: Library>(len: usize, method: u32) {
+    let mut random = Random::fixed(1);
+    let list: Vec<N> = (0..len as i32).map(|k| N::whole(3 * k)).collect();
+    let targets = [(); 1 << 10].map(|()| N::whole(random.below(3 * len as u64) as i32));
+    let [mut targets, mut others] = [(); 2].map(|()| targets.iter().copied().cycle());
+    let ours = |n| {
+        for _ in 0..n {
+            let (list, mut k) = (black_box(&list), 0);
+            let target = targets.next().unwrap();
+            // SAFETY: the pointers are those of a list of this length and of a local number.
+            black_box(unsafe { (N::FUNCTION)(list.as_ptr(), len, target, method, &mut k) });
+            black_box(k);
+        }
+    };
+    let plotters = |n| {
+        for _ in 0..n {
+            let list = &black_box(&list)[..];
+            let target = others.next().unwrap();
+            black_box(
+                Search {
+                    list,
+                    target,
+                    method,
+                }
+                .plotters(),
+            );
+        }
+    };
+    let title = format!("{} of {len} entries, method {method}", N::CALL);
+    report(&title, ours, plotters);
+}
+
+pub fn bench() {
+    for len in [10, 100, 1_000, 65_536] {
+        for method in [EXACT, UP, NEAREST] {
+            time::<i32>(len, method);
+            time::<f64>(len, method);
+        }
+    }
+}

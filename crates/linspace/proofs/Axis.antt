@@ -1,0 +1,157 @@
+-- A real stepped axis: when its step leads away, which way its list runs, and what each call answers, return by return. Assumes nothing.
+use mathlib.Core.Path.{_≡_, refl, sym, ap, _∙_}
+use mathlib.Core.Bool.{Bool, true, false, cond, true≢false, _||_}
+use mathlib.Core.List.{List, [], _∷_}
+use Prim.Native.Nat.{ℕ, _+_, _-_, _≤_, _<_}
+use native.Mathlib.Omega.{arith}
+use native.Mathlib.Decide.{decLt}
+use borrow.Author.Tests.{lt-ltb, le-ltb}
+use lib.ListN.{length, getD}
+use lib.Ieee.{Float, lt, le, eq}
+use Rattle.ranged1d.specs.Answer.{Answer, given, none, refused}
+use Rattle.search.proofs.RealOrder.{real-order}
+use Rattle.linspace.specs.List.{real, entries, most, toward, run, stepped, against}
+use Rattle.linspace.specs.Calls.{hasEntries, nth, stepSize, stepFromIndex}
+use Rattle.linspace.specs.RealSteps.{plusStep, after, Walked, Reached}
+use Rattle.linspace.proofs.Walks.{nth-is, nth-past, entries-on, entries-few, entry-is, total-ends}
+
+or-none : (b : Bool) → (b || false) ≡ b
+or-none true = refl
+or-none false = refl
+
+-- the same axis told twice
+pub same-axis : {A : Type 0} (f : Float → Float → Float → A) {a a' b b' d d' : Float} → (a ≡ a') × (b ≡ b') × (d ≡ d') → f a b d ≡ f a' b' d'
+same-axis f e = rw (e .0, e .1, e .2) refl
+
+module _ (a b d : Float) where
+  -- ---- 6
+  pub against-up : lt a b ≡ true → le d (real .nil) ≡ against real a b d
+  unfolding against le
+  against-up h = rw (h, real-order .asym a b h) (sym (or-none (lt d (real .nil) || eq d (real .nil))))
+
+  pub against-down : lt a b ≡ false → lt b a ≡ true → le (real .nil) d ≡ against real a b d
+  unfolding against le
+  against-down h k = rw (h, k) refl
+
+  pub against-none : lt a b ≡ false → lt b a ≡ false → against real a b d ≡ false
+  unfolding against
+  against-none h k = rw (h, k) refl
+
+  -- ---- which way the list runs
+  stepped-up : lt a b ≡ true → stepped real a b d ≡ cond (lt (plusStep d a) b) (run real a b d true) []
+  unfolding stepped
+  stepped-up h = rw (h, real-order .asym a b h) refl
+
+  stepped-down : lt a b ≡ false → lt b a ≡ true → stepped real a b d ≡ cond (lt b (plusStep d a)) (run real a b d false) []
+  unfolding stepped
+  stepped-down h k = rw (h, k) refl
+
+  pub stepped-none : lt a b ≡ false → lt b a ≡ false → stepped real a b d ≡ []
+  unfolding stepped
+  stepped-none h k = rw (h, k) refl
+
+  run-some : (rises : Bool) → toward real rises b a ≡ true → hasEntries (run real a b d rises) ≡ true
+  run-some rises h =
+      let tail = entries (toward real rises b) (plusStep d) most (plusStep d a) in
+      ap hasEntries (entries-on (toward real rises b) (plusStep d) most a h) ∙ lt-ltb 0 (length (a ∷ tail)) (omega arith)
+
+  pub has-up : lt a b ≡ true → lt (plusStep d a) b ≡ hasEntries (stepped real a b d)
+  has-up h = sym (ap hasEntries (stepped-up h) ∙ go (lt (plusStep d a) b))
+    where
+      go : (t : Bool) → hasEntries (cond t (run real a b d true) []) ≡ t
+      go true = run-some true h
+      go false = refl
+
+  pub has-down : lt a b ≡ false → lt b a ≡ true → lt b (plusStep d a) ≡ hasEntries (stepped real a b d)
+  has-down h k = sym (ap hasEntries (stepped-down h k) ∙ go (lt b (plusStep d a)))
+    where
+      go : (t : Bool) → hasEntries (cond t (run real a b d false) []) ≡ t
+      go true = run-some false k
+      go false = refl
+
+  pub has-none : lt a b ≡ false → lt b a ≡ false → hasEntries (stepped real a b d) ≡ false
+  has-none h k = ap hasEntries (stepped-none h k)
+
+  -- ---- the list, where it has entries and where it has none
+  pub stepped-run : hasEntries (stepped real a b d) ≡ true → stepped real a b d ≡ run real a b d (lt a b)
+  stepped-run s = go (lt a b) refl (lt b a) refl
+    where
+      go : (t : Bool) → lt a b ≡ t → (u : Bool) → lt b a ≡ u → stepped real a b d ≡ run real a b d t
+      go true h u k = stepped-up h ∙ rw (has-up h ∙ s) refl
+      go false h true k = stepped-down h k ∙ rw (has-down h k ∙ s) refl
+      go false h false k = absurd (true≢false (sym s ∙ has-none h k))
+
+  pub stepped-empty : hasEntries (stepped real a b d) ≡ false → stepped real a b d ≡ []
+  stepped-empty s = go (stepped real a b d) s
+    where
+      go : (l : List Float) → hasEntries l ≡ false → l ≡ []
+      go [] e = refl
+      go (x ∷ xs) e = absurd (true≢false (sym (lt-ltb 0 (length (x ∷ xs)) (omega arith)) ∙ e))
+
+  pub stepped-total : hasEntries (stepped real a b d) ≡ true → length (stepped real a b d) ≡ length (entries (toward real (lt a b) b) (plusStep d) 65537 a)
+  stepped-total s = ap length (stepped-run s)
+
+  pub stepped-few : length (stepped real a b d) ≤ 65537
+  stepped-few = go (hasEntries (stepped real a b d)) refl
+    where
+      go : (t : Bool) → hasEntries (stepped real a b d) ≡ t → length (stepped real a b d) ≤ 65537
+      go true s = rw (stepped-run s) (entries-few (toward real (lt a b) b) (plusStep d) 65537 a)
+      go false s = rw (stepped-empty s) (omega arith)
+
+  -- a walk's count is the list's
+  pub walked-count : (n : ℕ) (x : Float) → hasEntries (stepped real a b d) ≡ true → Walked (toward real (lt a b) b) (plusStep d) 65537 a n x
+      → n + length (entries (toward real (lt a b) b) (plusStep d) (65537 - n) x) ≡ length (stepped real a b d)
+  walked-count n x s w = sym (stepped-total s ∙ w .rest)
+
+  -- ---- `size`
+  pub size-against : against real a b d ≡ true → _≡_ {A = Answer ℕ} (refused 6) (stepSize real a b d)
+  unfolding stepSize
+  size-against e = rw e refl
+
+  pub size-long : against real a b d ≡ false → 65536 < length (stepped real a b d) → _≡_ {A = Answer ℕ} (refused 7) (stepSize real a b d)
+  unfolding stepSize
+  size-long e h = rw (e, lt-ltb 65536 (length (stepped real a b d)) h) refl
+
+  pub size-is : against real a b d ≡ false → length (stepped real a b d) ≤ 65536 → given (length (stepped real a b d)) ≡ stepSize real a b d
+  unfolding stepSize
+  size-is e h = rw (e, le-ltb 65536 (length (stepped real a b d)) h) refl
+
+  -- ---- `from_index`
+  module _ (k : ℕ) where
+    pub entry-against : against real a b d ≡ true → _≡_ {A = Answer Float} (refused 6) (stepFromIndex real a b d k)
+    unfolding stepFromIndex
+    entry-against e = rw e refl
+
+    module _ (e : against real a b d ≡ false) where
+      pub entry-none : hasEntries (stepped real a b d) ≡ false → _≡_ {A = Answer Float} none (stepFromIndex real a b d k)
+      unfolding stepFromIndex
+      entry-none s = rw (e, stepped-empty s) refl
+
+      pub entry-long : 65536 < length (stepped real a b d) → _≡_ {A = Answer Float} (refused 7) (stepFromIndex real a b d k)
+      unfolding stepFromIndex
+      entry-long h = rw (e, lt-ltb 65536 (length (stepped real a b d)) h) refl
+
+      short : length (stepped real a b d) ≤ 65536 → nth (stepped real a b d) k ≡ stepFromIndex real a b d k
+      unfolding stepFromIndex
+      short h = rw (e, le-ltb 65536 (length (stepped real a b d)) h) refl
+
+      pub entry-past : length (stepped real a b d) ≤ 65536 → length (stepped real a b d) ≤ k → _≡_ {A = Answer Float} none (stepFromIndex real a b d k)
+      entry-past h l = sym (nth-past (stepped real a b d) k l) ∙ short h
+
+      -- the walk stands at entry k
+      pub entry-given : (n : ℕ) (x : Float) → hasEntries (stepped real a b d) ≡ true → length (stepped real a b d) ≤ 65536 → k < length (stepped real a b d)
+          → Reached (toward real (lt a b) b) (plusStep d) 65537 a k n x → given x ≡ stepFromIndex real a b d k
+      entry-given n x s h l r = sym (nth-is (stepped real a b d) k x l ∙ ap (λ (m : List Float). given (getD m k x)) (stepped-run s) ∙ ap given (entry-is p next 65537 a x k (rw (← stepped-total s) l) ∙ sym at)) ∙ short h
+        where
+          p : Float → Bool
+          p = toward real (lt a b) b
+
+          next : Float → Float
+          next = plusStep d
+
+          here : Dec (n < k) → n ≡ k
+          here (yes u) = absurd (omega (arith, u, h, l, r .walked .rest, stepped-total s, total-ends p next 65537 n x (r .ended (omega (arith, h, l, r .upTo)) (λ e. omega (arith, u, e)))))
+          here (no u) = omega (arith, u, r .upTo)
+
+          at : x ≡ after next k a
+          at = r .walked .at ∙ ap (λ (j : ℕ). after next j a) (here (decLt n k))

@@ -1,0 +1,58 @@
+-- Lists that are made by steps, as lists by index: `entries` as `listOf`, and the entries, the order and the length of such a list.
+-- Assumes nothing.
+use mathlib.Core.Path.{_≡_, refl, sym, ap, _∙_}
+use mathlib.Core.Bool.{Bool, true}
+use mathlib.Core.List.{List, _∷_}
+use Prim.Native.Nat.{ℕ, zero, suc, _≤_, _<_, min}
+use native.Mathlib.Nat.{zero-min, min-zero, suc-min-suc}
+use native.Mathlib.Omega.{arith}
+use borrow.Author.Tests.{lt-ltb}
+use lib.Dec.{ltb, leb·suc-suc}
+use lib.ListN.{length, getD}
+use Rattle.ranged1d.specs.Answer.{Answer, given, none}
+use Rattle.numeric.specs.Marks.{listOf}
+use Rattle.numeric.proofs.Lists.{list-cons}
+use Rattle.search.specs.Lists.{goesOn, ascends}
+use Rattle.linspace.specs.List.{entries}
+use Rattle.linspace.specs.Calls.{nth, hasEntries}
+
+-- steps from f 0 to f 1 and so on, of which exactly the first m pass
+pub entries-list : {A : Type 0} (passes : A → Bool) (next : A → A) (f : ℕ → A) (n m : ℕ)
+    → ((k : ℕ) → next (f k) ≡ f (suc k)) → ((k : ℕ) → passes (f k) ≡ ltb k m) → entries passes next n (f 0) ≡ listOf f (min n m)
+unfolding entries
+entries-list passes next f zero m steps stops = rw (zero-min m) refl
+entries-list passes next f (suc n) zero steps stops = rw (stops 0, min-zero (suc n)) refl
+entries-list {A} passes next f (suc n) (suc m) steps stops =
+    rw (stops 0, lt-ltb 0 (suc m) (omega arith), suc-min-suc n m) (
+    ap (λ (x : A). f 0 ∷ entries passes next n x) (steps 0)
+    ∙ ap (λ (l : List A). f 0 ∷ l) (entries-list passes next (λ k. f (suc k)) n m (λ k. steps (suc k)) (λ k. stops (suc k) ∙ leb·suc-suc (suc k) m))
+    ∙ sym (list-cons f (min n m)))
+
+-- where the first passes there is an entry
+pub entries-some : {A : Type 0} (passes : A → Bool) (next : A → A) (n : ℕ) (x : A) → passes x ≡ true → hasEntries (entries passes next (suc n) x) ≡ true
+unfolding entries
+entries-some passes next n x e = rw e (lt-ltb 0 (suc (length (entries passes next n (next x)))) (omega arith))
+
+module _ {A : Type 0} where
+  pub nth-list : (f : ℕ → A) (n k : ℕ) → k < n → given (f k) ≡ nth (listOf f n) k
+  nth-list f zero k h = absurd (omega (arith, h))
+  nth-list f (suc n) zero h = rw (list-cons f n) refl
+  nth-list f (suc n) (suc k) h = rw (list-cons f n) (nth-list (λ j. f (suc j)) n k (omega (arith, h)))
+
+  pub nth-past : (f : ℕ → A) (n k : ℕ) → n ≤ k → _≡_ {A = Answer A} none (nth (listOf f n) k)
+  nth-past f zero k h = refl
+  nth-past f (suc n) zero h = absurd (omega (arith, h))
+  nth-past f (suc n) (suc k) h = rw (list-cons f n) (nth-past (λ j. f (suc j)) n k (omega (arith, h)))
+
+  pub past-list : (f : ℕ → A) (n k : ℕ) (x : A) → n ≤ k → x ≡ getD (listOf f n) k x
+  past-list f zero k x h = refl
+  past-list f (suc n) zero x h = absurd (omega (arith, h))
+  past-list f (suc n) (suc k) x h = rw (list-cons f n) (past-list (λ j. f (suc j)) n k x (omega (arith, h)))
+
+  goes-list : (lt : A → A → Bool) (f : ℕ → A) (n : ℕ) → ((k : ℕ) → lt (f k) (f (suc k)) ≡ true) → goesOn lt (f 0) (listOf (λ k. f (suc k)) n) ≡ true
+  goes-list lt f zero s = refl
+  goes-list lt f (suc n) s = rw (list-cons (λ k. f (suc k)) n, s 0) (goes-list lt (λ k. f (suc k)) n (λ k. s (suc k)))
+
+  pub ascends-list : (lt : A → A → Bool) (f : ℕ → A) (n : ℕ) → ((k : ℕ) → lt (f k) (f (suc k)) ≡ true) → ascends lt (listOf f n) ≡ true
+  ascends-list lt f zero s = refl
+  ascends-list lt f (suc n) s = rw (list-cons f n) (goes-list lt f n s)

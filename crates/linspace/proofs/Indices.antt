@@ -1,0 +1,181 @@
+-- What `index_of` on a real stepped axis answers, return by return. Assumes nothing.
+use mathlib.Core.Path.{_≡_, refl, sym, ap, subst, _∙_}
+use mathlib.Core.Bool.{Bool, true, false, true≢false, not, _&&_, _||_}
+use mathlib.Core.List.{List, [], _∷_}
+use Prim.Native.Nat.{ℕ, zero, suc, _-_, _≤_, _<_}
+use native.Mathlib.Omega.{arith}
+use borrow.Author.Tests.{lt-ltb, le-ltb}
+use lib.Dec.{T}
+use lib.IntN.{ℤ}
+use lib.ListN.{length, getD}
+use lib.Ieee.{Float, nan, inf, fin, binary64, fits, isNan, add, lt, le, eq}
+use Rattle.ranged1d.specs.Answer.{Answer, refused, _when_, lowest}
+use Rattle.real.proofs.Exact.{eq-self}
+use Rattle.real.proofs.Signs.{zeroOf}
+use Rattle.search.specs.Search.{reals}
+use Rattle.search.specs.Search as rule
+use Rattle.search.specs.Lists.{every, ascends, searchable, realSearch}
+use Rattle.search.specs.Settled.{settled, settledNan, forNan}
+use Rattle.search.specs.Steps.{PlaceOf}
+use Rattle.search.specs.Steps as search-steps
+use Rattle.search.specs.declared.RoundingMethod.{RoundingMethod}
+use Rattle.search.specs.declared.RoundingMethod.the-variants.{Exact, Ceil, Floor, Round}
+use Rattle.search.proofs.Orders.{Order}
+use Rattle.search.proofs.RealOrder.{real-order}
+use Rattle.search.proofs.Settles.{settles}
+use Rattle.search.proofs.Lists.{way, sorted, ordinary}
+use Rattle.search.proofs.Halves.{enclosed, beneath}
+use Rattle.search.proofs.Rules.{nan-answered}
+use Rattle.linspace.specs.List.{real, entries, toward, stepped, against}
+use Rattle.linspace.specs.Calls.{hasEntries, stepIndexOf}
+use Rattle.linspace.specs.RealSteps.{plusStep, after, Parted}
+use Rattle.linspace.proofs.Walks.{entries-on, entries-off, entries-few, entry-is, entry-passes}
+use Rattle.linspace.proofs.Axis.{against-up, against-down, has-up, has-down, has-none, stepped-run, stepped-empty, stepped-total}
+use Rattle.linspace.proofs.RealSums.{zeros-equal}
+use Rattle.linspace.proofs.RealList.{run-ascends}
+
+-- ---- a step that does not lead away, on a list with entries, leads on
+or-left : (x y : Bool) → (x || y) ≡ false → x ≡ false
+or-left true y h = h
+or-left false y h = refl
+
+or-right : (x y : Bool) → (x || y) ≡ false → y ≡ false
+or-right true y h = absurd (true≢false h)
+or-right false y h = h
+
+neither : (x y : Float) → le x y ≡ false → (lt x y ≡ false) × (eq x y ≡ false)
+unfolding le
+neither x y h = (or-left (lt x y) (eq x y) h, or-right (lt x y) (eq x y) h)
+
+-- a sum that is a number has only numbers
+itself : (s : Bool) (m : ℕ) (e : ℤ) → eq (fin s m e) (fin s m e) ≡ true
+unfolding isNan
+itself s m e = eq-self (fin s m e) tt
+
+summand : (x d : Float) → eq (add binary64 x d) (add binary64 x d) ≡ true → eq d d ≡ true
+unfolding add eq
+summand nan nan h = h
+summand (inf s) nan h = h
+summand (fin s m e) nan h = h
+summand x (inf true) h = refl
+summand x (inf false) h = refl
+summand x (fin s m e) h = itself s m e
+
+module _ (a b d : Float) where
+  onward : against real a b d ≡ false → hasEntries (stepped real a b d) ≡ true → search-steps.toward (lt a b) lt (zeroOf false) d ≡ true
+  onward e s = go (lt a b) refl (lt b a) refl
+    where
+      go : (t : Bool) → lt a b ≡ t → (u : Bool) → lt b a ≡ u → search-steps.toward t lt (zeroOf false) d ≡ true
+      go true h u k =
+          let n = neither d (zeroOf false) (against-up a b d h ∙ e) in
+          real-order .total d (zeroOf false) (summand a d (real-order .left (plusStep d a) b (has-up a b d h ∙ s))) (zeros-equal false false) (n .0) (n .1)
+      go false h true k =
+          let n = neither (zeroOf false) d (against-down a b d h k ∙ e) in
+          real-order .total (zeroOf false) d (zeros-equal false false) (summand a d (real-order .right b (plusStep d a) (has-down a b d h k ∙ s))) (n .0) (n .1)
+      go false h false k = absurd (true≢false (sym s ∙ has-none a b d h k))
+
+-- ---- every entry passes the test of the walk
+every-entry : {A : Type 0} (passes : A → Bool) (next : A → A) (q : A → Bool) → ((x : A) → passes x ≡ true → q x ≡ true) → (n : ℕ) (x : A) → every q (entries passes next n x) ≡ true
+every-entry passes next q f zero x = nil (entries passes next 0 x) (entries-few passes next 0 x)
+  where
+    nil : (l : List _) → length l ≤ 0 → every q l ≡ true
+    nil [] h = refl
+    nil (y ∷ ys) h = absurd (omega (arith, h))
+every-entry passes next q f (suc n) x = go (passes x) refl (every-entry passes next q f n (next x))
+  where
+    go : (t : Bool) → passes x ≡ t → every q (entries passes next n (next x)) ≡ true → every q (entries passes next (suc n) x) ≡ true
+    go true p r = ap (every q) (entries-on passes next n x p) ∙ rw (f x p, r) refl
+    go false p r = ap (every q) (entries-off passes next (suc n) x p)
+
+-- ---- the list of an axis that can be searched
+module _ (a b d : Float) where
+  abbrev l : List Float
+  l = stepped real a b d
+
+  abbrev rises : Bool
+  rises = lt a b
+
+  abbrev w : Order Float (search-steps.toward rises lt) eq
+  w = way reals real-order rises
+
+  module _ (f : T (fits binary64 a)) (e : against real a b d ≡ false) (s : hasEntries l ≡ true) (few : length l ≤ 65536) where
+    list-ascends : ascends (search-steps.toward rises lt) l ≡ true
+    list-ascends =
+        ap (ascends (search-steps.toward rises lt)) (stepped-run a b d s)
+        ∙ run-ascends rises b d 65537 a f (onward a b d e s) (omega (arith, few, stepped-total a b d s))
+
+    list-own : every (λ z. eq z z) l ≡ true
+    list-own =
+        ap (every (λ z. eq z z)) (stepped-run a b d s)
+        ∙ every-entry (toward real rises b) (plusStep d) (λ z. eq z z) (λ x p. w .left x b p) 65537 a
+
+    list-searched : searchable reals l ≡ true
+    unfolding searchable
+    list-searched = rw list-own (go rises list-ascends)
+      where
+        go : (t : Bool) → ascends (search-steps.toward t lt) l ≡ true → (ascends lt l || ascends (λ x y. lt y x) l) ≡ true
+        go true h = rw h refl
+        go false h = either (ascends lt l) h
+          where
+            either : (t : Bool) → ascends (λ x y. lt y x) l ≡ true → (t || ascends (λ x y. lt y x) l) ≡ true
+            either true h = refl
+            either false h = h
+
+    -- a NaN
+    pub index-nan : (v : Float) (method : RoundingMethod) → v ≡ nan → settledNan method (length l) ≡ stepIndexOf real a b d v method
+    unfolding realSearch stepIndexOf
+    index-nan v method z = nan-answered method l list-searched ∙ rw (list-searched, e, le-ltb 65536 (length l) few, z) refl
+
+    -- any other target, by its place
+    module _ (v : Float) (self : eq v v ≡ true) (method : RoundingMethod) (n : ℕ) (left right : Float) (r : Parted (toward real rises b) (plusStep d) 65537 a (toward real rises v) n left right) where
+      entry-of : (k : ℕ) → k < length l → getD l k v ≡ after (plusStep d) k a
+      entry-of k h = ap (λ (z : List Float). getD z k v) (stepped-run a b d s) ∙ entry-is (toward real rises b) (plusStep d) 65537 a v k (omega (arith, h, stepped-total a b d s))
+
+      inside : n ≤ length l
+      inside = omega (arith, r .walked .rest, stepped-total a b d s)
+
+      here : n < length l → right ≡ getD l n v
+      here h = r .walked .at ∙ sym (entry-of n h)
+
+      place : PlaceOf (search-steps.toward rises lt) l v v n
+      place = record {
+        within = inside;
+        before = λ k h. subst (λ (z : Float). search-steps.toward rises lt z v ≡ true) (sym (entry-of k (omega (arith, h, inside)))) (r .front k h);
+        from = λ k h m. beneath w l v v (sorted w v l list-ascends) 0 (length l) n (enclosed w l v v) (omega arith) (omega (arith, h, m)) (stop (omega (arith, h, m))) .from k h m;
+      }
+        where
+          stop : n < length l → search-steps.toward rises lt (getD l n v) v ≡ false
+          stop h =
+              let g : n < length (entries (toward real rises b) (plusStep d) 65537 a) = omega (arith, h, stepped-total a b d s) in
+              subst (λ (z : Float). search-steps.toward rises lt z v ≡ false) (here h)
+              (r .stopped (omega (arith, h, few)) (subst (λ (z : Float). toward real rises b z ≡ true) (sym (r .walked .at)) (entry-passes (toward real rises b) (plusStep d) 65537 a n g)))
+
+      pub index-found : settled reals method rises (length l) n left v right ≡ stepIndexOf real a b d v method
+      unfolding stepIndexOf
+      index-found =
+          sym (settles reals v real-order rises method l n left right (sorted w v l list-ascends) (ordinary eq v l list-own) self place here (λ j q. r .last j q ∙ sym (entry-of j (omega (arith, q, inside)))))
+          ∙ rw (e, le-ltb 65536 (length l) few, self) refl
+
+  module _ (v : Float) (method : RoundingMethod) where
+    pub index-against : against real a b d ≡ true → _≡_ {A = Answer ℕ} (refused 6) (stepIndexOf real a b d v method)
+    unfolding stepIndexOf
+    index-against e = rw e refl
+
+    pub index-long : against real a b d ≡ false → 65536 < length l → _≡_ {A = Answer ℕ} (refused 7) (stepIndexOf real a b d v method)
+    unfolding stepIndexOf
+    index-long e h = rw (e, lt-ltb 65536 (length l) h) refl
+
+    -- an empty list
+    pub index-empty : against real a b d ≡ false → hasEntries l ≡ false → settledNan method 0 ≡ stepIndexOf real a b d v method
+    unfolding stepIndexOf settledNan
+    index-empty e s = rw (e, stepped-empty a b d s) (go method (not (eq v v)))
+      where
+        go : (m : RoundingMethod) (t : Bool) → forNan m ≡ lowest (9 when (t && false) ∷ []) (rule.search reals v m [])
+        go Exact true = refl
+        go Exact false = refl
+        go Ceil true = refl
+        go Ceil false = refl
+        go Floor true = refl
+        go Floor false = refl
+        go Round true = refl
+        go Round false = refl

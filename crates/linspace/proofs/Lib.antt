@@ -1,0 +1,16 @@
+pub mod Entries
+pub mod Rules
+pub mod Marks
+pub mod WholeList
+pub mod WholeFind
+pub mod WholeRules
+pub mod Walks
+pub mod Axis
+pub mod Counts
+pub mod RealSums
+pub mod RealList
+pub mod Indices
+pub mod RealMarks
+pub mod Turned
+pub mod Mirror
+pub mod Worked

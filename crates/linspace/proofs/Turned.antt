@@ -1,0 +1,137 @@
+-- Stepped axes that mirror each other, of either kind of number. Assumes nothing.
+use mathlib.Core.Path.{_≡_, refl, sym, ap, subst, _∙_}
+use mathlib.Core.Bool.{Bool, true, false, cond, true≢false, not, _&&_, _||_}
+use mathlib.Core.List.{List, [], _∷_, map}
+use Prim.Native.Nat.{ℕ, zero, suc, _-_}
+use lib.Dec.{ltb, eqb}
+use lib.ListN.{length, getD}
+use Rattle.ranged1d.specs.Answer.{Answer, given, none, refused}
+use Rattle.numeric.specs.Calls.{indexMarks}
+use Rattle.search.specs.Search as rule
+use Rattle.search.specs.Lists.{isExact}
+use Rattle.search.specs.Mirror.{turned}
+use Rattle.search.specs.declared.RoundingMethod.{RoundingMethod}
+use Rattle.search.proofs.Turned.{Turns, Each, end, more, each-length, search-turned, exact-stays}
+use Rattle.linspace.specs.List.{Kind, entries, most, toward, upward, downward, run, stepped, against, tooLong, axisAdmitted}
+use Rattle.linspace.specs.Calls.{hasEntries, marksOf, stepMarks, stepValues, stepSize, stepIndexOf, stepKeyPoints}
+use Rattle.linspace.specs.Mirror.{AlikeLong}
+
+-- y mirrors x
+pub record KindTurns {A : Type 0} (kind : Kind A) (R : A → A → Type 0) : Type 0 where
+  pub turns : Turns (kind .numbers) R
+  pub plus-turns : {x x' y y' : A} → R x x' → R y y' → R (kind .plus x y) (kind .plus x' y')
+  pub nil-turns : R (kind .nil) (kind .nil)
+  pub admitted-turns : {x x' : A} → R x x' → kind .admitted x ≡ kind .admitted x'
+  pub one-way : (x y : A) → kind .numbers .less x y ≡ true → kind .numbers .less y x ≡ false
+  pub even : (x y : A) → kind .numbers .equal x y ≡ kind .numbers .equal y x
+
+module _ {A : Type 0} (R : A → A → Type 0) (p p' : A → Bool) (next next' : A → A)
+    (pp : (x x' : A) → R x x' → p x ≡ p' x') (nn : (x x' : A) → R x x' → R (next x) (next' x')) where
+  entries-turned : (n : ℕ) (x x' : A) → R x x' → Each R (entries p next n x) (entries p' next' n x')
+  unfolding entries
+  entries-turned zero x x' r = end
+  entries-turned (suc n) x x' r = subst (λ (b : Bool). Each R (cond b (x ∷ entries p next n (next x)) []) (cond (p' x') (x' ∷ entries p' next' n (next' x')) [])) (sym (pp x x' r)) (go (p' x') (entries-turned n (next x) (next' x') (nn x x' r)))
+    where
+      go : (b : Bool) → Each R (entries p next n (next x)) (entries p' next' n (next' x')) → Each R (cond b (x ∷ entries p next n (next x)) []) (cond b (x' ∷ entries p' next' n (next' x')) [])
+      go true e = more r e
+      go false e = end
+
+pub getD-each : {A : Type 0} (R : A → A → Type 0) (l l' : List A) → Each R l l' → (k : ℕ) (d d' : A) → R d d' → R (getD l k d) (getD l' k d')
+getD-each R [] [] end k d d' r = r
+getD-each R (x ∷ xs) (y ∷ ys) (more s e) zero d d' r = s
+getD-each R (x ∷ xs) (y ∷ ys) (more s e) (suc k) d d' r = getD-each R xs ys e k d d' r
+
+map-each : {A : Type 0} (R : A → A → Type 0) (f f' : ℕ → A) → ((k : ℕ) → R (f k) (f' k)) → (ks : List ℕ) → Each R (map f ks) (map f' ks)
+map-each R f f' h [] = end
+map-each R f f' h (k ∷ ks) = more (h k) (map-each R f f' h ks)
+
+and-left : (x y : Bool) → (x && y) ≡ true → x ≡ true
+and-left true y h = refl
+and-left false y h = h
+
+or-turns : (x y : Bool) → (x || y) ≡ (y || x)
+or-turns true true = refl
+or-turns true false = refl
+or-turns false true = refl
+or-turns false false = refl
+
+module _ {A : Type 0} (kind : Kind A) (R : A → A → Type 0) (K : KindTurns kind R) (a b d a' b' d' : A) (ra : R a a') (rb : R b b') (rd : R d d') where
+  abbrev N : rule.Numbers A
+  N = kind .numbers
+
+  abbrev T : Turns N R
+  T = K .turns
+
+  upward-turned : upward kind a b d ≡ downward kind a' b' d'
+  upward-turned = rw (T .less-turns ra rb, T .less-turns (K .plus-turns ra rd) rb) refl
+
+  downward-turned : downward kind a b d ≡ upward kind a' b' d'
+  downward-turned = rw (T .less-turns rb ra, T .less-turns rb (K .plus-turns ra rd)) refl
+
+  toward-turned : (rises : Bool) (x x' : A) → R x x' → toward kind rises b x ≡ toward kind (not rises) b' x'
+  toward-turned true x x' r = T .less-turns r rb
+  toward-turned false x x' r = T .less-turns rb r
+
+  run-turned : (rises : Bool) → Each R (run kind a b d rises) (run kind a' b' d' (not rises))
+  run-turned rises = entries-turned R (toward kind rises b) (toward kind (not rises) b') (λ x. kind .plus x d) (λ x. kind .plus x d') (toward-turned rises) (λ x x' r. K .plus-turns r rd) (suc most) a a' ra
+
+  pub stepped-turned : Each R (stepped kind a b d) (stepped kind a' b' d')
+  unfolding stepped
+  stepped-turned = go (upward kind a b d) (downward kind a b d) refl refl
+    where
+      -- an axis does not run both ways
+      clash : upward kind a b d ≡ true → downward kind a b d ≡ true → ⊥
+      clash u v = true≢false (sym (and-left (N .less b a) (N .less b (kind .plus a d)) v) ∙ K .one-way a b (and-left (N .less a b) (N .less (kind .plus a d) b) u))
+
+      go : (u v : Bool) → upward kind a b d ≡ u → downward kind a b d ≡ v
+          → Each R (cond (upward kind a b d) (run kind a b d true) (cond (downward kind a b d) (run kind a b d false) [])) (cond (upward kind a' b' d') (run kind a' b' d' true) (cond (downward kind a' b' d') (run kind a' b' d' false) []))
+      go true true e f = absurd (clash e f)
+      go true false e f = rw (e, sym downward-turned ∙ f, sym upward-turned ∙ e) (run-turned true)
+      go false true e f = rw (e, f, sym downward-turned ∙ f) (run-turned false)
+      go false false e f = rw (e, f, sym downward-turned ∙ f, sym upward-turned ∙ e) end
+
+  same-length : length (stepped kind a b d) ≡ length (stepped kind a' b' d')
+  same-length = each-length (stepped kind a b d) (stepped kind a' b' d') stepped-turned
+
+  pub against-turned : against kind a b d ≡ against kind a' b' d'
+  unfolding against
+  against-turned =
+      rw (T .less-turns ra rb, T .less-turns rb ra, T .less-turns rd (K .nil-turns), T .less-turns (K .nil-turns) rd, T .equal-turns rd (K .nil-turns), T .equal-turns (K .nil-turns) rd, K .even (kind .nil) d')
+      (or-turns (N .less b' a' && (N .less (kind .nil) d' || N .equal d' (kind .nil))) (N .less a' b' && (N .less d' (kind .nil) || N .equal d' (kind .nil))))
+
+  pub admitted-turned : axisAdmitted kind a b d ≡ axisAdmitted kind a' b' d'
+  admitted-turned = rw (K .admitted-turns ra, K .admitted-turns rb, K .admitted-turns rd) refl
+
+  pub long-turned : tooLong kind a b d ≡ tooLong kind a' b' d'
+  long-turned = ap (ltb most) same-length
+
+  entries-same : hasEntries (stepped kind a b d) ≡ hasEntries (stepped kind a' b' d')
+  entries-same = ap (ltb 0) same-length
+
+  pub marks-turned : (m : ℕ) → Each R (stepMarks kind a b d m) (stepMarks kind a' b' d' m)
+  unfolding marksOf
+  marks-turned m = rw (same-length) (go (hasEntries (stepped kind a' b' d')))
+    where
+      go : (h : Bool) → Each R (cond h (map (λ k. getD (stepped kind a b d) k (kind .nil)) (indexMarks 0 (length (stepped kind a' b' d') - 1) m)) []) (cond h (map (λ k. getD (stepped kind a' b' d') k (kind .nil)) (indexMarks 0 (length (stepped kind a' b' d') - 1) m)) [])
+      go true = map-each R (λ k. getD (stepped kind a b d) k (kind .nil)) (λ k. getD (stepped kind a' b' d') k (kind .nil)) (λ k. getD-each R (stepped kind a b d) (stepped kind a' b' d') stepped-turned k (kind .nil) (kind .nil) (K .nil-turns)) (indexMarks 0 (length (stepped kind a' b' d') - 1) m)
+      go false = end
+
+  marks-same : (m : ℕ) → length (stepMarks kind a b d m) ≡ length (stepMarks kind a' b' d' m)
+  marks-same m = each-length (stepMarks kind a b d m) (stepMarks kind a' b' d' m) (marks-turned m)
+
+  pub sizes-turned : stepSize kind a b d ≡ stepSize kind a' b' d'
+  unfolding stepSize
+  sizes-turned = rw (admitted-turned, against-turned, same-length) refl
+
+  pub values-turned : (old old' : List A) → AlikeLong (length (stepped kind a' b' d')) old' old → stepValues kind a b d old .0 ≡ stepValues kind a' b' d' old' .0
+  unfolding stepValues
+  values-turned old old' h = rw (admitted-turned, against-turned, same-length, h) refl
+
+  pub key-points-turned : (m : ℕ) (old old' : List A) → AlikeLong (length (stepMarks kind a' b' d' m)) old' old → stepKeyPoints kind a b d m old .0 ≡ stepKeyPoints kind a' b' d' m old' .0
+  unfolding stepKeyPoints
+  key-points-turned m old old' h = rw (admitted-turned, against-turned, marks-same m, same-length, h) refl
+
+  pub searches-turned : (v v' : A) → R v v' → (method : RoundingMethod) → stepIndexOf kind a' b' d' v' (turned method) ≡ stepIndexOf kind a b d v method
+  unfolding stepIndexOf
+  searches-turned v v' r method =
+      rw (sym admitted-turned, sym (K .admitted-turns r), sym against-turned, sym same-length, sym (T .equal-turns r r), exact-stays method, search-turned N R T (stepped kind a b d) (stepped kind a' b' d') stepped-turned v v' r method) refl

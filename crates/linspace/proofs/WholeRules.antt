@@ -1,0 +1,117 @@
+-- The steps of the calls on whole stepped axes, by the tests that lead to each answer. Assumes nothing.
+use mathlib.Core.Path.{_≡_, refl, sym, ap, subst, _∙_}
+use mathlib.Core.Bool.{Bool, true, false, cond, true≢false, _&&_, _||_}
+use mathlib.Core.List.{List, []}
+use Prim.Native.Nat.{ℕ, zero, suc, _+_, _-_, _/_, _≤_, _<_}
+use native.Mathlib.Decide.{decLt}
+use native.Mathlib.Omega.{arith}
+use borrow.Author.Tests.{lt-ltb, le-leb, lt-leb, ltb-false}
+use lib.Dec.{leb·zero, leb·suc-zero}
+use lib.IntN.{ℤ, pos, negsuc, natAbs, _+ℤ_, _-ℤ_, +ℤ-invr}
+use lib.ListN.{length}
+use lib.Signed.{ltZ, leZ}
+use Rattle.ranged1d.specs.Answer.{Answer, given, refused}
+use Rattle.ranged1d.specs.declared.Limit.{Limit}
+use Rattle.real.specs.Place.{wholePlace}
+use Rattle.search.proofs.WholeOrder.{whole-order}
+use Rattle.linspace.specs.List.{whole, most, toward, entries, run, stepped, against, axisAdmitted}
+use Rattle.linspace.specs.Calls.{hasEntries}
+use Rattle.linspace.specs.WholeSteps.{wholeCount, Known}
+use Rattle.linspace.proofs.Entries.{entries-some}
+use Rattle.linspace.proofs.Rules.{counts, Counted, counted, endsPlace}
+use Rattle.linspace.proofs.WholeList.{sloped, too-long, not-long, length-is, admitted-near}
+
+-- ---- 6
+-- below zero or zero
+not-above : (d : ℤ) → leZ d (pos 0) ≡ (ltZ d (pos 0) || (leZ d (pos 0) && leZ (pos 0) d))
+not-above (pos zero) = refl
+not-above (pos (suc n)) = leb·suc-zero n ∙ sym (rw (leb·suc-zero (suc n), leb·suc-zero n) refl)
+not-above (negsuc n) = refl
+
+not-below : (d : ℤ) → leZ (pos 0) d ≡ (ltZ (pos 0) d || (leZ (pos 0) d && leZ d (pos 0)))
+not-below (pos zero) = refl
+not-below (pos (suc n)) = leb·zero (suc n) ∙ sym (rw (lt-ltb 0 (suc n) (omega arith)) refl)
+not-below (negsuc n) = refl
+
+or-false : (x : Bool) → (x || false) ≡ x
+or-false true = refl
+or-false false = refl
+
+module _ (a b d : ℤ) where
+  pub against-up : ltZ a b ≡ true → leZ d (pos 0) ≡ against whole a b d
+  unfolding against
+  against-up e = rw (e, whole-order .asym a b e) (not-above d ∙ sym (or-false _))
+
+  module _ (n : ltZ a b ≡ false) where
+    pub against-down : ltZ b a ≡ true → leZ (pos 0) d ≡ against whole a b d
+    unfolding against
+    against-down e = rw (n, e) (not-below d)
+
+    pub against-level : ltZ b a ≡ false → false ≡ against whole a b d
+    unfolding against
+    against-level e = rw (n, e) refl
+
+  -- ---- whether there is an entry: the first two come before b
+  has-run : (rises : Bool) → toward whole rises b a ≡ true → hasEntries (run whole a b d rises) ≡ true
+  has-run rises e = entries-some (toward whole rises b) (λ x. x +ℤ d) most a e
+
+  some-if : (t : Bool) (l : List ℤ) → hasEntries l ≡ true → t ≡ hasEntries (cond t l [])
+  some-if true l e = sym e
+  some-if false l e = refl
+
+  pub entries-up : ltZ a b ≡ true → ltZ (a +ℤ d) b ≡ hasEntries (stepped whole a b d)
+  unfolding stepped
+  entries-up e = rw (e, whole-order .asym a b e) (some-if (ltZ (a +ℤ d) b) (run whole a b d true) (has-run true e))
+
+  module _ (n : ltZ a b ≡ false) where
+    pub entries-down : ltZ b a ≡ true → ltZ b (a +ℤ d) ≡ hasEntries (stepped whole a b d)
+    unfolding stepped
+    entries-down e = rw (n, e) (some-if (ltZ b (a +ℤ d)) (run whole a b d false) (has-run false e))
+
+    pub entries-level : ltZ b a ≡ false → false ≡ hasEntries (stepped whole a b d)
+    unfolding stepped
+    entries-level e = rw (n, e) refl
+
+  -- ---- the count
+  module _ (p s : ℕ) (span : p ≡ natAbs (b -ℤ a)) (size : s ≡ natAbs d) where
+    pub count-none : p ≤ s → 0 ≡ wholeCount a b d
+    unfolding wholeCount
+    count-none l = rw (← span, ← size, le-leb p s l) refl
+
+    pub count-some : s < p → (p - 1) / s + 1 ≡ wholeCount a b d
+    unfolding wholeCount
+    count-some l = rw (← span, ← size, lt-leb p s l) refl
+
+  pub step-some : against whole a b d ≡ false → (p s : ℕ) → p ≡ natAbs (b -ℤ a) → s ≡ natAbs d → s < p → 0 < s
+  step-some h p s span size l = subst (λ (n : ℕ). 0 < n) (sym size) (sloped a b d h (λ e. omega (arith, l, span, ap (λ (z : ℤ). natAbs (z -ℤ a)) (sym e), ap natAbs (+ℤ-invr a))) .moves)
+
+  pub count-away : against whole a b d ≡ true → _≡_ {A = Answer ℕ} (refused 6) (counts whole a b d)
+  count-away h = rw h refl
+
+  module _ (h : against whole a b d ≡ false) (n : ℕ) (count : n ≡ wholeCount a b d) where
+    pub count-long : most < n → _≡_ {A = Answer ℕ} (refused 7) (counts whole a b d)
+    count-long l = rw (h, too-long a b d h (omega (arith, l, count))) refl
+
+    pub count-given : n ≤ most → given n ≡ counts whole a b d
+    count-given l = let few : wholeCount a b d ≤ most = omega (arith, l, count) in rw (h, not-long a b d h few) (ap given (count ∙ sym (length-is a b d h few)))
+
+  -- ---- what is known once the entries are counted
+  pub known-of : {n : ℕ} → axisAdmitted whole a b d ≡ true → counts whole a b d ≡ given n → Known a b d n
+  known-of {n} h e = record { admitted = h; onward = at .onward; count = sym (at .size) ∙ length-is a b d (at .onward) few; few = omega (arith, at .size, ltb-false most (length (stepped whole a b d)) (at .short)) }
+    where
+      at : Counted whole a b d n
+      at = counted whole a b d e
+
+      few : wholeCount a b d ≤ most
+      few = go (decLt most (wholeCount a b d))
+        where
+          go : Dec (most < wholeCount a b d) → wholeCount a b d ≤ most
+          go (yes l) = absurd (true≢false (sym (too-long a b d (at .onward) l) ∙ at .short))
+          go (no g) = omega (arith, g)
+
+  -- ---- the place by the ends alone
+  pub ends-place : axisAdmitted whole a b d ≡ true → (v : ℤ) (limit : Limit) → wholePlace a b v limit ≡ endsPlace whole a b d v limit
+  unfolding wholePlace
+  ends-place h v limit =
+      let near = admitted-near a b d h in
+      rw (le-leb (natAbs a) 1000000000 (near .0), le-leb (natAbs b) 1000000000 (near .1)) refl

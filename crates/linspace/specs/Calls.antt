@@ -1,0 +1,134 @@
+-- What each call on a stepped axis (a, b, d) answers, on every input, and what the list lent to it holds afterwards: 01 "Mirroring, real
+-- reading, stepped axes" with the refusals of 01 "Why a call stops". Every rule is written once, for both kinds of numbers. Assumes
+-- nothing.
+use Prim.Native.Nat.{ℕ, zero, suc, _-_}
+use mathlib.Core.Bool.{Bool, true, false, cond, not, _&&_, _||_}
+use mathlib.Core.List.{List, [], _∷_, map}
+use lib.Dec.{ltb, eqb}
+use lib.IntN.{ℤ, pos, _-ℤ_}
+use lib.ListN.{length, getD}
+use Rattle.ranged1d.specs.Answer.{Answer, given, none, refused, _when_, lowest, written}
+use Rattle.ranged1d.specs.Refusals.{numberOf}
+use Rattle.ranged1d.specs.Admitted.{pixelAdmitted, limitAdmitted}
+use Rattle.ranged1d.specs.declared.Limit.{Limit}
+use Rattle.rounding.specs.declared.Whole.{Whole}
+use Rattle.discrete.specs.Index.{indexFor}
+use Rattle.real.specs.Place.{spot, isBeyond, number}
+use Rattle.numeric.specs.Calls.{indexMarks}
+use Rattle.search.specs.Search.{search}
+use Rattle.search.specs.Lists.{isExact}
+use Rattle.search.specs.declared.RoundingMethod.{RoundingMethod}
+use Rattle.linspace.specs.List.{Kind, stepped, against, tooLong, axisAdmitted}
+use Rattle.linspace.specs.declared.Listed.{Listed}
+use Rattle.linspace.specs.declared.Listed.the-variants as listed-is
+
+-- ---- the answer's cases, by 01's numbers and values: how many were written; the number of the refusal
+abbrev pub tellListed : Listed → Answer ℕ
+tellListed (listed-is.Written n) = given n
+tellListed (listed-is.Refused r) = refused (numberOf r)
+
+-- ---- lists: the entry at an index, none past the end; whether there is an entry; the entries at the marks of 0..count − 1
+abbrev pub nth : {A : Type 0} → List A → ℕ → Answer A
+nth [] k = none
+nth (x ∷ xs) zero = given x
+nth (x ∷ xs) (suc k) = nth xs k
+
+abbrev pub hasEntries : {A : Type 0} → List A → Bool
+hasEntries l = ltb 0 (length l)
+
+-- the value at an index that a pixel was read as, if it was
+abbrev pub nthOf : {A : Type 0} → List A → Answer ℕ → Answer A
+nthOf l (given k) = nth l k
+nthOf l none = none
+nthOf l (refused n) = refused n
+
+unfoldable pub marksOf : {A : Type 0} → A → List A → ℕ → List A
+marksOf x l m = cond (hasEntries l) (map (λ k. getD l k x) (indexMarks 0 (length l - 1) m)) []
+
+module _ {A : Type 0} (kind : Kind A) (a b d : A) where
+  -- ---- `values`: the list itself; 7 also where it is longer than the lent list
+  unfoldable pub stepValues : List A → Answer ℕ × List A
+  stepValues old =
+      written
+      (lowest (
+      1 when not (axisAdmitted kind a b d)
+      ∷ 6 when against kind a b d
+      ∷ 7 when (tooLong kind a b d || ltb (length old) (length (stepped kind a b d)))
+      ∷ []
+      ) (given (length (stepped kind a b d))))
+      (stepped kind a b d)
+      old
+
+  -- ---- `size`, `from_index`: the number of entries, and the entry at an index
+  unfoldable pub stepSize : Answer ℕ
+  stepSize =
+      lowest (
+      1 when not (axisAdmitted kind a b d)
+      ∷ 6 when against kind a b d
+      ∷ 7 when tooLong kind a b d
+      ∷ []
+      ) (given (length (stepped kind a b d)))
+
+  unfoldable pub stepFromIndex : ℕ → Answer A
+  stepFromIndex k =
+      lowest (
+      1 when not (axisAdmitted kind a b d)
+      ∷ 6 when against kind a b d
+      ∷ 7 when tooLong kind a b d
+      ∷ []
+      ) (nth (stepped kind a b d) k)
+
+  -- ---- `index_of`: the index that the chosen search finds for v; 9 for a NaN, which is what does not equal itself
+  unfoldable pub stepIndexOf : A → RoundingMethod → Answer ℕ
+  stepIndexOf v method =
+      lowest (
+      1 when not (axisAdmitted kind a b d && kind .admitted v)
+      ∷ 6 when against kind a b d
+      ∷ 7 when tooLong kind a b d
+      ∷ 9 when (not (kind .numbers .equal v v) && (hasEntries (stepped kind a b d) && not (isExact method)))
+      ∷ []
+      ) (search (kind .numbers) v method (stepped kind a b d))
+
+  -- ---- `map`: the place of v, by the ends alone
+  abbrev pub stepSpot : A → Limit → Whole
+  stepSpot v limit = spot (kind .float a) (kind .float b) (kind .float v) limit
+
+  unfoldable pub stepPlace : A → Limit → Answer ℤ
+  stepPlace v limit =
+      lowest (
+      1 when not (axisAdmitted kind a b d && kind .admitted v)
+      ∷ 2 when not (limitAdmitted limit)
+      ∷ 5 when isBeyond (stepSpot v limit)
+      ∷ 6 when against kind a b d
+      ∷ 7 when tooLong kind a b d
+      ∷ []
+      ) (given (number (stepSpot v limit)))
+
+  -- ---- `unmap`: the entry at the index of the pixel, none past the end
+  unfoldable pub stepReading : ℤ → Limit → Answer A
+  stepReading x limit =
+      lowest (
+      1 when not (axisAdmitted kind a b d)
+      ∷ 2 when not (pixelAdmitted x && limitAdmitted limit)
+      ∷ 6 when against kind a b d
+      ∷ 7 when tooLong kind a b d
+      ∷ []
+      ) (nthOf (stepped kind a b d) (indexFor (x -ℤ limit .0) (limit .1 -ℤ limit .0) (length (stepped kind a b d))))
+
+  -- ---- `key_points`: the entries at the marks of 0..count − 1, written to the lent list; 3 where m is 0 and there is an entry
+  abbrev pub stepMarks : ℕ → List A
+  stepMarks m = marksOf (kind .nil) (stepped kind a b d) m
+
+  unfoldable pub stepKeyPoints : ℕ → List A → Answer ℕ × List A
+  stepKeyPoints m old =
+      written
+      (lowest (
+      1 when not (axisAdmitted kind a b d)
+      ∷ 3 when (eqb m 0 && hasEntries (stepped kind a b d))
+      ∷ 6 when against kind a b d
+      ∷ 7 when tooLong kind a b d
+      ∷ 13 when ltb (length old) (length (stepMarks m))
+      ∷ []
+      ) (given (length (stepMarks m))))
+      (stepMarks m)
+      old

@@ -1,0 +1,6 @@
+pub mod List
+pub mod Calls
+pub mod Mirror
+pub mod Worked
+pub mod WholeSteps
+pub mod RealSteps

@@ -1,0 +1,37 @@
+-- What the walks along a real stepped axis find, for the promises of private functions. Assumes nothing.
+use Prim.Native.Nat.{ℕ, zero, suc, _+_, _-_, _≤_, _<_}
+use mathlib.Core.Path.{_≡_}
+use mathlib.Core.Bool.{Bool, true, false}
+use lib.ListN.{length}
+use lib.Ieee as Ieee
+use lib.Ieee.{Float, binary64}
+use Rattle.linspace.specs.List.{entries}
+
+-- the sum behind x
+abbrev pub plusStep : Float → Float → Float
+plusStep d x = Ieee.add binary64 x d
+
+-- x after k steps
+unfoldable pub after : {A : Type 0} → (A → A) → ℕ → A → A
+after next zero x = x
+after next (suc k) x = next (after next k x)
+
+module _ {A : Type 0} (passes : A → Bool) (next : A → A) (most : ℕ) (a : A) where
+  -- a walk along the list stands at x after n entries
+  pub record Walked (n : ℕ) (x : A) : Type 0 where
+    pub at : x ≡ after next n a
+    pub within : n ≤ most
+    pub rest : length (entries passes next most a) ≡ n + length (entries passes next (most - n) x)
+
+  -- the walk stands at entry k, unless the list ends before it
+  pub record Reached (k n : ℕ) (x : A) : Type 0 where
+    pub walked : Walked n x
+    pub upTo : n ≤ k
+    pub ended : n < most → (n ≡ k → ⊥) → passes x ≡ false
+
+  -- the walk stands at the first entry that the test fails, unless the list ends before it; left is the entry before it
+  pub record Parted (test : A → Bool) (n : ℕ) (left x : A) : Type 0 where
+    pub walked : Walked n x
+    pub front : (j : ℕ) → j < n → test (after next j a) ≡ true
+    pub last : (j : ℕ) → suc j ≡ n → left ≡ after next j a
+    pub stopped : n < most → passes x ≡ true → test x ≡ false

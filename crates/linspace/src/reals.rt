@@ -1,0 +1,390 @@
+// Stepped axes of real numbers. An entry is the sum before it and the step, rounded, so that the list is walked.
+ghost use mathlib.Core.Path.{_≡_};
+ghost use mathlib.Core.Bool.{true, false, _&&_};
+ghost use lib.Dec.{eqb};
+ghost use mathlib.Core.List.{_++_};
+ghost use Prim.Native.Nat.{_+_, _-_, _*_, _≤_};
+ghost use lib.ListN.{length, drop};
+ghost use Rattle.numeric.specs.Whole.{tellCount, tellIndex};
+ghost use Rattle.numeric.specs.Marks.{listOf};
+ghost use Rattle.real.specs.Place.{tellPlace};
+ghost use Rattle.real.specs.Reading.{tellReading};
+ghost use Rattle.linspace.specs.List.{real, entries, stepped, against, toward};
+ghost use Rattle.linspace.specs.Calls.{tellListed, hasEntries, stepValues, stepSize, stepFromIndex, stepIndexOf, stepPlace, stepReading, stepKeyPoints};
+ghost use Rattle.linspace.specs.RealSteps.{plusStep, after, Reached, Parted};
+use crate::Linspacef64;
+use crate::Listed;
+use discrete::PixelIndex;
+use numeric::Count;
+use numeric::Index;
+use numeric::Place;
+use numeric::Planned;
+use numeric::RangedCoordi32;
+use numeric::RealReading;
+use ranged1d::Limit;
+use ranged1d::Refusal;
+use search::RoundingMethod;
+
+// The ends and the step by themselves.
+struct Steps {
+    a: f64,
+    b: f64,
+    d: f64,
+}
+
+// An entry, or the sum behind the last one, and its index.
+struct Spot {
+    n: usize,
+    x: f64,
+}
+
+// Where a target lies: how many entries come before it, the last of them, and the sum behind that.
+struct Sides {
+    n: usize,
+    left: f64,
+    right: f64,
+}
+
+// Whether the step is zero or leads away from b.
+fn leads_away(s: Steps) -> bool
+    ensures { λ r. ⌜ r ≡ against real (s .a) (s .b) (s .d) ⌝ }
+{
+    let a = s.a;
+    let b = s.b;
+    let d = s.d;
+    if a < b {
+        return d <= 0.0;
+    }
+    if b < a {
+        return 0.0 <= d;
+    }
+    false
+}
+
+// Whether a and a + d both come before b.
+fn has_entries(s: Steps) -> bool
+    ensures { λ r. ⌜ r ≡ hasEntries (stepped real (s .a) (s .b) (s .d)) ⌝ }
+{
+    let a = s.a;
+    let b = s.b;
+    let c = a + s.d;
+    if a < b {
+        return c < b;
+    }
+    if b < a {
+        return b < c;
+    }
+    false
+}
+
+// Whether x comes before b in the axis's direction.
+fn precedes(rises: bool, x: f64, b: f64) -> bool
+    ensures { λ r. ⌜ r ≡ toward real rises b x ⌝ }
+{
+    if rises { x < b } else { b < x }
+}
+
+// The number of entries, 65,537 where there are more, of which x is entry k if there is one.
+fn count_on(rises: bool, s: Steps, x: f64, k: usize) -> usize
+    requires { ⌜ k ≤ 65537 ⌝ }
+    ensures { λ r. ⌜ r ≡ k + length (entries (toward real rises (s .b)) (plusStep (s .d)) (65537 - k) x) ⌝ }
+{
+    let b = s.b;
+    let d = s.d;
+    let mut n = k;
+    let mut next = x;
+    while n < 65537 {
+        if !precedes(rises, next, b) {
+            return n;
+        }
+        next = next + d;
+        n += 1;
+    }
+    n
+}
+
+// Walks to entry k.
+fn reach(rises: bool, s: Steps, k: u64) -> Spot
+    ensures { λ r. ⌜ Reached (toward real rises (s .b)) (plusStep (s .d)) 65537 (s .a) k (r .n) (r .x) ⌝ }
+{
+    let b = s.b;
+    let d = s.d;
+    let mut n = 0;
+    let mut x = s.a;
+    while n < 65537 {
+        if n as u64 == k {
+            return Spot { n, x };
+        }
+        if !precedes(rises, x, b) {
+            return Spot { n, x };
+        }
+        x = x + d;
+        n += 1;
+    }
+    Spot { n, x }
+}
+
+// Walks to the first entry that does not come before t.
+fn approach(rises: bool, s: Steps, t: f64) -> Sides
+    ensures { λ r. ⌜ Parted (toward real rises (s .b)) (plusStep (s .d)) 65537 (s .a) (toward real rises t) (r .n) (r .left) (r .right) ⌝ }
+{
+    let b = s.b;
+    let d = s.d;
+    let mut n = 0;
+    let mut left = t;
+    let mut right = s.a;
+    while n < 65537 {
+        if !precedes(rises, right, b) {
+            return Sides { n, left, right };
+        }
+        if !precedes(rises, right, t) {
+            return Sides { n, left, right };
+        }
+        left = right;
+        right = right + d;
+        n += 1;
+    }
+    Sides { n, left, right }
+}
+
+// The sum after k further steps.
+fn advance(x: f64, d: f64, k: usize) -> f64
+    ensures { λ r. ⌜ r ≡ after (plusStep d) k x ⌝ }
+{
+    let mut y = x;
+    let mut i = 0;
+    while i < k {
+        y = y + d;
+        i += 1;
+    }
+    y
+}
+
+// n entries, `by` apart, from a on, written to the start of out.
+fn put_entries(out: &mut [f64], s: Steps, by: usize, n: usize)
+    requires { ⌜ n ≤ length (now out) ⌝ }
+    ensures { λ _. ⌜ now (out .exit) ≡ listOf (λ k. after (plusStep (s .d)) (k * by) (s .a)) n ++ drop n (now (out .entry)) ⌝ }
+{
+    let d = s.d;
+    let mut x = s.a;
+    let mut k = 0;
+    while k < n {
+        out[k] = x;
+        x = advance(x, d, by);
+        k += 1;
+    }
+}
+
+// The number of entries, 65,537 where there are more.
+fn count(s: Steps) -> usize
+    ensures { λ r. ⌜ r ≡ length (stepped real (s .a) (s .b) (s .d)) ⌝ }
+{
+    if has_entries(s) {
+        return count_on(s.a < s.b, s, s.a, 0);
+    }
+    0
+}
+
+// The number of entries, or why the list is refused.
+fn counted(s: Steps) -> Count
+    ensures { λ r. ⌜ tellCount r ≡ stepSize real (s .a) (s .b) (s .d) ⌝ }
+{
+    if leads_away(s) {
+        return Count::Refused(Refusal::StepAgainstAxis);
+    }
+    let n = count(s);
+    if 65536 < n {
+        return Count::Refused(Refusal::ListTooLong);
+    }
+    Count::Of(n as u64)
+}
+
+// Entry k, the list being walked once.
+fn entry_along(s: Steps, k: u64) -> RealReading
+    requires { ⌜ against real (s .a) (s .b) (s .d) ≡ false ⌝ }
+    requires { ⌜ hasEntries (stepped real (s .a) (s .b) (s .d)) ≡ true ⌝ }
+    ensures { λ r. ⌜ tellReading r ≡ stepFromIndex real (s .a) (s .b) (s .d) k ⌝ }
+{
+    let rises = s.a < s.b;
+    let w = reach(rises, s, k);
+    let n = count_on(rises, s, w.x, w.n);
+    if 65536 < n {
+        return RealReading::Refused(Refusal::ListTooLong);
+    }
+    if k < n as u64 {
+        return RealReading::At(w.x);
+    }
+    RealReading::Nothing
+}
+
+// Entry k, or why the list is refused.
+fn entry_at(s: Steps, k: u64) -> RealReading
+    ensures { λ r. ⌜ tellReading r ≡ stepFromIndex real (s .a) (s .b) (s .d) k ⌝ }
+{
+    if leads_away(s) {
+        return RealReading::Refused(Refusal::StepAgainstAxis);
+    }
+    if !has_entries(s) {
+        return RealReading::Nothing;
+    }
+    entry_along(s, k)
+}
+
+// The index of v, the list being walked once.
+fn index_along(s: Steps, v: f64, method: RoundingMethod) -> Index
+    requires { ⌜ against real (s .a) (s .b) (s .d) ≡ false ⌝ }
+    requires { ⌜ hasEntries (stepped real (s .a) (s .b) (s .d)) ≡ true ⌝ }
+    ensures { λ r. ⌜ tellIndex r ≡ stepIndexOf real (s .a) (s .b) (s .d) v method ⌝ }
+{
+    let rises = s.a < s.b;
+    let w = approach(rises, s, v);
+    let n = count_on(rises, s, w.right, w.n);
+    if 65536 < n {
+        return Index::Refused(Refusal::ListTooLong);
+    }
+    if v != v {
+        return search::settle_nan(method, n);
+    }
+    search::settle_real(method, rises, n, w.n, w.left, v, w.right)
+}
+
+// Whether there are entries to mark, and no mark is allowed.
+fn no_step(s: Steps, m: u32) -> bool
+    ensures { λ r. ⌜ r ≡ (eqb m 0 && hasEntries (stepped real (s .a) (s .b) (s .d))) ⌝ }
+{
+    if m == 0 {
+        return has_entries(s);
+    }
+    false
+}
+
+// The entries at the marks of the indices of a list of n.
+fn put_marks(s: Steps, n: usize, m: u32, out: &mut [f64]) -> Listed
+    requires { ⌜ against real (s .a) (s .b) (s .d) ≡ false ⌝ }
+    requires { ⌜ n ≡ length (stepped real (s .a) (s .b) (s .d)) ⌝ }
+    requires { ⌜ n ≤ 65536 ⌝ }
+    requires { ⌜ (eqb m 0 && hasEntries (stepped real (s .a) (s .b) (s .d))) ≡ false ⌝ }
+    ensures { λ r. ⌜ (tellListed r, now (out .exit)) ≡ stepKeyPoints real (s .a) (s .b) (s .d) m (now (out .entry)) ⌝ }
+{
+    if n == 0 {
+        return Listed::Written(0);
+    }
+    match RangedCoordi32(0, (n - 1) as i32).plan(m) {
+        Planned::Refused(r) => Listed::Refused(r),
+        Planned::Points(p) => {
+            let size = p.count as usize;
+            if out.len() < size {
+                return Listed::Refused(Refusal::OutTooShort);
+            }
+            put_entries(out, s, p.step as usize, size);
+            Listed::Written(size)
+        }
+    }
+}
+
+impl Linspacef64 {
+    fn steps(self) -> Steps
+        ensures { λ r. ⌜ (r .a ≡ self .inner .0) × (r .b ≡ self .inner .1) × (r .d ≡ self .step) ⌝ }
+    {
+        let inner = self.inner;
+        Steps {
+            a: inner.0,
+            b: inner.1,
+            d: self.step,
+        }
+    }
+
+    // The list, written to the start of out.
+    pub fn values(self, out: &mut [f64]) -> Listed
+        ensures { λ r. ⌜ (tellListed r, now (out .exit)) ≡ stepValues real (self .inner .0) (self .inner .1) (self .step) (now (out .entry)) ⌝ }
+    {
+        let s = self.steps();
+        match counted(s) {
+            Count::Refused(r) => Listed::Refused(r),
+            Count::Of(n) => {
+                let size = n as usize;
+                if out.len() < size {
+                    return Listed::Refused(Refusal::ListTooLong);
+                }
+                put_entries(out, s, 1, size);
+                Listed::Written(size)
+            }
+        }
+    }
+
+    // The number of entries.
+    pub fn size(self) -> Count
+        ensures { λ r. ⌜ tellCount r ≡ stepSize real (self .inner .0) (self .inner .1) (self .step) ⌝ }
+    {
+        counted(self.steps())
+    }
+
+    // Entry k.
+    pub fn from_index(self, k: u64) -> RealReading
+        ensures { λ r. ⌜ tellReading r ≡ stepFromIndex real (self .inner .0) (self .inner .1) (self .step) k ⌝ }
+    {
+        entry_at(self.steps(), k)
+    }
+
+    // The index of v by the search. An empty list answers for every v as for a NaN.
+    pub fn index_of(self, v: f64, method: RoundingMethod) -> Index
+        ensures { λ r. ⌜ tellIndex r ≡ stepIndexOf real (self .inner .0) (self .inner .1) (self .step) v method ⌝ }
+    {
+        let s = self.steps();
+        if leads_away(s) {
+            return Index::Refused(Refusal::StepAgainstAxis);
+        }
+        if !has_entries(s) {
+            return search::settle_nan(method, 0);
+        }
+        index_along(s, v, method)
+    }
+
+    // The place of v, by the ends alone; a list that is refused has none.
+    pub fn map(self, v: f64, limit: Limit) -> Place
+        ensures { λ r. ⌜ tellPlace r ≡ stepPlace real (self .inner .0) (self .inner .1) (self .step) v limit ⌝ }
+    {
+        match self.inner.map(v, limit) {
+            Place::Refused(r) => Place::Refused(r),
+            Place::At(z) => match counted(self.steps()) {
+                Count::Refused(r) => Place::Refused(r),
+                Count::Of(_) => Place::At(z),
+            },
+        }
+    }
+
+    // The entry that pixel x is read as.
+    pub fn unmap(self, x: i32, limit: Limit) -> RealReading
+        ensures { λ r. ⌜ tellReading r ≡ stepReading real (self .inner .0) (self .inner .1) (self .step) x limit ⌝ }
+    {
+        if !ranged1d::pixel_admitted(x) {
+            return RealReading::Refused(Refusal::LimitNotAdmitted);
+        }
+        if !limit.admitted() {
+            return RealReading::Refused(Refusal::LimitNotAdmitted);
+        }
+        let s = self.steps();
+        match counted(s) {
+            Count::Refused(r) => RealReading::Refused(r),
+            Count::Of(n) => match discrete::pixel_index(x, limit, n as u32) {
+                PixelIndex::Refused(r) => RealReading::Refused(r),
+                PixelIndex::Nothing => RealReading::Nothing,
+                PixelIndex::At(k) => entry_at(s, k),
+            },
+        }
+    }
+
+    // The entries at the marks of the indices, written to the start of out: m bounds their number.
+    pub fn key_points(self, m: u32, out: &mut [f64]) -> Listed
+        ensures { λ r. ⌜ (tellListed r, now (out .exit)) ≡ stepKeyPoints real (self .inner .0) (self .inner .1) (self .step) m (now (out .entry)) ⌝ }
+    {
+        let s = self.steps();
+        if no_step(s, m) {
+            return Listed::Refused(Refusal::NoStep);
+        }
+        match counted(s) {
+            Count::Refused(r) => Listed::Refused(r),
+            Count::Of(n) => put_marks(s, n as usize, m, out),
+        }
+    }
+}

@@ -1,0 +1,106 @@
+// Lines on stepped axes: the ends and the step, what the call takes besides, and what is returned.
+ghost use Prim.Native.Nat.{_≤_};
+ghost use lib.ListN.{length};
+use crate::bits::double;
+use crate::calls::of_count;
+use crate::calls::of_index;
+use crate::calls::of_place;
+use crate::calls::of_reading;
+use crate::calls::of_value;
+use crate::calls::same;
+use crate::calls::whole;
+use crate::calls::word;
+use crate::searches::method;
+use linspace::Linspacef64;
+use linspace::Linspacei32;
+use numeric::RangedCoordf64;
+use numeric::RangedCoordi32;
+use ranged1d::Limit;
+
+fn limit(numbers: &[u64]) -> Limit {
+    Limit(whole(numbers, 4), whole(numbers, 5))
+}
+
+fn whole_steps(numbers: &[u64]) -> Linspacei32 {
+    Linspacei32 {
+        inner: RangedCoordi32(whole(numbers, 0), whole(numbers, 1)),
+        step: whole(numbers, 2),
+    }
+}
+
+pub(crate) fn whole_size(numbers: &[u64], n: usize) -> bool
+    requires { ⌜ n ≤ length (now numbers) ⌝ }
+{
+    same(numbers, n, 3, of_count(whole_steps(numbers).size()))
+}
+
+pub(crate) fn whole_from_index(numbers: &[u64], n: usize) -> bool
+    requires { ⌜ n ≤ length (now numbers) ⌝ }
+{
+    let v = whole_steps(numbers).from_index(word(numbers, 3));
+    same(numbers, n, 4, of_value(v))
+}
+
+pub(crate) fn whole_index_of(numbers: &[u64], n: usize) -> bool
+    requires { ⌜ n ≤ length (now numbers) ⌝ }
+{
+    let by = method(word(numbers, 4));
+    let k = whole_steps(numbers).index_of(whole(numbers, 3), by);
+    same(numbers, n, 5, of_index(k))
+}
+
+pub(crate) fn whole_map(numbers: &[u64], n: usize) -> bool
+    requires { ⌜ n ≤ length (now numbers) ⌝ }
+{
+    let x = whole_steps(numbers).map(whole(numbers, 3), limit(numbers));
+    same(numbers, n, 6, of_place(x))
+}
+
+pub(crate) fn whole_unmap(numbers: &[u64], n: usize) -> bool
+    requires { ⌜ n ≤ length (now numbers) ⌝ }
+{
+    let v = whole_steps(numbers).unmap(whole(numbers, 3), limit(numbers));
+    same(numbers, n, 6, of_value(v))
+}
+
+fn real_steps(numbers: &[u64]) -> Linspacef64 {
+    Linspacef64 {
+        inner: RangedCoordf64(double(word(numbers, 0)), double(word(numbers, 1))),
+        step: double(word(numbers, 2)),
+    }
+}
+
+pub(crate) fn real_size(numbers: &[u64], n: usize) -> bool
+    requires { ⌜ n ≤ length (now numbers) ⌝ }
+{
+    same(numbers, n, 3, of_count(real_steps(numbers).size()))
+}
+
+pub(crate) fn real_from_index(numbers: &[u64], n: usize) -> bool
+    requires { ⌜ n ≤ length (now numbers) ⌝ }
+{
+    let v = real_steps(numbers).from_index(word(numbers, 3));
+    same(numbers, n, 4, of_reading(v))
+}
+
+pub(crate) fn real_index_of(numbers: &[u64], n: usize) -> bool
+    requires { ⌜ n ≤ length (now numbers) ⌝ }
+{
+    let by = method(word(numbers, 4));
+    let k = real_steps(numbers).index_of(double(word(numbers, 3)), by);
+    same(numbers, n, 5, of_index(k))
+}
+
+pub(crate) fn real_map(numbers: &[u64], n: usize) -> bool
+    requires { ⌜ n ≤ length (now numbers) ⌝ }
+{
+    let x = real_steps(numbers).map(double(word(numbers, 3)), limit(numbers));
+    same(numbers, n, 6, of_place(x))
+}
+
+pub(crate) fn real_unmap(numbers: &[u64], n: usize) -> bool
+    requires { ⌜ n ≤ length (now numbers) ⌝ }
+{
+    let v = real_steps(numbers).unmap(whole(numbers, 3), limit(numbers));
+    same(numbers, n, 6, of_reading(v))
+}
