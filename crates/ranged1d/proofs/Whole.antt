@@ -70,6 +70,15 @@ pub range32 : (z : ℤ) → ltZ z (negsuc 2147483647) ≡ false → leZ z (pos 2
 range32 (pos n) l u = record { sfits = omega (arith, leb-true n 2147483647 u) }
 range32 (negsuc n) l u = record { sfits = omega (arith, ltb-false 2147483647 n l) }
 
+-- within k + 1 of 0, by one comparison on each side
+pub far-below : (z : ℤ) (k : ℕ) → ltZ z (negsuc k) ≡ true → leb (natAbs z) (suc k) ≡ false
+far-below (pos n) k h = absurd (subst T (sym h) tt)
+far-below (negsuc n) k h = lt-leb (suc n) (suc k) (omega (arith, ltb-true k n h))
+
+pub not-far-below : (z : ℤ) (k : ℕ) → ltZ z (negsuc k) ≡ false → leZ z (pos (suc k)) ≡ leb (natAbs z) (suc k)
+not-far-below (pos n) k h = refl
+not-far-below (negsuc n) k h = sym (le-leb (suc n) (suc k) (omega (arith, ltb-false k n h)))
+
 -- ---- order
 pub not-lt : (x y : ℤ) → ltZ x y ≡ false → leZ y x ≡ true
 not-lt (pos a) (pos b) h = le-leb b a (ltb-false a b h)

@@ -57,11 +57,14 @@ pub fn unsigned_abs(z: i32) -> u32
     if w < 0 { (0 - w) as u32 } else { w as u32 }
 }
 
-// Whether z is admitted as a whole end, value, step or list entry.
+// Whether z is admitted as a whole end, value, step or list entry. Two comparisons, which compile to one.
 pub fn whole_admitted(z: i32) -> bool
     ensures { λ r. ⌜ r ≡ wholeAdmitted z ⌝ }
 {
-    unsigned_abs(z) <= 1000000000
+    if z < -1000000000 {
+        return false;
+    }
+    z <= 1000000000
 }
 
 // Whether k is admitted as an end of an index axis.
@@ -75,7 +78,10 @@ pub fn index_admitted(k: usize) -> bool
 pub fn pixel_admitted(x: i32) -> bool
     ensures { λ r. ⌜ r ≡ pixelAdmitted x ⌝ }
 {
-    unsigned_abs(x) <= 1000000
+    if x < -1000000 {
+        return false;
+    }
+    x <= 1000000
 }
 
 impl Limit {
