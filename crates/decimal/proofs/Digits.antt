@@ -2,16 +2,18 @@
 use mathlib.Core.Path.{_≡_, refl, sym, ap, _∙_}
 use mathlib.Core.Bool.{Bool, true, false, cond}
 use mathlib.Core.List.{List, [], _∷_, _++_, append-assoc, append-nil}
-use Prim.Native.Nat.{ℕ, zero, suc, _+_, _-_, _/_, _%_, _≤_, _<_}
+use Prim.Native.Nat.{ℕ, zero, suc, _+_, _-_, _/_, _%_, _^_, _≤_, _<_}
+use native.Mathlib.Nat.{pow-suc, zero-lt-suc, div-lt-iff-lt-mul}
 use native.Mathlib.Omega.{arith}
 use lib.Dec.{ltb}
-use borrow.Author.Tests.{lt-ltb, le-ltb}
+use borrow.Author.Tests.{lt-ltb, le-ltb, ltb-false}
 use lib.IntN.{ℤ, pos, negsuc, natAbs}
 use lib.Signed.{ltZ}
 use Rattle.decimal.specs.declared.Text.{Text}
+use Rattle.decimal.specs.declared.LongText.{LongText}
 use lib.ListN.{length, getD, set, take, drop, replicate, length-append, length-replicate, replicate-append-replicate}
-use lib.Seq.{set-at}
-use Rattle.decimal.specs.Print.{digit, minus, digits, natural, decimal, filled, textOf}
+use lib.Seq.{set-at, drop-at}
+use Rattle.decimal.specs.Print.{digit, minus, digits, natural, decimal, filledTo, filled, textOf}
 
 -- n has at most i digits
 abbrev pub small : ℕ → ℕ → Type 0
@@ -41,18 +43,29 @@ unfolding digits
 digits-one zero n h = refl
 digits-one (suc f) n h = let l : n < 10 = omega arith in rw (lt-ltb n 10 l)
 
--- a text that is blank up to the place i, and then has `tail`, before which the digits of n are to come
-pub record Spelt (N i n : ℕ) (t : List ℕ) : Type 0 where
+-- a text of f + 2 bytes that is blank up to the place i, and then has `tail`, before which the digits of n are to come
+pub record Spelt (f N i n : ℕ) (t : List ℕ) : Type 0 where
   pub tail : List ℕ
   pub some : 1 ≤ i
-  pub most : i ≤ 10
+  pub most : i ≤ f + 1
   pub left : small i n
-  pub long : i + 1 + length tail ≡ 11
+  pub long : i + 1 + length tail ≡ f + 2
   pub blank : t ≡ replicate (i + 1) 32 ++ tail
-  pub told : digits (i - 1) n ++ tail ≡ digits 9 N
+  pub told : digits (i - 1) n ++ tail ≡ digits f N
 
-pub spelt-none : (N : ℕ) → N ≤ 4294967295 → Spelt N 10 N (replicate 11 32)
-spelt-none N h = record { tail = []; some = omega arith; most = omega arith; left = omega arith; long = refl; blank = refl; told = append-nil (digits 9 N) }
+pub spelt-none : (f N : ℕ) → small (f + 1) N → Spelt f N (f + 1) N (replicate (f + 2) 32)
+spelt-none f N h =
+    let e : f + 1 + 1 ≡ f + 2 = omega arith in
+    let g : f + 1 - 1 ≡ f = omega arith in
+    record {
+      tail = [];
+      some = omega arith;
+      most = omega arith;
+      left = h;
+      long = omega arith;
+      blank = rw e (sym (append-nil (replicate (f + 2) 32)));
+      told = rw g (append-nil (digits f N));
+    }
 
 -- a character takes the place of the last blank
 pub set-blank : (i d : ℕ) (u : List ℕ) → set (replicate (i + 1) 32 ++ u) i d ≡ replicate i 32 ++ (d ∷ u)
@@ -60,14 +73,14 @@ set-blank i d u =
     rw (← replicate-append-replicate {A = ℕ} i 1 32, append-assoc (replicate i 32) (32 ∷ []) u)
     (set-at (replicate i 32) 32 u d i (length-replicate i 32))
 
-module _ {N i n : ℕ} {t : List ℕ} (s : Spelt N i n t) where
-  pub spelt-long : length t ≡ 11
+module _ {f N i n : ℕ} {t : List ℕ} (s : Spelt f N i n t) where
+  pub spelt-long : length t ≡ f + 2
   spelt-long = rw (s .blank, length-append, length-replicate) (s .long)
 
   pub spelt-set : (d : ℕ) → set t i d ≡ replicate i 32 ++ (d ∷ s .tail)
   spelt-set d = ap (λ (l : List ℕ). set l i d) (s .blank) ∙ set-blank i d (s .tail)
 
-  pub spelt-more : 9 < n → Spelt N (i - 1) (n / 10) (set t i (48 + n % 10))
+  pub spelt-more : 9 < n → Spelt f N (i - 1) (n / 10) (set t i (48 + n % 10))
   spelt-more h =
       let two = small-two i n h (s .left) in
       let e : i - 1 + 1 ≡ i = omega (arith, two) in
@@ -81,21 +94,34 @@ module _ {N i n : ℕ} {t : List ℕ} (s : Spelt N i n t) where
         told = sym (append-assoc (digits (i - 1 - 1) (n / 10)) (digit (n % 10) ∷ []) (s .tail)) ∙ ap (λ (l : List ℕ). l ++ s .tail) (sym (digits-more i n h (s .left))) ∙ s .told;
       }
 
-  pub spelt-last : n ≤ 9 → set t i (48 + n) ≡ replicate i 32 ++ digits 9 N
+  pub spelt-last : n ≤ 9 → set t i (48 + n) ≡ replicate i 32 ++ digits f N
   spelt-last h = spelt-set (48 + n) ∙ ap (λ (l : List ℕ). replicate i 32 ++ l) (ap (λ (l : List ℕ). l ++ s .tail) (sym (digits-one (i - 1) n h)) ∙ s .told)
 
-  pub spelt-count : n ≤ 9 → i + length (digits 9 N) ≡ 11
+  pub spelt-count : n ≤ 9 → i + length (digits f N) ≡ f + 2
   spelt-count h = rw (← s .told, digits-one (i - 1) n h) (omega (arith, s .long))
 
--- the whole text, without a sign and with one
-pub text-plain : (N i : ℕ) → i + length (natural N) ≡ 11 → _≡_ {A = Text} (record { bytes = replicate i 32 ++ natural N; blanks = i }) (textOf (natural N))
-text-plain N i e = let f : 11 - length (natural N) ≡ i = omega arith in rw f
+-- the whole text of w bytes, without a sign and with one
+pub fill-plain : (w : ℕ) (l : List ℕ) (i : ℕ) → i + length l ≡ w → (replicate i 32 ++ l ≡ filledTo w l) × (i ≡ w - length l)
+fill-plain w l i e = let f : w - length l ≡ i = omega arith in rw f (refl, refl)
 
-pub text-minus : (N i : ℕ) → 0 < i → i + length (natural N) ≡ 11 → _≡_ {A = Text} (record { bytes = set (replicate i 32 ++ natural N) (i - 1) 45; blanks = i - 1 }) (textOf (minus ∷ natural N))
-text-minus N i p e =
-    let g : i - 1 + 1 ≡ i = omega arith in
-    let f : 11 - suc (length (natural N)) ≡ i - 1 = omega arith in
-    rw f (ap (λ (l : List ℕ). record { bytes = l; blanks = i - 1 }) (ap (λ (k : ℕ). set (replicate k 32 ++ natural N) (i - 1) 45) (sym g) ∙ set-blank (i - 1) 45 (natural N)))
+pub fill-minus : (w : ℕ) (l : List ℕ) (i : ℕ) → 0 < i → i + length l ≡ w → (set (replicate i 32 ++ l) (i - 1) 45 ≡ filledTo w (minus ∷ l)) × (i - 1 ≡ w - length (minus ∷ l))
+fill-minus w l i p e = (ap (λ (k : ℕ). set (replicate k 32 ++ l) (i - 1) 45) g ∙ stored, f)
+  where
+    g : i ≡ i - 1 + 1
+    g = omega arith
+
+    f : i - 1 ≡ w - suc (length l)
+    f = omega arith
+
+    stored : set (replicate (i - 1 + 1) 32 ++ l) (i - 1) 45 ≡ replicate (w - suc (length l)) 32 ++ (45 ∷ l)
+    stored = set-blank (i - 1) 45 l ∙ ap (λ (k : ℕ). replicate k 32 ++ (45 ∷ l)) f
+
+-- equal parts make equal texts
+pub text-is : (b c : List ℕ) (i j : ℕ) → (b ≡ c) × (i ≡ j) → _≡_ {A = Text} (record { bytes = b; blanks = i }) (record { bytes = c; blanks = j })
+text-is b c i j h = rw (h .0, h .1)
+
+pub long-text-is : (b c : List ℕ) (i j : ℕ) → (b ≡ c) × (i ≡ j) → _≡_ {A = LongText} (record { bytes = b; blanks = i }) (record { bytes = c; blanks = j })
+long-text-is b c i j h = rw (h .0, h .1)
 
 -- how long a text is, of any number
 pub digits-most : (f n : ℕ) → length (digits f n) ≤ f + 1
@@ -114,8 +140,38 @@ decimal-most (negsuc n) = omega (arith, digits-most 9 (suc n))
 pub natural-most : (n : ℕ) → length (natural n) ≤ 11
 natural-most n = omega (arith, digits-most 9 n)
 
+pub filled-to-long : (w : ℕ) (t : List ℕ) → length t ≤ w → length (filledTo w t) ≡ w
+filled-to-long w t h = rw (length-append (replicate (w - length t) 32) t, length-replicate {A = ℕ} (w - length t) 32) (omega arith)
+
 pub filled-long : (t : List ℕ) → length t ≤ 11 → length (filled t) ≡ 11
-filled-long t h = rw (length-append (replicate (11 - length t) 32) t, length-replicate {A = ℕ} (11 - length t) 32) (omega arith)
+filled-long = filled-to-long 11
+
+-- without its blanks it is the text again
+pub unfilled-to : (w : ℕ) (t : List ℕ) → drop (w - length t) (filledTo w t) ≡ t
+unfilled-to w t = drop-at (replicate (w - length t) 32) t (w - length t) (length-replicate {A = ℕ} (w - length t) 32)
+
+-- ---- enough digits: a number below 10 ^ k has at most k, and more fuel than it needs changes nothing
+pub tenth-small : (n k : ℕ) → n < 10 ^ suc k → n / 10 < 10 ^ k
+tenth-small n k h = div-lt-iff-lt-mul (zero-lt-suc 9) .1 (rw (pow-suc 10 k) at h)
+
+pub digits-fuel : (f n : ℕ) → n < 10 ^ suc f → digits f n ≡ digits (suc f) n
+unfolding digits
+digits-fuel zero n h = rw (lt-ltb n 10 h)
+digits-fuel (suc f) n h =
+    ap (λ (l : List ℕ). cond (ltb n 10) (digit n ∷ []) (l ++ (digit (n % 10) ∷ []))) (digits-fuel f (n / 10) (tenth-small n (suc f) h))
+
+pub digits-few : (f k n : ℕ) → n < 10 ^ suc k → length (digits f n) ≤ suc k
+unfolding digits
+digits-few zero k n h = omega arith
+digits-few (suc f) k n h = go (ltb n 10) refl (digits-few f)
+  where
+    more : (k : ℕ) → n < 10 ^ suc k → 10 ≤ n → ((j m : ℕ) → m < 10 ^ suc j → length (digits f m) ≤ suc j) → length (digits f (n / 10)) + 1 ≤ suc k
+    more zero h l r = absurd (omega arith)
+    more (suc j) h l r = let q = r j (n / 10) (tenth-small n (suc j) h) in omega arith
+
+    go : (t : Bool) → ltb n 10 ≡ t → ((j m : ℕ) → m < 10 ^ suc j → length (digits f m) ≤ suc j) → length (cond t (digit n ∷ []) (digits f (n / 10) ++ (digit (n % 10) ∷ []))) ≤ suc k
+    go true e r = omega arith
+    go false e r = rw (length-append (digits f (n / 10)) (digit (n % 10) ∷ [])) (more k h (ltb-false n 10 e) r)
 
 -- the sign and the size of a number, as the code takes them apart
 pub signed-text : (v : ℤ) → cond (ltZ v (pos 0)) (minus ∷ natural (natAbs v)) (natural (natAbs v)) ≡ decimal v

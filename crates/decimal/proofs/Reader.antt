@@ -11,14 +11,13 @@ use lib.Dec.{T, ltb, leb, eqb}
 use lib.IntN.{ℤ, pos, negsuc, negℤ}
 use lib.Signed.{leZ}
 use lib.ListN.{length, getD, drop, replicate, length-append, length-replicate, List·getD-append}
-use lib.Seq.{drop-at}
 use mir.Syntax.{w32}
 use mir.Val.{SFits}
 use Rattle.ranged1d.specs.Answer.{Answer, given, none, refused}
 use Rattle.decimal.specs.Print.{digit, minus, digits, natural, decimal, filled, textOf}
 use Rattle.decimal.specs.Read.{valueOf, signedValue, sameBytes, isI32, readI32, readU32}
 use Rattle.decimal.specs.Steps.{keepI32, keepPrinted}
-use Rattle.decimal.proofs.Digits.{digits-most, decimal-most}
+use Rattle.decimal.proofs.Digits.{digits-most, decimal-most, unfilled-to}
 use Rattle.decimal.proofs.Texts.{same-self, same-equal}
 
 -- ---- what is an i32
@@ -50,7 +49,7 @@ decimal-some (negsuc n) = omega arith
 
 -- a filled text without its blanks
 pub unfilled : (t : List ℕ) → drop (11 - length t) (filled t) ≡ t
-unfilled t = drop-at (replicate (11 - length t) 32) t (11 - length t) (length-replicate {A = ℕ} (11 - length t) 32)
+unfilled = unfilled-to 11
 
 differ : (l k : List ℕ) → (length l ≡ length k → ⊥) → sameBytes l k ≡ false
 differ l k f = go (sameBytes l k) refl

@@ -7,6 +7,7 @@ use lib.Dec.{ltb}
 use lib.IntN.{ℤ, pos, negsuc}
 use lib.ListN.{length, replicate}
 use Rattle.decimal.specs.declared.Text.{Text}
+use Rattle.decimal.specs.declared.LongText.{LongText}
 
 -- a digit's byte; the bytes of a minus sign and of a blank
 abbrev pub digit : ℕ → ℕ
@@ -27,14 +28,22 @@ digits (suc f) n = cond (ltb n 10) (digit n ∷ []) (digits f (n / 10) ++ (digit
 abbrev pub natural : ℕ → List ℕ
 natural n = digits 9 n
 
+-- and twenty for every number of 64 bits
+abbrev pub longNatural : ℕ → List ℕ
+longNatural n = digits 19 n
+
 -- a minus sign in front of a negative number, and only there
 abbrev pub decimal : ℤ → List ℕ
 decimal (pos n) = natural n
 decimal (negsuc n) = minus ∷ natural (suc n)
 
--- a label: filled on the left with blanks to 11 bytes
+-- a text filled on the left with blanks to w bytes
+abbrev pub filledTo : ℕ → List ℕ → List ℕ
+filledTo w t = replicate (w - length t) blank ++ t
+
+-- a label: filled to 11 bytes
 abbrev pub filled : List ℕ → List ℕ
-filled t = replicate (11 - length t) blank ++ t
+filled t = filledTo 11 t
 
 abbrev pub labelOf : ℤ → List ℕ
 labelOf z = filled (decimal z)
@@ -42,3 +51,7 @@ labelOf z = filled (decimal z)
 -- the filled text with the number of its blanks
 abbrev pub textOf : List ℕ → Text
 textOf t = record { bytes = filled t; blanks = 11 - length t }
+
+-- a longer number's text, which is filled to 21 bytes: twenty digits and a sign
+abbrev pub longTextOf : List ℕ → LongText
+longTextOf t = record { bytes = filledTo 21 t; blanks = 21 - length t }

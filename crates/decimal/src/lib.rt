@@ -5,13 +5,19 @@ ghost use mathlib.Core.Bool.{cond};
 ghost use lib.ListN.{length, drop};
 ghost use lib.IntN.{pos, negℤ};
 ghost use mathlib.Core.List.{_∷_};
-ghost use Rattle.decimal.specs.Print.{minus, natural, decimal, textOf};
+ghost use Rattle.decimal.specs.Print.{minus, natural, longNatural, decimal, textOf, longTextOf};
 ghost use Rattle.decimal.specs.Read.{valueOf, sameBytes, readI32, readU32, tellWhole, tellNatural};
 ghost use Rattle.decimal.specs.Steps.{keepI32, keepPrinted};
 
 // A number's text, with blanks on its left, and how many those are.
 pub struct Text {
     pub bytes: [u8; 11],
+    pub blanks: usize,
+}
+
+// The same of a number of up to 64 bits.
+pub struct LongText {
+    pub bytes: [u8; 21],
     pub blanks: usize,
 }
 
@@ -63,6 +69,32 @@ pub fn natural_label(n: u32) -> Text
     ensures { λ r. ⌜ r ≡ textOf (natural n) ⌝ }
 {
     spell(false, n)
+}
+
+// The digits of a size of up to 64 bits, and a minus sign in front of them where it is asked for, also in front of a zero.
+pub fn long_label(negative: bool, size: u64) -> LongText
+    ensures { λ r. ⌜ r ≡ longTextOf (cond negative (minus ∷ longNatural size) (longNatural size)) ⌝ }
+{
+    let mut t = [32u8; 21];
+    let mut i: usize = 20;
+    let mut n = size;
+    while 9 < n {
+        t[i] = 48 + (n % 10) as u8;
+        n /= 10;
+        i -= 1;
+    }
+    t[i] = 48 + n as u8;
+    if negative {
+        t[i - 1] = 45;
+        return LongText {
+            bytes: t,
+            blanks: i - 1,
+        };
+    }
+    LongText {
+        bytes: t,
+        blanks: i,
+    }
 }
 
 // What the bytes from `at` on stand for if they are digits. Eleven bytes at most, so that the number stays far below 2^63.

@@ -6,18 +6,18 @@ use Prim.Native.Nat.{ℕ, _+_, _-_}
 use native.Mathlib.Omega.{arith}
 use lib.ListN.{length, set, replicate}
 use Rattle.decimal.specs.Print.{natural}
-use Rattle.decimal.proofs.Digits.{Spelt, spelt-none, spelt-more, spelt-last, spelt-count, text-plain, text-minus}
+use Rattle.decimal.proofs.Digits.{Spelt, spelt-none, spelt-more, spelt-last, spelt-count, fill-plain, fill-minus, text-is}
 use Rattle.decimal.proofs.spell.Statement.{statement}
 use Rattle.decimal.proofs.spell.Tie as tie
 
 abbrev Inv-loop : tie.InvT-loop
-Inv-loop negative size t₀ i₀ n₀ t i n = Spelt size i n t
+Inv-loop negative size t₀ i₀ n₀ t i n = Spelt 9 size i n t
 
 abbrev μ-loop : tie.MeasureT-loop
 μ-loop negative size t₀ i₀ n₀ t i n = n
 
 loop-holds : tie.Need-loop-holds Inv-loop μ-loop
-loop-holds c = spelt-none (c .args .size) (omega arith)
+loop-holds c = spelt-none 9 (c .args .size) (omega arith)
 
 cast-t : tie.Need-cast-t Inv-loop μ-loop
 cast-t c = omega arith
@@ -62,16 +62,16 @@ told c = (spelt-last (c .before .loop .inv) (omega arith), spelt-count (c .befor
 returns : tie.Need-returns Inv-loop μ-loop
 returns c =
     let i = c .before .before .loop .i in
-    let N = c .before .before .before .args .size in
+    let l = natural (c .before .before .before .args .size) in
     rw (c .if1 .taken)
-    (ap (λ (t : List ℕ). record { bytes = set t (i - 1) 45; blanks = i - 1 }) (told (c .before) .0) ∙ text-minus N i (omega arith) (told (c .before) .1))
+    (ap (λ (t : List ℕ). record { bytes = set t (i - 1) 45; blanks = i - 1 }) (told (c .before) .0) ∙ text-is _ _ _ _ (fill-minus 11 l i (omega arith) (told (c .before) .1)))
 
 returns-2 : tie.Need-returns-2 Inv-loop μ-loop
 returns-2 c =
     let i = c .before .before .loop .i in
-    let N = c .before .before .before .args .size in
+    let l = natural (c .before .before .before .args .size) in
     rw (c .if1 .left)
-    (ap (λ (t : List ℕ). record { bytes = t; blanks = i }) (told (c .before) .0) ∙ text-plain N i (told (c .before) .1))
+    (ap (λ (t : List ℕ). record { bytes = t; blanks = i }) (told (c .before) .0) ∙ text-is _ _ _ _ (fill-plain 11 l i (told (c .before) .1)))
 
 pub spell-spec : {M : Type 1} → statement M
 spell-spec =

@@ -1,0 +1,364 @@
+-- A shortened number stays near the number: from a size below 2 ^ 53 it goes no further than 2 ^ 53 + 2. So its whole part and its decimals are what the
+-- code's casts give, with no end of a u64 near (`whole-exact`, `decimals-exact`).
+-- Assumes nothing.
+use mathlib.Core.Path.{_≡_, refl, sym, ap, _∙_, subst}
+use mathlib.Core.Bool.{Bool, true, false, not, cond, _&&_, _||_, true≢false}
+use Prim.Native.Nat.{ℕ, zero, suc, _+_, _-_, _*_, _/_, _^_, _≤_, _<_, min}
+use native.Mathlib.Nat.{mul-one, mul-comm, mul-assoc, mul-right-comm, mul-pos, mul-le-mul-right, le-of-mul-le-mul-right, le-trans, le-of-eq, zero-lt-suc}
+use native.Mathlib.Omega.{arith}
+use lib.Dec.{T, ltb, eqb, ltb→lt, eqb→eq}
+use lib.IntN.{ℤ, pos, natAbs}
+use lib.Ieee.{Float, nan, inf, fin, up, down, binary64, Format, prec, emax, low, lt, le, eq, neg, round, odd, units, sum, add, sub, mul, div, ofBits, ofInt, toUnsigned, isNan, fits}
+use Rattle.float.proofs.Cases.{pow-small}
+use lib.Ieee.Fits.{down-pos, round-is, mul-fits}
+use lib.Ieee.Exact.{HasValue}
+use lib.Ieee.Back.{round-whole}
+use lib.Ieee.Order.{round-mono}
+use borrow.Author.Tests.{ltb-true}
+use Rattle.rounding.specs.Integral.{Way, floors, ceils, halves, sized, integral, floorOf, ceilOf, roundOf}
+use Rattle.rounding.specs.Within.{wholeOf}
+use Rattle.rounding.proofs.Laws.{round-neg}
+use Rattle.rounding.proofs.Quotients.{sized-le, sized-whole}
+use Rattle.rounding.proofs.Value.{integral-value, floor-value, Floor}
+use Rattle.float.specs.declared.Shortened.{Shortened}
+use Rattle.float.specs.Shorten.{shorten, one, ten, plain, inner, outer}
+use Rattle.float.specs.Text.{signOf, sizeOf, wholePart, decimalsOf}
+use Rattle.float.specs.Calls.{printable}
+use Rattle.float.specs.Steps.{AtMost}
+
+-- x is finite, at most C in size and of positive sign
+abbrev Small : ℕ → Float → Type 0
+Small C x = (signOf x ≡ false) × AtMost C x
+
+-- ---- a rounded fraction of at most C, where C rounds to itself
+sign-cond : (b : Bool) (x y : Float) (s : Bool) → signOf x ≡ s → signOf y ≡ s → signOf (cond b x y) ≡ s
+sign-cond true x y s p q = p
+sign-cond false x y s p q = q
+
+sign-odd : (d : ℕ) (s : Bool) (q k l : ℕ) → signOf (odd d s q k l) ≡ s
+unfolding odd
+sign-odd d s zero k l = refl
+sign-odd d s (suc q) k l = refl
+
+sign-units : (f : Format) (s : Bool) (q k : ℕ) → signOf (units f s q k) ≡ s
+unfolding units
+sign-units f s q k = sign-cond (ltb (q * 2 ^ k) (2 ^ (low f + suc (emax f)))) (odd (suc (prec f)) s q k (low f)) (inf s) s (sign-odd (suc (prec f)) s q k (low f)) refl
+
+sign-round : (s : Bool) (a b : ℕ) → signOf (round binary64 s a b) ≡ s
+sign-round s a b = rw (round-is binary64 s a b) (sign-units binary64 s _ _)
+
+or-le : (x y : ℕ) (b : Bool) → T (ltb x y || (eqb x y && b)) → x ≤ y
+or-le x y b t = go (ltb x y) (eqb x y) (ltb→lt x y) (eqb→eq x y) t
+  where
+    go : (p q : Bool) → (T p → x < y) → (T q → x ≡ y) → T (p || (q && b)) → x ≤ y
+    go true q f g t = let h = f tt in omega arith
+    go false true f g t = let h = g tt in omega arith
+    go false false f g t = absurd t
+
+under : (C : ℕ) (x y : Float) → signOf x ≡ false → HasValue y false C 1 → T (le x y) → AtMost C x
+unfolding le lt eq
+under C x nan s v t = absurd v
+under C x (inf u) s v t = absurd v
+under C nan (fin u n d) s v t = absurd t
+under C (inf true) (fin u n d) s v t = absurd (true≢false s)
+under C (inf false) (fin u n d) s v t = absurd t
+under C (fin true m e) (fin u n d) s v t = absurd (true≢false s)
+under C (fin false m e) (fin true n d) s v t = absurd (true≢false (v .0))
+under C (fin false m e) (fin false n d) s v t =
+    let l : m * up e * down d ≤ n * up d * down e = or-le (m * up e * down d) (n * up d * down e) _ t in
+    let q : n * up d * down e ≡ C * down e * down d = ap (λ (z : ℕ). z * down e) (sym (mul-one (n * up d)) ∙ v .1) ∙ mul-right-comm C (down d) (down e) in
+    le-of-mul-le-mul-right (le-trans l (le-of-eq q)) (down-pos d)
+
+module _ (C : ℕ) (exact : HasValue (round binary64 false C 1) false C 1) where
+  round-small : (a b : ℕ) → 0 < b → a ≤ C * b → Small C (round binary64 false a b)
+  round-small a b p h =
+      (sign-round false a b, under C (round binary64 false a b) (round binary64 false C 1) (sign-round false a b) exact (round-mono binary64 a b C 1 p (zero-lt-suc 0) (rw (mul-one a) h)))
+
+within-neg : (C : ℕ) (x : Float) → AtMost C x → AtMost C (neg x)
+unfolding neg
+within-neg C nan w = w
+within-neg C (inf s) w = w
+within-neg C (fin s m e) w = w
+
+round-within : (C : ℕ) → HasValue (round binary64 false C 1) false C 1 → (s : Bool) (a b : ℕ) → 0 < b → a ≤ C * b → AtMost C (round binary64 s a b)
+round-within C v false a b p h = round-small C v a b p h .1
+round-within C v true a b p h = subst (AtMost C) (sym (round-neg binary64 false a b)) (within-neg C (round binary64 false a b) (round-small C v a b p h .1))
+
+wider : (C D : ℕ) (x : Float) → C ≤ D → AtMost C x → AtMost D x
+wider C D nan l w = w
+wider C D (inf s) l w = w
+wider C D (fin s m e) l w = le-trans w (mul-le-mul-right (down e) l)
+
+small-bound : (C : ℕ) → C ≤ 2 ^ 53 → HasValue (round binary64 false C 1) false C 1
+small-bound C h = round-whole binary64 false C h
+
+-- ---- the whole numbers next to x
+value-within : (y : Float) (s : Bool) (k C : ℕ) → HasValue y s k 1 → k ≤ C → (signOf y ≡ s) × AtMost C y
+value-within nan s k C v l = absurd v
+value-within (inf t) s k C v l = absurd v
+value-within (fin t n d) s k C v l = (v .0, le-trans (le-of-eq (sym (mul-one (n * up d)) ∙ v .1)) (mul-le-mul-right (down d) l))
+
+way-keeps : (w : Way) (C : ℕ) (x : Float) → fits binary64 x ≡ true → AtMost C x → (signOf (integral binary64 w x) ≡ signOf x) × AtMost C (integral binary64 w x)
+way-keeps w C nan t a = absurd a
+way-keeps w C (inf s) t a = absurd a
+way-keeps w C (fin s m e) t a =
+    value-within (integral binary64 w (fin s m e)) s (sized w s (m * up e) (down e)) C (integral-value binary64 w s m e t)
+    (sized-le w s (m * up e) (down e) C (down-pos e) a)
+
+-- ---- x less its floor is from 0 to 1
+-- a - b for fractions over one divisor, at most one apart
+minus-small : (s : Bool) (a b c : ℕ) → 0 < c → (s ≡ false → b ≤ a) → (s ≡ true → a ≤ b) → a ≤ b + c → b ≤ a + c → Small 1 (sum binary64 s a (not s) b c)
+unfolding sum
+minus-small false a b c p f g l r = go (ltb a b) refl
+  where
+    go : (t : Bool) → ltb a b ≡ t → Small 1 (cond t (round binary64 true (b - a) c) (round binary64 false (a - b) c))
+    go true h = absurd (omega (arith, ltb-true a b h, f refl))
+    go false h = round-small 1 (small-bound 1 (omega arith)) (a - b) c p (omega arith)
+minus-small true a b c p f g l r = go (ltb a b) (ltb b a) refl refl
+  where
+    go : (t u : Bool) → ltb a b ≡ t → ltb b a ≡ u → Small 1 (cond t (round binary64 false (b - a) c) (round binary64 u (a - b) c))
+    go true u h k = round-small 1 (small-bound 1 (omega arith)) (b - a) c p (omega arith)
+    go false true h k = absurd (omega (arith, ltb-true b a k, g refl))
+    go false false h k = round-small 1 (small-bound 1 (omega arith)) (a - b) c p (omega arith)
+
+-- what the floor k of n / d says
+near-floor : (s : Bool) (n d k : ℕ) → Floor s n d k → (s ≡ false → k * d ≤ n) × (s ≡ true → n ≤ k * d) × (n ≤ k * d + d) × (k * d ≤ n + d)
+near-floor false n d k f = ((λ h. f .0), (λ h. absurd (true≢false (sym h))), omega (arith, f .1), omega (arith, f .0))
+near-floor true n d k f = ((λ h. absurd (true≢false h)), (λ h. f .0), omega (arith, f .0), omega (arith, f .1))
+
+scale-le : (a b c : ℕ) → a ≤ b → a * c ≤ b * c
+scale-le a b c h = mul-le-mul-right c h
+
+less-floor : (s : Bool) (m : ℕ) (e : ℤ) (y : Float) (k : ℕ) → HasValue y s k 1 → Floor s (m * up e) (down e) k → Small 1 (sub binary64 (fin s m e) y)
+unfolding sub add neg
+less-floor s m e nan k v f = absurd v
+less-floor s m e (inf t) k v f = absurd v
+less-floor s m e (fin t n d) k v f =
+    let w = near-floor s (m * up e) (down e) k f in
+    let D = down d in
+    let E = down e in
+    let N = m * up e in
+    let q : n * up d * E ≡ k * E * D = ap (λ (z : ℕ). z * E) (sym (mul-one (n * up d)) ∙ v .1) ∙ mul-right-comm k D E in
+    let x1 : (k * E + E) * D ≡ k * E * D + E * D = native.Mathlib.Nat.add-mul (k * E) E D in
+    let x2 : (N + E) * D ≡ N * D + E * D = native.Mathlib.Nat.add-mul N E D in
+    subst (λ (u : Bool). Small 1 (sum binary64 s (N * D) (not u) (n * up d * E) (E * D))) (sym (v .0))
+    (subst (λ (z : ℕ). Small 1 (sum binary64 s (N * D) (not s) z (E * D))) (sym q)
+    (minus-small s (N * D) (k * E * D) (E * D) (mul-pos (down-pos e) (down-pos d)) (λ h. scale-le (k * E) N D (w .0 h)) (λ h. scale-le N (k * E) D (w .1 h))
+    (le-trans (scale-le N (k * E + E) D (w .2)) (le-of-eq x1))
+    (le-trans (scale-le (k * E) (N + E) D (w .3)) (le-of-eq x2))))
+
+part-small : (C : ℕ) (x : Float) → fits binary64 x ≡ true → AtMost C x → Small 1 (sub binary64 x (floorOf x))
+part-small C nan t w = absurd w
+part-small C (inf s) t w = absurd w
+part-small C (fin s m e) t w = let f = floor-value s m e t in less-floor s m e (floorOf (fin s m e)) (f .0) (f .1) (f .2)
+
+-- ---- ten times, and a tenth
+times-ten : (x : Float) → Small 1 x → Small 10 (mul binary64 x ten)
+unfolding mul ofBits
+times-ten nan w = absurd (w .1)
+times-ten (inf s) w = absurd (w .1)
+times-ten (fin true m e) w = absurd (true≢false (w .0))
+times-ten (fin false m e) w =
+    round-small 10 (small-bound 10 (omega arith)) (m * up e * 10) (down e * 1) (omega (arith, down-pos e)) (omega (arith, w .1))
+
+tenth : (x : Float) → Small 16 x → Small 2 (div binary64 x ten)
+unfolding div ofBits
+tenth nan w = absurd (w .1)
+tenth (inf s) w = absurd (w .1)
+tenth (fin true m e) w = absurd (true≢false (w .0))
+tenth (fin false m e) w =
+    round-small 2 (small-bound 2 (omega arith)) (m * up e * 1) (10 * down e) (omega (arith, down-pos e)) (omega (arith, w .1))
+
+-- ---- a sum
+sum-within : (C : ℕ) → HasValue (round binary64 false C 1) false C 1 → (s : Bool) (a : ℕ) (t : Bool) (b c : ℕ) → 0 < c → a + b ≤ C * c → AtMost C (sum binary64 s a t b c)
+unfolding sum
+sum-within C v true a true b c p h = round-within C v true (a + b) c p h
+sum-within C v false a false b c p h = round-within C v false (a + b) c p h
+sum-within C v true a false b c p h = go (ltb a b)
+  where
+    go : (x : Bool) → AtMost C (cond x (round binary64 false (b - a) c) (round binary64 (ltb b a) (a - b) c))
+    go true = round-within C v false (b - a) c p (omega arith)
+    go false = round-within C v (ltb b a) (a - b) c p (omega arith)
+sum-within C v false a true b c p h = go (ltb a b)
+  where
+    go : (x : Bool) → AtMost C (cond x (round binary64 true (b - a) c) (round binary64 false (a - b) c))
+    go true = round-within C v true (b - a) c p (omega arith)
+    go false = round-within C v false (a - b) c p (omega arith)
+
+cross : (n d C D : ℕ) → n ≤ C * d → n * D ≤ C * (d * D)
+cross n d C D h = le-trans (mul-le-mul-right D h) (le-of-eq (mul-assoc C d D))
+
+add-within : (A B C : ℕ) (x y : Float) → HasValue (round binary64 false C 1) false C 1 → A + B ≤ C → AtMost A x → AtMost B y → AtMost C (add binary64 x y)
+unfolding add
+add-within A B C nan y v h p q = absurd p
+add-within A B C (inf s) y v h p q = absurd p
+add-within A B C (fin s m e) nan v h p q = absurd q
+add-within A B C (fin s m e) (inf t) v h p q = absurd q
+add-within A B C (fin s m e) (fin t n d) v h p q =
+    let D = down d in
+    let E = down e in
+    let a : m * up e * D ≤ A * (E * D) = cross (m * up e) E A D p in
+    let b : n * up d * E ≤ B * (E * D) = le-trans (cross (n * up d) D B E q) (le-of-eq (ap (λ (z : ℕ). B * z) (mul-comm D E))) in
+    let c : (A + B) * (E * D) ≡ A * (E * D) + B * (E * D) = native.Mathlib.Nat.add-mul A B (E * D) in
+    sum-within C v s (m * up e * D) t (n * up d * E) (E * D) (mul-pos (down-pos e) (down-pos d))
+    (le-trans (omega arith) (mul-le-mul-right (E * D) h))
+
+sign-sum : (a b c : ℕ) → signOf (sum binary64 false a false b c) ≡ false
+unfolding sum
+sign-sum a b c = sign-round false (a + b) c
+
+add-sign : (A B : ℕ) (x y : Float) → Small A x → Small B y → signOf (add binary64 x y) ≡ false
+unfolding add
+add-sign A B nan y p q = absurd (p .1)
+add-sign A B (inf s) y p q = absurd (p .1)
+add-sign A B (fin true m e) y p q = absurd (true≢false (p .0))
+add-sign A B (fin false m e) nan p q = absurd (q .1)
+add-sign A B (fin false m e) (inf t) p q = absurd (q .1)
+add-sign A B (fin false m e) (fin true n d) p q = absurd (true≢false (q .0))
+add-sign A B (fin false m e) (fin false n d) p q = sign-sum (m * up e * down d) (n * up d * down e) (down e * down d)
+
+-- ---- shortening
+choose : (P : Float → Type 0) (b : Bool) (r s : Shortened) → P (r .value) → P (s .value) → P (cond b r s .value)
+choose P true r s p q = p
+choose P false r s p q = q
+
+inner-small : (C : ℕ) (x : Float) → fits binary64 x ≡ true → AtMost C x → Small 10 (inner x)
+inner-small C x t w = times-ten (sub binary64 x (floorOf x)) (part-small C x t w)
+
+T≡ : (b : Bool) → T b → b ≡ true
+T≡ true t = refl
+T≡ false t = absurd t
+
+inner-fits : (x : Float) → fits binary64 (inner x) ≡ true
+inner-fits x = T≡ (fits binary64 (inner x)) (mul-fits binary64 (sub binary64 x (floorOf x)) ten)
+
+below-ten : (k : ℕ) (x eps : Float) → fits binary64 x ≡ true → Small 10 x → Small 16 (shorten k x eps .value)
+unfolding shorten
+below-ten zero x eps t w = (w .0, wider 10 16 x (omega arith) (w .1))
+below-ten (suc k) x eps t w =
+    let f = way-keeps floors 10 x t (w .1) in
+    let g = way-keeps ceils 10 x t (w .1) in
+    let r = below-ten k (inner x) (mul binary64 eps ten) (inner-fits x) (inner-small 10 x t (w .1)) in
+    let d = tenth (shorten k (inner x) (mul binary64 eps ten) .value) r in
+    let z : Small 10 (floorOf x) = (f .0 ∙ w .0, f .1) in
+    choose (Small 16) (le one eps) (plain x) _ (w .0, wider 10 16 x (omega arith) (w .1))
+    (choose (Small 16) (lt (sub binary64 x (floorOf x)) eps) (plain (floorOf x)) _ (f .0 ∙ w .0, wider 10 16 (floorOf x) (omega arith) (f .1))
+    (choose (Small 16) (lt (sub binary64 (ceilOf x) x) eps) (plain (ceilOf x)) (outer x (shorten k (inner x) (mul binary64 eps ten))) (g .0 ∙ w .0, wider 10 16 (ceilOf x) (omega arith) (g .1))
+    (add-sign 10 2 (floorOf x) _ z d, add-within 10 2 16 (floorOf x) _ (small-bound 16 (omega arith)) (omega arith) (f .1) (d .1))))
+
+-- the bound, which is a float
+abbrev pub near : ℕ
+near = 2 ^ 53 + 2
+
+room : HasValue (round binary64 false near 1) false near 1
+unfolding round
+room = (refl, refl)
+
+pub stays-near : (k : ℕ) (x eps : Float) → fits binary64 x ≡ true → AtMost (2 ^ 53) x → AtMost near (shorten k x eps .value)
+unfolding shorten
+stays-near zero x eps t w = wider (2 ^ 53) near x (omega arith) w
+stays-near (suc k) x eps t w =
+    let f = way-keeps floors (2 ^ 53) x t w in
+    let g = way-keeps ceils (2 ^ 53) x t w in
+    let r = below-ten k (inner x) (mul binary64 eps ten) (inner-fits x) (inner-small (2 ^ 53) x t w) in
+    let d = tenth (shorten k (inner x) (mul binary64 eps ten) .value) r in
+    choose (AtMost near) (le one eps) (plain x) _ (wider (2 ^ 53) near x (omega arith) w)
+    (choose (AtMost near) (lt (sub binary64 x (floorOf x)) eps) (plain (floorOf x)) _ (wider (2 ^ 53) near (floorOf x) (omega arith) (f .1))
+    (choose (AtMost near) (lt (sub binary64 (ceilOf x) x) eps) (plain (ceilOf x)) (outer x (shorten k (inner x) (mul binary64 eps ten))) (wider (2 ^ 53) near (ceilOf x) (omega arith) (g .1))
+    (add-within (2 ^ 53) 2 near (floorOf x) _ room (omega arith) (f .1) (d .1))))
+
+-- ---- what `take_apart` asks
+pub at-most-number : (C : ℕ) (x : Float) → AtMost C x → isNan x ≡ false
+unfolding isNan
+at-most-number C nan w = absurd w
+at-most-number C (inf s) w = absurd w
+at-most-number C (fin s m e) w = refl
+
+pub printable-at-most : (x : Float) → printable x ≡ true → AtMost (2 ^ 53) x
+unfolding printable
+printable-at-most nan h = true≢false (sym h)
+printable-at-most (inf s) h = true≢false (sym h)
+printable-at-most (fin s m e) h = let l = ltb-true (m * up e) (2 ^ 53 * down e) h in omega arith
+
+-- ---- the casts to u64 are exact
+quotient-le : (n d C : ℕ) → 0 < d → n ≤ C * d → n / d ≤ C
+quotient-le n d C p h = sized-le floors false n d C p h
+
+pub whole-le : (x : Float) → AtMost near x → wholePart x ≤ near
+unfolding wholeOf
+whole-le nan w = absurd w
+whole-le (inf s) w = absurd w
+whole-le (fin s m e) w = quotient-le (m * up e) (down e) near (down-pos e) w
+
+-- the whole part of a label is that of the shortened number
+pub whole-exact : (x : Float) → AtMost near x → toUnsigned 64 (sizeOf x) ≡ wholePart x
+unfolding toUnsigned wholeOf
+whole-exact nan w = absurd w
+whole-exact (inf s) w = absurd w
+whole-exact (fin s m e) w =
+    let l : m * up e / down e ≤ near = quotient-le (m * up e) (down e) near (down-pos e) w in
+    let r : min (m * up e / down e) (2 ^ 64 - 1) ≡ m * up e / down e = omega arith in
+    r
+
+-- a float that is a whole number is cast to it
+cast-whole : (y : Float) (k : ℕ) → HasValue y false k 1 → k < 2 ^ 64 → toUnsigned 64 y ≡ k
+unfolding toUnsigned
+cast-whole nan k v l = absurd v
+cast-whole (inf s) k v l = absurd v
+cast-whole (fin true m e) k v l = absurd (true≢false (v .0))
+cast-whole (fin false m e) k v l =
+    let q : m * up e / down e ≡ k = ap (λ (n : ℕ). n / down e) (sym (mul-one (m * up e)) ∙ v .1) ∙ sized-whole floors false k (down e) (down-pos e) in
+    let r : min (m * up e / down e) (2 ^ 64 - 1) ≡ k = omega arith in
+    r
+
+round-exact : (y : Float) → fits binary64 y ≡ true → Small (2 ^ 53) y → toUnsigned 64 (roundOf y) ≡ natAbs (wholeOf halves y)
+unfolding wholeOf
+round-exact nan t w = absurd (w .1)
+round-exact (inf s) t w = absurd (w .1)
+round-exact (fin true m e) t w = absurd (true≢false (w .0))
+round-exact (fin false m e) t w =
+    let l : sized halves false (m * up e) (down e) ≤ 2 ^ 53 = sized-le halves false (m * up e) (down e) (2 ^ 53) (down-pos e) (w .1) in
+    cast-whole (roundOf (fin false m e)) (sized halves false (m * up e) (down e)) (integral-value binary64 halves false m e t) (omega arith)
+
+-- a number of at most 1, times a whole number
+times : (N : ℕ) (x y : Float) → N ≤ 2 ^ 53 → Small 1 x → HasValue y false N 1 → Small N (mul binary64 x y)
+unfolding mul
+times N nan y l w v = absurd (w .1)
+times N (inf s) y l w v = absurd (w .1)
+times N (fin true m e) y l w v = absurd (true≢false (w .0))
+times N (fin false m e) nan l w v = absurd v
+times N (fin false m e) (inf s) l w v = absurd v
+times N (fin false m e) (fin true n d) l w v = absurd (true≢false (v .0))
+times N (fin false m e) (fin false n d) l w v =
+    let D = down d in
+    let E = down e in
+    let q : n * up d ≡ N * D = sym (mul-one (n * up d)) ∙ v .1 in
+    let a : m * up e * (n * up d) ≤ 1 * E * (n * up d) = mul-le-mul-right (n * up d) (w .1) in
+    let b : 1 * E * (n * up d) ≡ N * (E * D) = rw (native.Mathlib.Nat.one-mul E, q) (native.Mathlib.Nat.mul-left-comm E N D) in
+    round-small N (small-bound N l) (m * up e * (n * up d)) (E * D) (mul-pos (down-pos e) (down-pos d)) (le-trans a (le-of-eq b))
+
+size-fits : (x : Float) → fits binary64 x ≡ true → fits binary64 (sizeOf x) ≡ true
+unfolding fits
+size-fits nan t = t
+size-fits (inf s) t = t
+size-fits (fin s m e) t = t
+
+size-at-most : (C : ℕ) (x : Float) → AtMost C x → AtMost C (sizeOf x)
+size-at-most C nan w = w
+size-at-most C (inf s) w = w
+size-at-most C (fin s m e) w = w
+
+small-wider : (C D : ℕ) (x : Float) → C ≤ D → Small C x → Small D x
+small-wider C D x l w = (w .0, wider C D x l (w .1))
+
+-- the decimals of a label are its fraction times 10 ^ p, rounded
+pub decimals-exact : (x : Float) (p : ℕ) → p ≤ 10 → fits binary64 x ≡ true → AtMost near x → toUnsigned 64 (roundOf (mul binary64 (sub binary64 (sizeOf x) (floorOf (sizeOf x))) (ofInt binary64 (pos (10 ^ p))))) ≡ decimalsOf x p
+unfolding ofInt
+decimals-exact x p h t w =
+    let N = 10 ^ p in
+    let l : N ≤ 10_000_000_000 = pow-small p h in
+    let m : N ≤ 2 ^ 53 = omega arith in
+    let f = part-small near (sizeOf x) (size-fits x t) (size-at-most near x w) in
+    let y = mul binary64 (sub binary64 (sizeOf x) (floorOf (sizeOf x))) (ofInt binary64 (pos N)) in
+    round-exact y (T≡ (fits binary64 y) (mul-fits binary64 (sub binary64 (sizeOf x) (floorOf (sizeOf x))) (ofInt binary64 (pos N))))
+    (small-wider N (2 ^ 53) y m (times N (sub binary64 (sizeOf x) (floorOf (sizeOf x))) (ofInt binary64 (pos N)) m f (small-bound N m)))

@@ -1,0 +1,129 @@
+-- The definitions, opened case by case. Assumes nothing.
+use mathlib.Core.Path.{_≡_, refl, sym, ap, _∙_}
+use mathlib.Core.Bool.{Bool, true, false, cond, _&&_}
+use Prim.Native.Nat.{ℕ, zero, suc, _+_, _-_, _*_, _/_, _%_, _^_, _≤_, _<_, max}
+use native.Mathlib.Nat.{pow-suc, pow-le-pow-right, zero-lt-suc}
+use native.Mathlib.Numerals.{sub-one}
+use native.Mathlib.Omega.{arith}
+use lib.Dec.{eqb, leb}
+use lib.Ieee.{Float, binary64, sub, mul, lt, le}
+use borrow.Author.Tests.{eq-eqb, ne-eqb, le-leb, lt-leb}
+use Rattle.rounding.specs.Integral.{floorOf, ceilOf}
+use Rattle.decimal.proofs.Digits.{tenth-small}
+use Rattle.float.specs.declared.Shortened.{Shortened}
+use Rattle.float.specs.declared.Parts.{Parts}
+use Rattle.float.specs.Shorten.{shorten, one, ten, plain, inner, outer}
+use Rattle.float.specs.Text.{signOf, wholePart, decimalsOf, fillsUp}
+use Rattle.float.specs.Steps.{trimmed, parts, partsOf, tailLength}
+
+-- ---- powers of ten
+pub pow-back : (h : ℕ) → (h ≡ 0 → ⊥) → 10 ^ (h - 1) * 10 ≡ 10 ^ h
+pow-back zero n = absurd (n refl)
+pow-back (suc j) n = ap (λ (k : ℕ). 10 ^ k * 10) (sub-one (suc j)) ∙ sym (pow-suc 10 j)
+
+pub pow-small : (h : ℕ) → h ≤ 10 → 10 ^ h ≤ 10_000_000_000
+pow-small h l = pow-le-pow-right {n = 10} (zero-lt-suc 9) {i = h} {j = 10} l
+
+-- ---- shortening
+abbrev pub level : Float → Float → Shortened → Shortened
+level n eps r =
+    cond (le one eps) (plain n)
+    (cond (lt (sub binary64 n (floorOf n)) eps) (plain (floorOf n))
+    (cond (lt (sub binary64 (ceilOf n) n) eps) (plain (ceilOf n)) (outer n r)))
+
+pub shorten-none : (k : ℕ) (n eps : Float) → k ≡ 0 → shorten k n eps ≡ plain n
+unfolding shorten
+shorten-none k n eps h = ap (λ (j : ℕ). shorten j n eps) h
+
+pub shorten-some : (k : ℕ) (n eps : Float) → (k ≡ 0 → ⊥) → shorten k n eps ≡ level n eps (shorten (k - 1) (inner n) (mul binary64 eps ten))
+unfolding shorten
+shorten-some zero n eps h = absurd (h refl)
+shorten-some (suc j) n eps h = ap (λ (i : ℕ). level n eps (shorten i (inner n) (mul binary64 eps ten))) (sym (sub-one (suc j)))
+
+few-levels : (k : ℕ) (b : Bool) (r s : Shortened) → r .levels ≤ k → s .levels ≤ k → cond b r s .levels ≤ k
+few-levels k true r s p q = p
+few-levels k false r s p q = q
+
+-- a label has no more decimals of its own than the counter says, which is H
+pub shorten-few : (k : ℕ) (n eps : Float) → shorten k n eps .levels ≤ k
+unfolding shorten
+shorten-few zero n eps = omega arith
+shorten-few (suc k) n eps =
+    let z : 0 ≤ suc k = omega arith in
+    let l : shorten k (inner n) (mul binary64 eps ten) .levels ≤ k = shorten-few k (inner n) (mul binary64 eps ten) in
+    few-levels (suc k) (le one eps) _ _ z
+    (few-levels (suc k) (lt (sub binary64 n (floorOf n)) eps) _ _ z
+    (few-levels (suc k) (lt (sub binary64 (ceilOf n) n) eps) _ _ z (omega arith)))
+
+-- ---- decimals without the zeros at their end
+pub trim-none : (s : Bool) (w p d : ℕ) → p ≡ 0 → trimmed s w p d ≡ parts s w 0 0
+unfolding trimmed
+trim-none s w p d h = ap (λ (j : ℕ). trimmed s w j d) h
+
+pub trim-more : (s : Bool) (w p d : ℕ) → (p ≡ 0 → ⊥) → d % 10 ≡ 0 → trimmed s w p d ≡ trimmed s w (p - 1) (d / 10)
+unfolding trimmed
+trim-more s w zero d h e = absurd (h refl)
+trim-more s w (suc j) d h e = rw (eq-eqb (d % 10) 0 e) (ap (λ (i : ℕ). trimmed s w i (d / 10)) (sym (sub-one (suc j))))
+
+pub trim-last : (s : Bool) (w p d : ℕ) → (p ≡ 0 → ⊥) → (d % 10 ≡ 0 → ⊥) → trimmed s w p d ≡ parts s w p d
+unfolding trimmed
+trim-last s w zero d h e = absurd (h refl)
+trim-last s w (suc j) d h e = rw (ne-eqb (d % 10) 0 e)
+
+-- what holds of parts however they are chosen
+pub parts-choose : (P : Parts → Type 0) (b : Bool) (r s : Parts) → P r → P s → P (cond b r s)
+parts-choose P true r s p q = p
+parts-choose P false r s p q = q
+
+-- at most k places, and a number that has no more digits
+abbrev pub Few : ℕ → Parts → Type 0
+Few k t = (t .places ≤ k) × (t .decimals < 10 ^ t .places)
+
+few-more : (k : ℕ) (t : Parts) → Few k t → Few (suc k) t
+few-more k t f = let l = f .0 in (omega arith, f .1)
+
+pub trim-few : (s : Bool) (w p d : ℕ) → d < 10 ^ p → Few p (trimmed s w p d)
+unfolding trimmed
+trim-few s w zero d h = (omega arith, omega arith)
+trim-few s w (suc p) d h =
+    parts-choose (Few (suc p)) (eqb (d % 10) 0) (trimmed s w p (d / 10)) (parts s w (suc p) d)
+    (few-more p (trimmed s w p (d / 10)) (trim-few s w p (d / 10) (tenth-small d p h))) (omega arith, h)
+
+-- ---- the parts
+pub parts-none : (n : Float) (p : ℕ) → p ≡ 0 → partsOf n p ≡ parts (signOf n) (wholePart n) 0 0
+unfolding partsOf trimmed
+parts-none n p h = ap (partsOf n) h
+
+pub parts-grown : (n : Float) (p : ℕ) → (p ≡ 0 → ⊥) → 10 ^ p ≤ decimalsOf n p → partsOf n p ≡ parts (signOf n) (wholePart n + 1) 0 0
+unfolding partsOf
+parts-grown n zero h l = absurd (h refl)
+parts-grown n (suc p) h l = rw (le-leb (10 ^ suc p) (decimalsOf n (suc p)) l)
+
+pub parts-trim : (n : Float) (p : ℕ) → (p ≡ 0 → ⊥) → decimalsOf n p < 10 ^ p → partsOf n p ≡ trimmed (signOf n) (wholePart n) p (decimalsOf n p)
+unfolding partsOf
+parts-trim n zero h l = absurd (h refl)
+parts-trim n (suc p) h l = rw (lt-leb (10 ^ suc p) (decimalsOf n (suc p)) l)
+
+-- ---- how long the tail is
+and-no : (a b : Bool) → b ≡ false → a && b ≡ false
+and-no true b h = h
+and-no false b h = refl
+
+no-and : (a b : Bool) → a ≡ false → a && b ≡ false
+no-and a b h = ap (λ (x : Bool). x && b) h
+
+pub length-e : (k e : ℕ) → k < e → tailLength k e ≡ 1 + e
+length-e k e h = rw (and-no (eqb k 0) (eqb e 0) (ne-eqb e 0 (λ z. omega arith))) (omega arith)
+
+pub length-0 : (k e : ℕ) → e ≤ k → k ≡ 0 → tailLength k e ≡ 0
+length-0 k e h z = let w : e ≡ 0 = omega arith in rw (eq-eqb k 0 z, eq-eqb e 0 w)
+
+pub length-k : (k e : ℕ) → e ≤ k → (k ≡ 0 → ⊥) → tailLength k e ≡ 1 + k
+length-k k e h z = rw (no-and (eqb k 0) (eqb e 0) (ne-eqb k 0 z)) (omega arith)
+
+choose-le : (b : Bool) (x y k : ℕ) → x ≤ k → y ≤ k → cond b x y ≤ k
+choose-le true x y k p q = p
+choose-le false x y k p q = q
+
+pub tail-le : (k e : ℕ) → k ≤ 10 → e ≤ 20 → tailLength k e ≤ 21
+tail-le k e h l = choose-le (eqb k 0 && eqb e 0) 0 (1 + max k e) 21 (omega arith) (omega arith)

@@ -1,0 +1,9 @@
+-- What belongs to no one function. Assumes nothing.
+pub mod Cases
+pub mod Decimals
+pub mod Lists
+pub mod Signs
+pub mod Bounds
+pub mod Enough
+pub mod Printed
+pub mod Worked

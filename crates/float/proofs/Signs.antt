@@ -1,0 +1,117 @@
+-- Signs and sizes from the tests of the code. Assumes nothing.
+use mathlib.Core.Path.{_≡_, refl, sym, ap, _∙_}
+use mathlib.Core.Bool.{Bool, true, false, _&&_, true≢false}
+use Prim.Native.Nat.{ℕ, zero, suc, _+_, _*_, _^_, _≤_, _<_}
+use native.Mathlib.Omega.{arith}
+use lib.Dec.{eqb}
+use lib.IntN.{ℤ, pos}
+use lib.Ieee.{Float, nan, inf, fin, up, down, binary64, lt, eq, neg, div, isNan}
+use lib.Ieee.Fits.{up-pos, down-pos}
+use borrow.Author.Tests.{ltb-true, ltb-false, lt-ltb, le-ltb, le-leb, lt-leb, eqb-true, eq-eqb}
+use Rattle.float.specs.Text.{signOf, sizeOf}
+use Rattle.float.specs.Calls.{printable}
+
+abbrev zeroF : Float
+zeroF = fin false 0 (pos 0)
+
+abbrev oneF : Float
+oneF = fin false 1 (pos 0)
+
+-- 2 ^ 53 and its negation
+abbrev high : Float
+high = fin false 1 (pos 53)
+
+abbrev low : Float
+low = fin true 1 (pos 53)
+
+-- ---- signs
+pub sign-below : (n : Float) → lt n zeroF ≡ true → true ≡ signOf n
+unfolding lt
+sign-below nan h = sym h
+sign-below (inf true) h = refl
+sign-below (inf false) h = sym h
+sign-below (fin true m e) h = refl
+sign-below (fin false m e) h = let l : m * up e * 1 < 0 * down e = ltb-true (m * up e * 1) (0 * down e) h in absurd (omega arith)
+
+and-first : (a b : Bool) → a && b ≡ true → a ≡ true
+and-first true b h = refl
+and-first false b h = h
+
+no-factor : (m u : ℕ) → 0 < u → m * u ≡ 0 → m ≡ 0
+no-factor zero u p h = refl
+no-factor (suc m) u p h = absurd (omega (arith, native.Mathlib.Nat.mul-pos (native.Mathlib.Nat.zero-lt-suc m) p))
+
+one-over : (s : Bool) (m : ℕ) (e : ℤ) → m ≡ 0 → lt (div binary64 oneF (fin s m e)) zeroF ≡ s
+unfolding lt div
+one-over true m e h = rw (eq-eqb m 0 h)
+one-over false m e h = rw (eq-eqb m 0 h)
+
+pub sign-zero : (n : Float) → isNan n ≡ false → eq n zeroF ≡ true → lt (div binary64 oneF n) zeroF ≡ signOf n
+unfolding isNan eq
+sign-zero nan g h = absurd (true≢false g)
+sign-zero (inf s) g h = absurd (true≢false (sym h))
+sign-zero (fin s m e) g h =
+    let z : m * up e * 1 ≡ 0 * down e = eqb-true (m * up e * 1) (0 * down e) (and-first (eqb (m * up e * 1) (0 * down e)) _ h) in
+    one-over s m e (no-factor m (up e) (up-pos e) (omega arith))
+
+pub sign-above : (n : Float) → isNan n ≡ false → lt n zeroF ≡ false → eq n zeroF ≡ false → false ≡ signOf n
+unfolding isNan lt eq
+sign-above nan g h l = absurd (true≢false g)
+sign-above (inf true) g h l = absurd (true≢false h)
+sign-above (inf false) g h l = refl
+sign-above (fin false m e) g h l = refl
+sign-above (fin true m e) g h l =
+    let z : m * up e * 1 + 0 * down e ≤ 0 = ltb-false 0 (m * up e * 1 + 0 * down e) h in
+    let a : m * up e * 1 ≡ 0 * down e = omega arith in
+    let b : m * up e * 1 ≡ 0 = omega arith in
+    sym l ∙ rw (eq-eqb (m * up e * 1) (0 * down e) a, eq-eqb (m * up e * 1) 0 b)
+
+pub abs-neg : (n : Float) → signOf n ≡ true → neg n ≡ sizeOf n
+unfolding neg
+abs-neg nan h = refl
+abs-neg (inf true) h = refl
+abs-neg (inf false) h = absurd (true≢false (sym h))
+abs-neg (fin true m e) h = refl
+abs-neg (fin false m e) h = absurd (true≢false (sym h))
+
+pub abs-pos : (n : Float) → signOf n ≡ false → n ≡ sizeOf n
+abs-pos nan h = refl
+abs-pos (inf true) h = absurd (true≢false h)
+abs-pos (inf false) h = refl
+abs-pos (fin true m e) h = absurd (true≢false h)
+abs-pos (fin false m e) h = refl
+
+-- ---- the size is below 2 ^ 53
+pub admit-yes : (n : Float) → lt n high ≡ true → lt low n ≡ true → true ≡ printable n
+unfolding lt printable
+admit-yes nan h l = sym h
+admit-yes (inf true) h l = sym l
+admit-yes (inf false) h l = sym h
+admit-yes (fin true m e) h l =
+    let q : m * up e * 1 < 9007199254740992 * down e = ltb-true (m * up e * 1) (9007199254740992 * down e) l in
+    sym (lt-ltb (m * up e) (2 ^ 53 * down e) (omega arith))
+admit-yes (fin false m e) h l =
+    let q : m * up e * 1 < 9007199254740992 * down e = ltb-true (m * up e * 1) (9007199254740992 * down e) h in
+    sym (lt-ltb (m * up e) (2 ^ 53 * down e) (omega arith))
+
+pub admit-low : (n : Float) → lt low n ≡ false → false ≡ printable n
+unfolding lt printable
+admit-low nan l = refl
+admit-low (inf s) l = refl
+admit-low (fin true m e) l =
+    let q : 9007199254740992 * down e ≤ m * up e * 1 = ltb-false (m * up e * 1) (9007199254740992 * down e) l in
+    sym (le-ltb (m * up e) (2 ^ 53 * down e) (omega arith))
+admit-low (fin false m e) l =
+    let q : 9007199254740992 * down e + m * up e * 1 ≤ 0 = ltb-false 0 (9007199254740992 * down e + m * up e * 1) l in
+    absurd (omega (arith, down-pos e))
+
+pub admit-high : (n : Float) → lt n high ≡ false → false ≡ printable n
+unfolding lt printable
+admit-high nan l = refl
+admit-high (inf s) l = refl
+admit-high (fin false m e) l =
+    let q : 9007199254740992 * down e ≤ m * up e * 1 = ltb-false (m * up e * 1) (9007199254740992 * down e) l in
+    sym (le-ltb (m * up e) (2 ^ 53 * down e) (omega arith))
+admit-high (fin true m e) l =
+    let q : m * up e * 1 + 9007199254740992 * down e ≤ 0 = ltb-false 0 (m * up e * 1 + 9007199254740992 * down e) l in
+    absurd (omega (arith, down-pos e))

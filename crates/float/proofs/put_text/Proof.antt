@@ -1,0 +1,70 @@
+-- `float::put_text` meets its contract. Assumes nothing.
+use mathlib.Core.Path.{_≡_, ap, _∙_}
+use Prim.Native.Nat.{ℕ, _-_}
+use native.Mathlib.Omega.{arith}
+use lib.ListN.{length, take, drop, length-drop}
+use lib.Seq.{take-all}
+use Rattle.float.proofs.Lists.{copy-stored}
+use borrow.Author.Needs.{needs}
+use Rattle.float.proofs.put_text.Statement.{statement}
+use Rattle.float.proofs.put_text.Tie as tie
+use Rattle.float.proofs.put_text.Reads as reads
+use Rattle.float.proofs.put_text.Lts as lts
+use Rattle.bytes.proofs.copy.Reads as copy-reads
+
+-- src/lib.rt:173:17
+sub-copy : tie.Need-sub-copy
+sub-copy c = search needs
+
+-- src/lib.rt:173:17
+part-copy-start : tie.Need-part-copy-start
+part-copy-start c = search needs
+
+-- src/lib.rt:173:17
+part-copy-end : tie.Need-part-copy-end
+part-copy-end c = search needs
+
+-- src/lib.rt:173:35
+sub-copy-2 : tie.Need-sub-copy-2
+sub-copy-2 c = search needs
+
+-- src/lib.rt:173:35
+part-copy-start-2 : tie.Need-part-copy-start-2
+part-copy-start-2 c = search needs
+
+-- src/lib.rt:173:35
+part-copy-end-2 : tie.Need-part-copy-end-2
+part-copy-end-2 c = search needs
+
+-- src/lib.rt:173:5
+copy-requires : tie.Need-copy-requires
+copy-requires c κs = search needs
+
+-- src/lib.rt:167:1
+same-length : tie.Need-same-length
+same-length c = search needs
+
+-- src/lib.rt:167:1
+returns : tie.Need-returns
+returns c =
+    let k = c .before .before in
+    let s = k .before .before .before .before .before .before in
+    let t = s .args .t in
+    let r = drop (t .blanks) (t .bytes) in
+    let n : length r ≡ 21 - t .blanks = length-drop (t .blanks) (t .bytes) ∙ ap (λ (m : ℕ). m - t .blanks) (s .pre .1 .0) in
+    let q : take (21 - t .blanks) r ≡ r = take-all (21 - t .blanks) r (omega arith) in
+    copy-stored (s .args .out .now) r (take (21 - t .blanks) r) (k .copy .last .1 .0) (s .args .at) q (omega (arith, s .pre .1 .1)) (k .copy .ensures .1)
+
+pub put-text-spec : {M : Type 1} → statement M
+put-text-spec =
+    tie.close
+    (tie.spec
+    sub-copy
+    part-copy-start
+    part-copy-end
+    sub-copy-2
+    part-copy-start-2
+    part-copy-end-2
+    copy-requires
+    same-length
+    returns)

@@ -1,0 +1,6 @@
+-- The crate's specification; `Steps` is no part of the rule. Assumes nothing.
+pub mod Shorten
+pub mod Text
+pub mod Calls
+pub mod Steps
+pub mod Worked

@@ -1,0 +1,49 @@
+-- What private functions promise on the way to `labelPrint`, and what they ask: no part of the rule. Assumes nothing.
+use mathlib.Core.Bool.{Bool, cond, _&&_}
+use mathlib.Core.List.{List, [], _∷_, _++_}
+use Prim.Native.Nat.{ℕ, zero, suc, _+_, _/_, _%_, _*_, _≤_, max}
+use lib.Dec.{ltb, eqb}
+use lib.ListN.{length}
+use lib.Ieee.{Float, nan, inf, fin, up, down}
+use Rattle.ranged1d.specs.Answer.{Answer, given, _when_, lowest, written}
+use Rattle.decimal.specs.Print.{longNatural}
+use Rattle.float.specs.declared.Parts.{Parts}
+use Rattle.float.specs.Text.{signOf, wholePart, decimalsOf, fillsUp, padded, filledUp, pointed, front}
+
+-- x is finite and at most C in size
+abbrev pub AtMost : ℕ → Float → Type 0
+AtMost C nan = ⊥
+AtMost C (inf s) = ⊥
+AtMost C (fin s m e) = m * up e ≤ C * down e
+
+abbrev pub parts : Bool → ℕ → ℕ → ℕ → Parts
+parts s w p d = record { minus = s; whole = w; places = p; decimals = d }
+
+-- p decimals, which are the digits of d, up to the last that is no zero
+unfoldable pub trimmed : Bool → ℕ → ℕ → ℕ → Parts
+trimmed s w zero d = parts s w 0 0
+trimmed s w (suc p) d = cond (eqb (d % 10) 0) (trimmed s w p (d / 10)) (parts s w (suc p) d)
+
+unfoldable pub partsOf : Float → ℕ → Parts
+partsOf x p =
+    cond (fillsUp x p) (parts (signOf x) (wholePart x + 1) 0 0)
+    (trimmed (signOf x) (wholePart x) p (decimalsOf x p))
+
+-- k decimals, which are the digits of d
+abbrev pub placed : ℕ → ℕ → List ℕ
+placed zero d = []
+placed (suc k) d = padded (suc k) (longNatural d)
+
+-- the point, k decimals, and zeros to e of them
+abbrev pub tailOf : ℕ → ℕ → ℕ → List ℕ
+tailOf k d e = pointed (filledUp e (placed k d))
+
+abbrev pub tailLength : ℕ → ℕ → ℕ
+tailLength k e = cond (eqb k 0 && eqb e 0) 0 (1 + max k e)
+
+unfoldable pub bytesOf : Parts → ℕ → List ℕ
+bytesOf t e = front (t .minus) (t .whole) ++ tailOf (t .places) (t .decimals) e
+
+-- a text written to lent bytes, if they are enough
+abbrev pub textWritten : List ℕ → List ℕ → Answer ℕ × List ℕ
+textWritten t old = written (lowest (13 when ltb (length old) (length t) ∷ []) (given (length t))) t old

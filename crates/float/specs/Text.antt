@@ -1,0 +1,98 @@
+-- The text of a shortened number: 01 "Whole reading, segments, real labels", its paragraph on real labels, after `float_to_string` of plotters. Numbers
+-- are taken to whole numbers by floor and by round, without a bound, so the rule has no cast that could cut. Assumes nothing.
+use mathlib.Core.Bool.{Bool, false, cond}
+use mathlib.Core.List.{List, [], _∷_, _++_}
+use Prim.Native.Nat.{ℕ, zero, suc, _+_, _-_, _^_}
+use lib.Dec.{leb, eqb}
+use lib.IntN.{pos, natAbs}
+use lib.ListN.{length, replicate}
+use lib.Ieee.{Float, nan, inf, fin, binary64, ofInt, sub, mul}
+use Rattle.rounding.specs.Integral.{floors, halves, floorOf}
+use Rattle.rounding.specs.Within.{wholeOf}
+use Rattle.decimal.specs.Print.{digit, minus, longNatural}
+use Rattle.float.specs.declared.Shortened.{Shortened}
+use Rattle.float.specs.Shorten.{shorten, tolerance}
+
+-- ---- a number taken apart
+-- whether it has a minus sign; a zero keeps its own, so that negative zero prints one
+abbrev pub signOf : Float → Bool
+signOf nan = false
+signOf (inf s) = s
+signOf (fin s m e) = s
+
+-- the number without its sign
+abbrev pub sizeOf : Float → Float
+sizeOf nan = nan
+sizeOf (inf s) = inf false
+sizeOf (fin s m e) = fin false m e
+
+-- the whole part: the greatest whole number that is at most the size
+abbrev pub wholePart : Float → ℕ
+wholePart x = natAbs (wholeOf floors (sizeOf x))
+
+-- the decimals as one number: what the size has above its floor, times 10 to the power p, to the nearest whole number, a half going up
+abbrev pub decimalsOf : Float → ℕ → ℕ
+decimalsOf x p = natAbs (wholeOf halves (mul binary64 (sub binary64 (sizeOf x) (floorOf (sizeOf x))) (ofInt binary64 (pos (10 ^ p)))))
+
+-- whether the rounded decimals fill up to a one: only where there are decimals
+abbrev pub fillsUp : Float → ℕ → Bool
+fillsUp x zero = false
+fillsUp x (suc p) = leb (10 ^ suc p) (decimalsOf x (suc p))
+
+-- ---- its bytes
+abbrev pub point : ℕ
+point = 46
+
+abbrev pub nought : ℕ
+nought = digit 0
+
+-- a text with zeros in front, to p bytes
+abbrev pub padded : ℕ → List ℕ → List ℕ
+padded p t = replicate (p - length t) nought ++ t
+
+-- a byte in front of a text, unless it is a zero with nothing behind it
+abbrev pub ahead : ℕ → List ℕ → List ℕ
+ahead c [] = cond (eqb c nought) [] (c ∷ [])
+ahead c (d ∷ t) = c ∷ d ∷ t
+
+-- a text without the zeros at its end
+unfoldable pub withoutZeros : List ℕ → List ℕ
+withoutZeros [] = []
+withoutZeros (c ∷ t) = ahead c (withoutZeros t)
+
+-- The decimals of p levels, which are the digits of d: zeros in front of the digits, one byte to a level, and none at the end. Without levels there are
+-- no decimals, whatever d is: the number is cut.
+unfoldable pub decimals : ℕ → ℕ → List ℕ
+decimals zero d = []
+decimals (suc p) d = withoutZeros (padded (suc p) (longNatural d))
+
+-- decimals with zeros behind them, to e bytes
+abbrev pub filledUp : ℕ → List ℕ → List ℕ
+filledUp e t = t ++ replicate (e - length t) nought
+
+-- the point in front of the decimals, where there are any
+abbrev pub pointed : List ℕ → List ℕ
+pointed [] = []
+pointed (c ∷ t) = point ∷ c ∷ t
+
+-- the whole part with its sign
+abbrev pub front : Bool → ℕ → List ℕ
+front s w = cond s (minus ∷ longNatural w) (longNatural w)
+
+-- sign, whole part, point, decimals, and zeros to e decimals
+abbrev pub composed : Bool → ℕ → List ℕ → ℕ → List ℕ
+composed s w t e = front s w ++ pointed (filledUp e t)
+
+-- ---- labels
+-- x with p levels: if its decimals fill up to a one, the whole part grows by one and no decimals follow
+unfoldable pub shown : Float → ℕ → ℕ → List ℕ
+shown x p e =
+    cond (fillsUp x p) (composed (signOf x) (wholePart x + 1) [] e)
+    (composed (signOf x) (wholePart x) (decimals p (decimalsOf x p)) e)
+
+abbrev pub shownOf : Shortened → ℕ → List ℕ
+shownOf r e = shown (r .value) (r .levels) e
+
+-- the label of n: shortened to at most h decimals, and filled with zeros to at least e
+unfoldable pub labelOf : Float → ℕ → ℕ → List ℕ
+labelOf n h e = shownOf (shorten h n (tolerance h)) e

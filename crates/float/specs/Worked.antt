@@ -1,0 +1,53 @@
+-- Labels worked by hand, as one table: 01's row on labels of its drafting table (H 5, E 1), and labels that surprise. A number is given by its bits.
+-- `worked` of proofs/Worked checks every row by computing the rule. Assumes nothing.
+use mathlib.Core.Bool.{Bool, true, _&&_}
+use mathlib.Core.List.{List, [], _∷_}
+use Prim.Native.Nat.{ℕ}
+use lib.Ieee.{binary64, ofBits}
+use Rattle.decimal.specs.Read.{sameBytes}
+use Rattle.float.specs.Text.{labelOf}
+
+pub record Row : Type 0 where
+  pub bits : ℕ
+  pub h : ℕ
+  pub e : ℕ
+  pub text : List ℕ
+
+abbrev row : ℕ → ℕ → ℕ → List ℕ → Row
+row b h e t = record { bits = b; h = h; e = e; text = t }
+
+abbrev pub holds : Row → Bool
+holds r = sameBytes (labelOf (ofBits binary64 (r .bits)) (r .h) (r .e)) (r .text)
+
+abbrev pub rows : List Row
+rows =
+    -- 3.0 with H 5, E 1: 3.0
+    row 0x4008_0000_0000_0000 5 1 (51 ∷ 46 ∷ 48 ∷ [])
+    -- 1.25 with H 5, E 1: 1.25
+    ∷ row 0x3FF4_0000_0000_0000 5 1 (49 ∷ 46 ∷ 50 ∷ 53 ∷ [])
+    -- -0.000001 with H 5, E 1: -0.0
+    ∷ row 0xBEB0_C6F7_A0B5_ED8D 5 1 (45 ∷ 48 ∷ 46 ∷ 48 ∷ [])
+    -- 0.015 with H 2, E 0: 0.02
+    ∷ row 0x3F8E_B851_EB85_1EB8 2 0 (48 ∷ 46 ∷ 48 ∷ 50 ∷ [])
+    -- 2.9 with H 0, E 0: 2
+    ∷ row 0x4007_3333_3333_3333 0 0 (50 ∷ [])
+    -- -0.5 with H 0, E 1: -0.0
+    ∷ row 0xBFE0_0000_0000_0000 0 1 (45 ∷ 48 ∷ 46 ∷ 48 ∷ [])
+    -- 0.9 with H 1, E 0: 1
+    ∷ row 0x3FEC_CCCC_CCCC_CCCD 1 0 (49 ∷ [])
+    -- 1.005 with H 2, E 0: 1
+    ∷ row 0x3FF0_147A_E147_AE14 2 0 (49 ∷ [])
+    -- 0.25 with H 1, E 0: 0.3
+    ∷ row 0x3FD0_0000_0000_0000 1 0 (48 ∷ 46 ∷ 51 ∷ [])
+    -- -0.00001 with H 5, E 1: 0.0
+    ∷ row 0xBEE4_F8B5_88E3_68F1 5 1 (48 ∷ 46 ∷ 48 ∷ [])
+    -- 0.00001 with H 5, E 1: 0.00001
+    ∷ row 0x3EE4_F8B5_88E3_68F1 5 1 (48 ∷ 46 ∷ 48 ∷ 48 ∷ 48 ∷ 48 ∷ 49 ∷ [])
+    -- -0.0 with H 5, E 0: -0
+    ∷ row 0x8000_0000_0000_0000 5 0 (45 ∷ 48 ∷ [])
+    ∷ []
+
+-- every row of a table holds
+abbrev pub every : List Row → Bool
+every [] = true
+every (r ∷ rs) = holds r && every rs

@@ -1,0 +1,286 @@
+// Labels of real numbers, after data/float.rs without scientific notation, into lent bytes.
+use decimal::LongText;
+use ranged1d::Refusal;
+ghost use mathlib.Core.Path.{_≡_};
+ghost use mathlib.Core.Bool.{false};
+ghost use Prim.Native.Nat.{ℕ, _+_, _-_, _^_, _≤_, _<_};
+ghost use lib.ListN.{length, drop, replicate};
+ghost use lib.Seq.{sets};
+ghost use lib.Ieee as Ieee;
+ghost use Rattle.float.specs.Shorten.{shorten};
+ghost use Rattle.float.specs.Text.{signOf, sizeOf};
+ghost use Rattle.float.specs.Calls.{tellLabel, printable, labelPrint};
+ghost use Rattle.float.specs.Steps.{AtMost, trimmed, partsOf, placed, tailOf, tailLength, bytesOf, textWritten};
+
+// How a label is written: with at least min_decimal decimals, of which at most max_decimal say anything of the number.
+pub struct FloatPrettyPrinter {
+    pub min_decimal: u32,
+    pub max_decimal: u32,
+}
+
+// How many bytes were written, or why nothing was.
+pub enum Label {
+    Written(usize),
+    Refused(Refusal),
+}
+
+// A shortened number, and how many decimals it has at most.
+struct Shortened {
+    value: f64,
+    levels: u32,
+}
+
+// What is written: a minus sign or none, the whole part, and `places` decimals, which are the digits of `decimals`.
+struct Parts {
+    minus: bool,
+    whole: u64,
+    places: u32,
+    decimals: u64,
+}
+
+// 10 to the power h.
+fn power(h: u32) -> u64
+    requires { ⌜ h ≤ 10 ⌝ }
+    ensures { λ r. ⌜ r ≡ 10 ^ h ⌝ }
+{
+    if h == 0 {
+        return 1;
+    }
+    power(h - 1) * 10
+}
+
+// n by as few decimals as bring it nearer than eps, and no more than `left`.
+fn find_minimal_repr(n: f64, eps: f64, left: u32) -> Shortened
+    ensures { λ r. ⌜ r ≡ shorten left n eps ⌝ }
+{
+    if left == 0 {
+        return Shortened {
+            value: n,
+            levels: 0,
+        };
+    }
+    if eps >= 1.0 {
+        return Shortened {
+            value: n,
+            levels: 0,
+        };
+    }
+    let down = rounding::floor(n);
+    if n - down < eps {
+        return Shortened {
+            value: down,
+            levels: 0,
+        };
+    }
+    let up = rounding::ceil(n);
+    if up - n < eps {
+        return Shortened {
+            value: up,
+            levels: 0,
+        };
+    }
+    let r = find_minimal_repr((n - down) * 10.0, eps * 10.0, left - 1);
+    Shortened {
+        value: down + r.value / 10.0,
+        levels: r.levels + 1,
+    }
+}
+
+// Whether n has a minus sign, a zero its own.
+fn negative(n: f64) -> bool
+    requires { ⌜ Ieee.isNan n ≡ false ⌝ }
+    ensures { λ r. ⌜ r ≡ signOf n ⌝ }
+{
+    if n < 0.0 {
+        return true;
+    }
+    if n == 0.0 {
+        return 1.0 / n < 0.0;
+    }
+    false
+}
+
+fn absolute(n: f64) -> f64
+    requires { ⌜ Ieee.isNan n ≡ false ⌝ }
+    ensures { λ r. ⌜ r ≡ sizeOf n ⌝ }
+{
+    if negative(n) {
+        return -n;
+    }
+    n
+}
+
+// Without the zeros at the end of the decimals.
+fn trim(minus: bool, whole: u64, p: u32, d: u64) -> Parts
+    ensures { λ r. ⌜ r ≡ trimmed minus whole p d ⌝ }
+{
+    if p == 0 {
+        return Parts {
+            minus,
+            whole,
+            places: 0,
+            decimals: 0,
+        };
+    }
+    if d % 10 == 0 {
+        return trim(minus, whole, p - 1, d / 10);
+    }
+    Parts {
+        minus,
+        whole,
+        places: p,
+        decimals: d,
+    }
+}
+
+// n taken apart, with at most p decimals. Both casts are exact: neither number is near the end of a u64.
+fn take_apart(n: f64, p: u32) -> Parts
+    requires { ⌜ p ≤ 10 ⌝ ∗ ⌜ AtMost (2 ^ 53 + 2) n ⌝ }
+    ensures { λ r. ⌜ r ≡ partsOf n p ⌝ }
+{
+    let minus = negative(n);
+    let a = absolute(n);
+    let whole = rounding::to_u64(a);
+    if p == 0 {
+        return Parts {
+            minus,
+            whole,
+            places: 0,
+            decimals: 0,
+        };
+    }
+    let t = power(p);
+    let d = rounding::to_u64(rounding::round((a - rounding::floor(a)) * (t as f64)));
+    if t <= d {
+        return Parts {
+            minus,
+            whole: whole + 1,
+            places: 0,
+            decimals: 0,
+        };
+    }
+    trim(minus, whole, p, d)
+}
+
+// Writes a text from `at` on, without its blanks.
+fn put_text(out: &mut [u8], at: usize, t: LongText)
+    requires { ⌜ t .blanks ≤ 21 ⌝ ∗ ⌜ length (t .bytes) ≡ 21 ⌝ ∗ ⌜ at + (21 - t .blanks) ≤ length (now out) ⌝ }
+    ensures { λ _. ⌜ now (out .exit) ≡ sets (now (out .entry)) at (drop (t .blanks) (t .bytes)) ⌝ }
+{
+    let bytes = t.bytes;
+    let blanks = t.blanks;
+    bytes::copy(&bytes[blanks..], &mut out[at..]);
+}
+
+// Writes n zeros from `at` on.
+fn put_zeros(out: &mut [u8], at: usize, n: usize)
+    requires { ⌜ at + n ≤ length (now out) ⌝ }
+    ensures { λ _. ⌜ now (out .exit) ≡ sets (now (out .entry)) at (replicate n 48) ⌝ }
+{
+    let mut k = 0;
+    while k < n {
+        out[at + k] = 48;
+        k += 1;
+    }
+}
+
+// Writes k decimals, which are the digits of d, from `at` on.
+fn put_decimals(out: &mut [u8], at: usize, k: usize, d: u64)
+    requires { ⌜ k ≤ 10 ⌝ ∗ ⌜ d < 10 ^ k ⌝ ∗ ⌜ at + k ≤ length (now out) ⌝ }
+    ensures { λ _. ⌜ now (out .exit) ≡ sets (now (out .entry)) at (placed k d) ⌝ }
+{
+    if k == 0 {
+        return;
+    }
+    let t = decimal::long_label(false, d);
+    let lead = k - (21 - t.blanks);
+    put_zeros(out, at, lead);
+    put_text(out, at + lead, t);
+}
+
+// Writes the point and k decimals, with zeros up to e of them; or nothing where both are 0.
+fn put_tail(out: &mut [u8], at: usize, k: usize, d: u64, e: usize)
+    requires { ⌜ k ≤ 10 ⌝ ∗ ⌜ d < 10 ^ k ⌝ ∗ ⌜ e ≤ 20 ⌝ ∗ ⌜ at + tailLength k e ≤ length (now out) ⌝ }
+    ensures { λ _. ⌜ now (out .exit) ≡ sets (now (out .entry)) at (tailOf k d e) ⌝ }
+{
+    if k < e {
+        out[at] = 46;
+        put_decimals(out, at + 1, k, d);
+        put_zeros(out, at + 1 + k, e - k);
+        return;
+    }
+    if k == 0 {
+        return;
+    }
+    out[at] = 46;
+    put_decimals(out, at + 1, k, d);
+}
+
+// How many bytes `put_tail` writes.
+fn tail_length(k: usize, e: usize) -> usize
+    requires { ⌜ k ≤ 10 ⌝ ∗ ⌜ e ≤ 20 ⌝ }
+    ensures { λ r. ⌜ r ≡ tailLength k e ⌝ }
+{
+    if k < e {
+        return 1 + e;
+    }
+    if k == 0 {
+        return 0;
+    }
+    1 + k
+}
+
+// Writes the parts with at least e decimals, if out is long enough.
+fn float_to_string(t: Parts, e: u32, out: &mut [u8]) -> Label
+    requires { ⌜ t .places ≤ 10 ⌝ ∗ ⌜ t .decimals < 10 ^ t .places ⌝ ∗ ⌜ e ≤ 20 ⌝ }
+    ensures { λ r. ⌜ (tellLabel r, now (out .exit)) ≡ textWritten (bytesOf t e) (now (out .entry)) ⌝ }
+{
+    let k = t.places as usize;
+    let d = t.decimals;
+    let m = e as usize;
+    let text = decimal::long_label(t.minus, t.whole);
+    let at = 21 - text.blanks;
+    let need = at + tail_length(k, m);
+    if out.len() < need {
+        return Label::Refused(Refusal::OutTooShort);
+    }
+    put_text(out, 0, text);
+    put_tail(out, at, k, d, m);
+    Label::Written(need)
+}
+
+// Whether n has a label: a NaN compares with nothing.
+fn has_label(n: f64) -> bool
+    ensures { λ r. ⌜ r ≡ printable n ⌝ }
+{
+    if n < 9007199254740992.0 {
+        if -9007199254740992.0 < n {
+            return true;
+        }
+    }
+    false
+}
+
+impl FloatPrettyPrinter {
+    // The label of n, written to the start of out: 38 bytes are always enough.
+    pub fn print(self, n: f64, out: &mut [u8]) -> Label
+        ensures { λ r. ⌜ (tellLabel r, now (out .exit)) ≡ labelPrint n (self .«max_decimal») (self .«min_decimal») (now (out .entry)) ⌝ }
+    {
+        let h = self.max_decimal;
+        let e = self.min_decimal;
+        if !has_label(n) {
+            return Label::Refused(Refusal::NotPrintable);
+        }
+        if 10 < h {
+            return Label::Refused(Refusal::TooManyDecimals);
+        }
+        if 20 < e {
+            return Label::Refused(Refusal::TooManyDecimals);
+        }
+        let eps = 1.0 / (power(h) as f64);
+        let r = find_minimal_repr(n, eps, h);
+        let value = r.value;
+        let levels = r.levels;
+        float_to_string(take_apart(value, levels), e, out)
+    }
+}
