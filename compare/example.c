@@ -87,9 +87,20 @@ static int print_stepped_real(double a, double b, double d, double v)
     return 0;
 }
 
+static int print_label(double n, uint32_t max_decimal, uint32_t min_decimal)
+{
+    uint8_t out[38];
+    size_t written;
+    if (culv_label(n, max_decimal, min_decimal, out, sizeof out, &written) != 0)
+        return 1;
+    printf("%.*s\n", (int)written, (const char *)out);
+    return 0;
+}
+
 int main(void)
 {
     return print_marks(3, 15, 4) | print_marks(-15, -3, 4)
         | print_whole(-15, -3, -10) | print_real(0, 49, 1)
-        | print_stepped(8, -1, -4, 2) | print_stepped_real(0, 1, 0.25, 0.4);
+        | print_stepped(8, -1, -4, 2) | print_stepped_real(0, 1, 0.25, 0.4)
+        | print_label(-0.000001, 5, 1) | print_label(1.25, 5, 0);
 }

@@ -496,6 +496,34 @@ int32_t culv_ruler_pair(const uint8_t *left, size_t left_len,
                         const uint8_t *right, size_t right_len, int32_t value,
                         uint32_t *which, size_t *start, size_t *part_len);
 
+/* ---- Labels of real numbers ---- */
+
+/*
+ * The label of n with at most max_decimal and at least min_decimal decimals,
+ * written to out, which has len bytes. 38 bytes are always enough. No byte of
+ * value 0 is put behind the label.
+ *
+ * n is shortened with a tolerance, at first 1 over ten to the power
+ * max_decimal. Where that has reached 1, n stays as it is; else if the floor
+ * of n, or else its ceiling, is nearer than the tolerance, it takes the place
+ * of n; else ten times the fraction is shortened in the same way, with ten
+ * times the tolerance, and a tenth of what that gives is added to the floor:
+ * one decimal. Every operation is rounded as a double. Of what was found, the
+ * whole part and the decimals are printed, the decimals rounded, a half away
+ * from zero, without the zeros at their end, and filled up with zeros. Without
+ * decimals the number is cut toward zero: 2.9 with max_decimal 0 is "2".
+ * Should the rounded decimals fill up to a one, the whole part grows by one
+ * and no decimals follow. A negative zero is "-0".
+ *
+ * 0: *written is the number of bytes of the label.
+ * Refused, with nothing written:
+ *   11: n is NaN, infinite, or of size 2^53 or more;
+ *   12: max_decimal is above 10, or min_decimal above 20;
+ *   13: len is less than the number of bytes of the label.
+ */
+int32_t culv_label(double n, uint32_t max_decimal, uint32_t min_decimal,
+                   uint8_t *out, size_t len, size_t *written);
+
 #ifdef __cplusplus
 }
 #endif

@@ -20,6 +20,7 @@
 //! ```
 
 pub mod counts;
+pub mod label;
 mod limit;
 pub mod linspace;
 pub mod numeric;
@@ -29,6 +30,7 @@ mod refusal;
 pub mod ruler;
 pub mod search;
 
+pub use label::FloatPrettyPrinter;
 pub use limit::Limit;
 pub use linspace::{Linspacef64, Linspacei32};
 pub use numeric::{KeyPoints, RangedCoordf64, RangedCoordi32, RangedCoordusize};

@@ -7,12 +7,15 @@ ghost use Rattle.real.specs.Reading.{tellReading, realReading};
 ghost use Rattle.linspace.specs.List.{whole, real};
 ghost use Rattle.linspace.specs.Calls.{tellListed, stepValues, stepSize, stepFromIndex, stepIndexOf, stepPlace, stepReading, stepKeyPoints};
 ghost use Rattle.culvraod.specs.Steps.{listC};
+ghost use Rattle.float.specs.Calls.{tellLabel, labelPrint};
 ghost use Rattle.search.specs.Lists.{wholeSearch, realSearch};
 ghost use Rattle.culvraod.specs.Search.{methodOf, byMethod};
 ghost use Rattle.ruler.specs.Rule.{rulerWrite, rulerRead, recordIn, labelIn, sideOf};
 ghost use Rattle.culvraod.specs.Ruler.{rulerOf, readC, partC, pairC};
 ghost use Rattle.culvraod.specs.Boundary.{single, limitOf};
 ghost use Rattle.culvraod.specs.Numeric.{keyPointsC};
+use float::FloatPrettyPrinter;
+use float::Label;
 use linspace::Linspacef64;
 use linspace::Linspacei32;
 use linspace::Listed;
@@ -128,6 +131,18 @@ fn give_listed(x: Listed, count: &mut usize) -> i32
             0
         }
         Listed::Refused(r) => r.number() as i32,
+    }
+}
+
+fn give_label(x: Label, written: &mut usize) -> i32
+    ensures { λ r. ⌜ (r, now (written .exit)) ≡ single (tellLabel x) (now (written .entry)) ⌝ }
+{
+    match x {
+        Label::Written(n) => {
+            *written = n;
+            0
+        }
+        Label::Refused(r) => r.number() as i32,
     }
 }
 
@@ -568,4 +583,21 @@ pub extern "C" fn culv_step_real_key_points(
         step: d,
     };
     give_listed(reals.key_points(m, out), count)
+}
+
+#[no_mangle]
+pub extern "C" fn culv_label(
+    n: f64,
+    max_decimal: u32,
+    min_decimal: u32,
+    out: &mut [u8],
+    written: &mut usize,
+) -> i32
+    ensures { λ r. ⌜ (r, now (out .exit), now (written .exit)) ≡ listC (labelPrint n «max_decimal» «min_decimal» (now (out .entry))) (now (written .entry)) ⌝ }
+{
+    let printer = FloatPrettyPrinter {
+        min_decimal,
+        max_decimal,
+    };
+    give_label(printer.print(n, out), written)
 }

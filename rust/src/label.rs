@@ -1,0 +1,104 @@
+//! Labels of real numbers.
+
+use std::str;
+
+use crate::refusal::{answered, Refusal};
+
+// The C function, as include/culvraod.h declares and describes it.
+extern "C" {
+    pub fn culv_label(
+        n: f64,
+        max_decimal: u32,
+        min_decimal: u32,
+        out: *mut u8,
+        len: usize,
+        written: *mut usize,
+    ) -> i32;
+}
+
+/// So many bytes are enough for every label.
+pub const LONGEST: usize = 38;
+
+/// How a label is written.
+#[derive(Clone, Copy, Debug, PartialEq, Eq)]
+pub struct FloatPrettyPrinter {
+    /// So many decimals at least: zeros are added. At most 20.
+    pub min_decimal: u32,
+    /// The number is shortened to so many decimals at most. At most 10.
+    pub max_decimal: u32,
+}
+
+impl FloatPrettyPrinter {
+    /// The label of `n`, which is written to the beginning of `out`.
+    ///
+    /// Refused as [`Refusal::NotPrintable`], [`Refusal::TooManyDecimals`] or
+    /// [`Refusal::OutTooShort`].
+    ///
+    /// ```
+    /// use culvraod::label::{FloatPrettyPrinter, LONGEST};
+    ///
+    /// let printer = FloatPrettyPrinter { min_decimal: 1, max_decimal: 5 };
+    /// let mut out = [0; LONGEST];
+    /// assert_eq!(printer.print(3.0, &mut out), Ok("3.0"));
+    /// assert_eq!(printer.print(1.25, &mut out), Ok("1.25"));
+    /// ```
+    pub fn print(self, n: f64, out: &mut [u8]) -> Result<&str, Refusal> {
+        let mut written = 0;
+        // SAFETY: `out` is bytes of that length, and the result is a local.
+        let code = unsafe {
+            culv_label(
+                n,
+                self.max_decimal,
+                self.min_decimal,
+                out.as_mut_ptr(),
+                out.len(),
+                &mut written,
+            )
+        };
+        answered("culv_label", code)?;
+        Ok(str::from_utf8(&out[..written]).expect("a label is ASCII"))
+    }
+}
+
+#[cfg(test)]
+mod tests {
+    use super::*;
+
+    fn printer(max_decimal: u32, min_decimal: u32) -> FloatPrettyPrinter {
+        FloatPrettyPrinter {
+            min_decimal,
+            max_decimal,
+        }
+    }
+
+    #[test]
+    fn labels() {
+        let rows = [
+            (3.0, 5, 1, "3.0"),
+            (1.25, 5, 1, "1.25"),
+            (-0.000001, 5, 1, "-0.0"),
+            (0.015, 2, 0, "0.02"),
+            (2.9, 0, 0, "2"),
+            (-0.0, 10, 0, "-0"),
+            (-1e15, 10, 20, "-1000000000000000.00000000000000000000"),
+        ];
+        for (n, h, e, label) in rows {
+            let mut out = [77; LONGEST + 1];
+            assert_eq!(printer(h, e).print(n, &mut out), Ok(label));
+            assert!(out[label.len()..].iter().all(|&byte| byte == 77));
+        }
+    }
+
+    #[test]
+    fn refusals_write_nothing() {
+        let mut out = [77; 3];
+        let mut refused = |n, h, e| printer(h, e).print(n, &mut out).unwrap_err();
+        assert_eq!(refused(f64::NAN, 11, 0), Refusal::NotPrintable);
+        assert_eq!(refused(f64::NEG_INFINITY, 0, 0), Refusal::NotPrintable);
+        assert_eq!(refused(9007199254740992.0, 0, 0), Refusal::NotPrintable);
+        assert_eq!(refused(0.25, 11, 0), Refusal::TooManyDecimals);
+        assert_eq!(refused(0.25, 0, 21), Refusal::TooManyDecimals);
+        assert_eq!(refused(0.25, 10, 0), Refusal::OutTooShort);
+        assert_eq!(out, [77; 3]);
+    }
+}
