@@ -30,6 +30,12 @@ impl Fill for u64 {
     }
 }
 
+impl Fill for u8 {
+    fn fill(at: usize) -> u8 {
+        usize::fill(at) as u8
+    }
+}
+
 impl Fill for f64 {
     fn fill(at: usize) -> f64 {
         usize::fill(at) as f64

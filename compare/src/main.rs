@@ -3,6 +3,7 @@
 //! Each family of calls has a module with an entry of each name; a new family is added below.
 
 mod counts;
+mod labels;
 mod linspace;
 mod numeric;
 mod places;
@@ -44,6 +45,7 @@ fn compare() -> bool {
         rulers::compare(),
         search::compare(),
         linspace::compare(),
+        labels::compare(),
     ];
     agrees.iter().all(|&agrees| agrees)
 }
@@ -59,6 +61,7 @@ fn bench() -> bool {
     rulers::bench();
     search::bench();
     linspace::bench();
+    labels::bench();
     true
 }
 
@@ -71,6 +74,7 @@ fn vectors() -> bool {
     readings::vectors();
     search::vectors();
     linspace::vectors();
+    labels::vectors();
     true
 }
 

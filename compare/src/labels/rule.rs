@@ -1,0 +1,70 @@
+//! The rule for labels, from the scope document's own words, level by level and without recursion.
+
+use super::Asked;
+
+/// From this size on a number has no label.
+const TOO_LARGE: f64 = 9_007_199_254_740_992.0;
+
+pub struct Label {
+    pub text: String,
+    /// Whether the rounded decimals fill up to a one.
+    pub fills_up: bool,
+}
+
+fn refused(asked: Asked) -> Result<(), i32> {
+    let Asked { n, h, e } = asked;
+    let printable = -TOO_LARGE < n && n < TOO_LARGE;
+    printable.then_some(()).ok_or(11)?;
+    (h <= 10 && e <= 20).then_some(()).ok_or(12)
+}
+
+/// The number at the last level, before it is put back under the floors that were left.
+fn last(n: f64, tolerance: f64) -> Option<f64> {
+    let reached = tolerance >= 1.0;
+    let (down, up) = (n.floor(), n.ceil());
+    let near = [(n - down, down), (up - n, up)];
+    let near = near.iter().find(|(distance, _)| *distance < tolerance);
+    reached.then_some(n).or(near.map(|&(_, whole)| whole))
+}
+
+/// The shortened number, and how many levels it took.
+fn shortened(n: f64, h: u32) -> (f64, usize) {
+    let (mut n, mut tolerance) = (n, 1.0 / 10u64.pow(h) as f64);
+    let mut floors = Vec::new();
+    let found = loop {
+        if let Some(found) = last(n, tolerance) {
+            break found;
+        }
+        floors.push(n.floor());
+        n = (n - n.floor()) * 10.0;
+        tolerance *= 10.0;
+    };
+    let back = floors.iter().rev();
+    let value = back.fold(found, |below, floor| floor + below / 10.0);
+    (value, floors.len())
+}
+
+pub fn label(asked: Asked) -> Result<Label, i32> {
+    refused(asked)?;
+    let (value, levels) = shortened(asked.n, asked.h);
+    let size = value.abs();
+    let one = 10u64.pow(levels as u32);
+    let decimals = match levels {
+        0 => 0,
+        _ => ((size - size.floor()) * one as f64).round() as u64,
+    };
+    let fills_up = decimals >= one;
+    let whole = size.floor() as u64 + u64::from(fills_up);
+    let mut shown = match fills_up || levels == 0 {
+        true => String::new(),
+        false => format!("{decimals:0levels$}"),
+    };
+    shown.truncate(shown.trim_end_matches('0').len());
+    while shown.len() < asked.e as usize {
+        shown.push('0');
+    }
+    let sign = if value.is_sign_negative() { "-" } else { "" };
+    let point = if shown.is_empty() { "" } else { "." };
+    let text = format!("{sign}{whole}{point}{shown}");
+    Ok(Label { text, fills_up })
+}
