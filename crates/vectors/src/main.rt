@@ -6,6 +6,7 @@ ghost use lib.ListN.{length};
 
 mod bits;
 mod calls;
+mod labels;
 mod marks;
 mod searches;
 mod steps;
@@ -15,9 +16,11 @@ use libc::STDIN_FILENO;
 use libc::STDOUT_FILENO;
 
 // The calls have numbers from 0 on; after them come the lines that differ and the comments. A total is kept of each.
-const DIFFERS: usize = 21;
+const LABEL: usize = 21;
 
-const COMMENT: usize = 22;
+const DIFFERS: usize = 22;
+
+const COMMENT: usize = 23;
 
 fn call_of(word: &[u8]) -> usize {
     if text::equal(word, b"whole") {
@@ -87,6 +90,9 @@ fn step_call_of(word: &[u8]) -> usize {
     if text::equal(word, b"rstepread") {
         return 20;
     }
+    if text::equal(word, b"label") {
+        return LABEL;
+    }
     DIFFERS
 }
 
@@ -135,6 +141,15 @@ fn step_matched(call: usize, numbers: &[u64], n: usize) -> bool
     }
 }
 
+fn judge_label(line: &[u8], numbers: &[u64], n: usize) -> usize
+    requires { ⌜ n ≤ length (now numbers) ⌝ }
+{
+    if labels::label(line, numbers, n) {
+        return LABEL;
+    }
+    DIFFERS
+}
+
 fn judge(
     line: &[u8],
     numbers: &mut [u64],
@@ -151,6 +166,9 @@ fn judge(
     let end = text::find(line, 0, b' ');
     let call = call_of(&line[0..end]);
     let n = text::numbers(line, end + 1, numbers);
+    if call == LABEL {
+        return judge_label(line, numbers, n);
+    }
     if matched(call, numbers, n, whole, real, index) {
         return call;
     }
@@ -223,6 +241,7 @@ fn report_all(totals: &[u32]) {
     report(b"\nsearch_whole matched: ", total(totals, 9));
     report(b"\nsearch_real matched: ", total(totals, 10));
     report_steps(totals);
+    report(b"\nlabel matched: ", total(totals, LABEL));
     report(b"\nlines that differ: ", total(totals, DIFFERS));
     io::write_all(STDOUT_FILENO, b"\n");
 }
@@ -253,7 +272,7 @@ fn main() {
     let mut whole = [0i32; 64];
     let mut real = [0.0; 64];
     let mut index = [0usize; 64];
-    let mut totals = [0u32; 23];
+    let mut totals = [0u32; 24];
     lend(
         &mut space,
         &mut numbers,

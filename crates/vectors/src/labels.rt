@@ -1,0 +1,60 @@
+// Lines on labels: N H E 0 TEXT, or N H E R where the call is refused with R.
+ghost use Prim.Native.Nat.{_≤_};
+ghost use lib.ListN.{length};
+use crate::bits::double;
+use crate::bits::low_half;
+use crate::text::equal;
+use float::FloatPrettyPrinter;
+use float::Label;
+
+// Whether the last word of the line is this text, which has no blank.
+fn ends_with(line: &[u8], text: &[u8]) -> bool {
+    if line.len() <= text.len() {
+        return false;
+    }
+    let at = line.len() - text.len();
+    if line[at - 1] != b' ' {
+        return false;
+    }
+    equal(&line[at..], text)
+}
+
+fn printed(line: &[u8], numbers: &[u64], n: usize, out: &mut [u8]) -> bool
+    requires { ⌜ n ≤ length (now numbers) ⌝ }
+{
+    if n < 4 {
+        return false;
+    }
+    let code = numbers[3];
+    let printer = FloatPrettyPrinter {
+        min_decimal: low_half(numbers[2]),
+        max_decimal: low_half(numbers[1]),
+    };
+    match printer.print(double(numbers[0]), out) {
+        Label::Refused(r) => {
+            if n != 4 {
+                return false;
+            }
+            code == r.number() as u64
+        }
+        Label::Written(k) => {
+            if n < 5 {
+                return false;
+            }
+            if code != 0 {
+                return false;
+            }
+            if out.len() < k {
+                return false;
+            }
+            ends_with(line, &out[0..k])
+        }
+    }
+}
+
+pub(crate) fn label(line: &[u8], numbers: &[u64], n: usize) -> bool
+    requires { ⌜ n ≤ length (now numbers) ⌝ }
+{
+    let mut out = [0u8; 38];
+    printed(line, numbers, n, &mut out)
+}
