@@ -13,7 +13,7 @@ use Rattle.decimal.specs.declared.Text.{Text}
 use Rattle.decimal.specs.declared.LongText.{LongText}
 use lib.ListN.{length, getD, set, take, drop, replicate, length-append, length-replicate, replicate-append-replicate}
 use lib.Seq.{set-at, drop-at}
-use Rattle.decimal.specs.Print.{digit, minus, digits, natural, decimal, filledTo, filled, textOf}
+use Rattle.decimal.specs.Print.{digit, minus, digits, natural, decimal, filledTo, filled}
 
 -- n has at most i digits
 abbrev pub small : ℕ → ℕ → Type 0

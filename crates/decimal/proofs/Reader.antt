@@ -10,7 +10,7 @@ use borrow.Author.Tests.{eq-eqb, ne-eqb, lt-ltb, le-ltb, le-leb, lt-leb, leb-tru
 use lib.Dec.{T, ltb, leb, eqb}
 use lib.IntN.{ℤ, pos, negsuc, negℤ}
 use lib.Signed.{leZ}
-use lib.ListN.{length, getD, drop, replicate, length-append, length-replicate, List·getD-append}
+use lib.ListN.{length, getD, drop, length-append, List·getD-append}
 use mir.Syntax.{w32}
 use mir.Val.{SFits}
 use Rattle.ranged1d.specs.Answer.{Answer, given, none, refused}

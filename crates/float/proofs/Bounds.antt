@@ -1,33 +1,30 @@
--- A shortened number stays near the number: from a size below 2 ^ 53 it goes no further than 2 ^ 53 + 2. So its whole part and its decimals are what the
--- code's casts give, with no end of a u64 near (`whole-exact`, `decimals-exact`).
--- Assumes nothing.
+-- A shortened number stays near the number: from a size below 2 ^ 53 it goes no further than 2 ^ 53 + 2, since each level
+-- adds at most 2 to a floor. Assumes nothing.
 use mathlib.Core.Path.{_≡_, refl, sym, ap, _∙_, subst}
 use mathlib.Core.Bool.{Bool, true, false, not, cond, _&&_, _||_, true≢false}
-use Prim.Native.Nat.{ℕ, zero, suc, _+_, _-_, _*_, _/_, _^_, _≤_, _<_, min}
+use Prim.Native.Nat.{ℕ, zero, suc, _+_, _-_, _*_, _^_, _≤_, _<_}
 use native.Mathlib.Nat.{mul-one, mul-comm, mul-assoc, mul-right-comm, mul-pos, mul-le-mul-right, le-of-mul-le-mul-right, le-trans, le-of-eq, zero-lt-suc}
 use native.Mathlib.Omega.{arith}
 use lib.Dec.{T, ltb, eqb, ltb→lt, eqb→eq}
-use lib.IntN.{ℤ, pos, natAbs}
-use lib.Ieee.{Float, nan, inf, fin, up, down, binary64, Format, prec, emax, low, lt, le, eq, neg, round, odd, units, sum, add, sub, mul, div, ofBits, ofInt, toUnsigned, isNan, fits}
-use Rattle.float.proofs.Cases.{pow-small}
+use lib.IntN.{ℤ}
+use lib.Ieee.{Float, nan, inf, fin, up, down, binary64, Format, prec, emax, low, lt, le, eq, neg, round, odd, units, sum, add, sub, mul, div, ofBits, isNan, fits}
 use lib.Ieee.Fits.{down-pos, round-is, mul-fits}
 use lib.Ieee.Exact.{HasValue}
 use lib.Ieee.Back.{round-whole}
 use lib.Ieee.Order.{round-mono}
 use borrow.Author.Tests.{ltb-true}
-use Rattle.rounding.specs.Integral.{Way, floors, ceils, halves, sized, integral, floorOf, ceilOf, roundOf}
-use Rattle.rounding.specs.Within.{wholeOf}
+use Rattle.rounding.specs.Integral.{Way, floors, ceils, sized, integral, floorOf, ceilOf}
 use Rattle.rounding.proofs.Laws.{round-neg}
-use Rattle.rounding.proofs.Quotients.{sized-le, sized-whole}
+use Rattle.rounding.proofs.Quotients.{sized-le}
 use Rattle.rounding.proofs.Value.{integral-value, floor-value, Floor}
 use Rattle.float.specs.declared.Shortened.{Shortened}
 use Rattle.float.specs.Shorten.{shorten, one, ten, plain, inner, outer}
-use Rattle.float.specs.Text.{signOf, sizeOf, wholePart, decimalsOf}
+use Rattle.float.specs.Text.{signOf}
 use Rattle.float.specs.Calls.{printable}
 use Rattle.float.specs.Steps.{AtMost}
 
 -- x is finite, at most C in size and of positive sign
-abbrev Small : ℕ → Float → Type 0
+abbrev pub Small : ℕ → Float → Type 0
 Small C x = (signOf x ≡ false) × AtMost C x
 
 -- ---- a rounded fraction of at most C, where C rounds to itself
@@ -70,7 +67,7 @@ under C (fin false m e) (fin false n d) s v t =
     le-of-mul-le-mul-right (le-trans l (le-of-eq q)) (down-pos d)
 
 module _ (C : ℕ) (exact : HasValue (round binary64 false C 1) false C 1) where
-  round-small : (a b : ℕ) → 0 < b → a ≤ C * b → Small C (round binary64 false a b)
+  pub round-small : (a b : ℕ) → 0 < b → a ≤ C * b → Small C (round binary64 false a b)
   round-small a b p h =
       (sign-round false a b, under C (round binary64 false a b) (round binary64 false C 1) (sign-round false a b) exact (round-mono binary64 a b C 1 p (zero-lt-suc 0) (rw (mul-one a) h)))
 
@@ -84,12 +81,12 @@ round-within : (C : ℕ) → HasValue (round binary64 false C 1) false C 1 → (
 round-within C v false a b p h = round-small C v a b p h .1
 round-within C v true a b p h = subst (AtMost C) (sym (round-neg binary64 false a b)) (within-neg C (round binary64 false a b) (round-small C v a b p h .1))
 
-wider : (C D : ℕ) (x : Float) → C ≤ D → AtMost C x → AtMost D x
+pub wider : (C D : ℕ) (x : Float) → C ≤ D → AtMost C x → AtMost D x
 wider C D nan l w = w
 wider C D (inf s) l w = w
 wider C D (fin s m e) l w = le-trans w (mul-le-mul-right (down e) l)
 
-small-bound : (C : ℕ) → C ≤ 2 ^ 53 → HasValue (round binary64 false C 1) false C 1
+pub small-bound : (C : ℕ) → C ≤ 2 ^ 53 → HasValue (round binary64 false C 1) false C 1
 small-bound C h = round-whole binary64 false C h
 
 -- ---- the whole numbers next to x
@@ -147,7 +144,7 @@ less-floor s m e (fin t n d) k v f =
     (le-trans (scale-le N (k * E + E) D (w .2)) (le-of-eq x1))
     (le-trans (scale-le (k * E) (N + E) D (w .3)) (le-of-eq x2))))
 
-part-small : (C : ℕ) (x : Float) → fits binary64 x ≡ true → AtMost C x → Small 1 (sub binary64 x (floorOf x))
+pub part-small : (C : ℕ) (x : Float) → fits binary64 x ≡ true → AtMost C x → Small 1 (sub binary64 x (floorOf x))
 part-small C nan t w = absurd w
 part-small C (inf s) t w = absurd w
 part-small C (fin s m e) t w = let f = floor-value s m e t in less-floor s m e (floorOf (fin s m e)) (f .0) (f .1) (f .2)
@@ -225,7 +222,7 @@ choose P false r s p q = q
 inner-small : (C : ℕ) (x : Float) → fits binary64 x ≡ true → AtMost C x → Small 10 (inner x)
 inner-small C x t w = times-ten (sub binary64 x (floorOf x)) (part-small C x t w)
 
-T≡ : (b : Bool) → T b → b ≡ true
+pub T≡ : (b : Bool) → T b → b ≡ true
 T≡ true t = refl
 T≡ false t = absurd t
 
@@ -279,86 +276,3 @@ unfolding printable
 printable-at-most nan h = true≢false (sym h)
 printable-at-most (inf s) h = true≢false (sym h)
 printable-at-most (fin s m e) h = let l = ltb-true (m * up e) (2 ^ 53 * down e) h in omega arith
-
--- ---- the casts to u64 are exact
-quotient-le : (n d C : ℕ) → 0 < d → n ≤ C * d → n / d ≤ C
-quotient-le n d C p h = sized-le floors false n d C p h
-
-pub whole-le : (x : Float) → AtMost near x → wholePart x ≤ near
-unfolding wholeOf
-whole-le nan w = absurd w
-whole-le (inf s) w = absurd w
-whole-le (fin s m e) w = quotient-le (m * up e) (down e) near (down-pos e) w
-
--- the whole part of a label is that of the shortened number
-pub whole-exact : (x : Float) → AtMost near x → toUnsigned 64 (sizeOf x) ≡ wholePart x
-unfolding toUnsigned wholeOf
-whole-exact nan w = absurd w
-whole-exact (inf s) w = absurd w
-whole-exact (fin s m e) w =
-    let l : m * up e / down e ≤ near = quotient-le (m * up e) (down e) near (down-pos e) w in
-    let r : min (m * up e / down e) (2 ^ 64 - 1) ≡ m * up e / down e = omega arith in
-    r
-
--- a float that is a whole number is cast to it
-cast-whole : (y : Float) (k : ℕ) → HasValue y false k 1 → k < 2 ^ 64 → toUnsigned 64 y ≡ k
-unfolding toUnsigned
-cast-whole nan k v l = absurd v
-cast-whole (inf s) k v l = absurd v
-cast-whole (fin true m e) k v l = absurd (true≢false (v .0))
-cast-whole (fin false m e) k v l =
-    let q : m * up e / down e ≡ k = ap (λ (n : ℕ). n / down e) (sym (mul-one (m * up e)) ∙ v .1) ∙ sized-whole floors false k (down e) (down-pos e) in
-    let r : min (m * up e / down e) (2 ^ 64 - 1) ≡ k = omega arith in
-    r
-
-round-exact : (y : Float) → fits binary64 y ≡ true → Small (2 ^ 53) y → toUnsigned 64 (roundOf y) ≡ natAbs (wholeOf halves y)
-unfolding wholeOf
-round-exact nan t w = absurd (w .1)
-round-exact (inf s) t w = absurd (w .1)
-round-exact (fin true m e) t w = absurd (true≢false (w .0))
-round-exact (fin false m e) t w =
-    let l : sized halves false (m * up e) (down e) ≤ 2 ^ 53 = sized-le halves false (m * up e) (down e) (2 ^ 53) (down-pos e) (w .1) in
-    cast-whole (roundOf (fin false m e)) (sized halves false (m * up e) (down e)) (integral-value binary64 halves false m e t) (omega arith)
-
--- a number of at most 1, times a whole number
-times : (N : ℕ) (x y : Float) → N ≤ 2 ^ 53 → Small 1 x → HasValue y false N 1 → Small N (mul binary64 x y)
-unfolding mul
-times N nan y l w v = absurd (w .1)
-times N (inf s) y l w v = absurd (w .1)
-times N (fin true m e) y l w v = absurd (true≢false (w .0))
-times N (fin false m e) nan l w v = absurd v
-times N (fin false m e) (inf s) l w v = absurd v
-times N (fin false m e) (fin true n d) l w v = absurd (true≢false (v .0))
-times N (fin false m e) (fin false n d) l w v =
-    let D = down d in
-    let E = down e in
-    let q : n * up d ≡ N * D = sym (mul-one (n * up d)) ∙ v .1 in
-    let a : m * up e * (n * up d) ≤ 1 * E * (n * up d) = mul-le-mul-right (n * up d) (w .1) in
-    let b : 1 * E * (n * up d) ≡ N * (E * D) = rw (native.Mathlib.Nat.one-mul E, q) (native.Mathlib.Nat.mul-left-comm E N D) in
-    round-small N (small-bound N l) (m * up e * (n * up d)) (E * D) (mul-pos (down-pos e) (down-pos d)) (le-trans a (le-of-eq b))
-
-size-fits : (x : Float) → fits binary64 x ≡ true → fits binary64 (sizeOf x) ≡ true
-unfolding fits
-size-fits nan t = t
-size-fits (inf s) t = t
-size-fits (fin s m e) t = t
-
-size-at-most : (C : ℕ) (x : Float) → AtMost C x → AtMost C (sizeOf x)
-size-at-most C nan w = w
-size-at-most C (inf s) w = w
-size-at-most C (fin s m e) w = w
-
-small-wider : (C D : ℕ) (x : Float) → C ≤ D → Small C x → Small D x
-small-wider C D x l w = (w .0, wider C D x l (w .1))
-
--- the decimals of a label are its fraction times 10 ^ p, rounded
-pub decimals-exact : (x : Float) (p : ℕ) → p ≤ 10 → fits binary64 x ≡ true → AtMost near x → toUnsigned 64 (roundOf (mul binary64 (sub binary64 (sizeOf x) (floorOf (sizeOf x))) (ofInt binary64 (pos (10 ^ p))))) ≡ decimalsOf x p
-unfolding ofInt
-decimals-exact x p h t w =
-    let N = 10 ^ p in
-    let l : N ≤ 10_000_000_000 = pow-small p h in
-    let m : N ≤ 2 ^ 53 = omega arith in
-    let f = part-small near (sizeOf x) (size-fits x t) (size-at-most near x w) in
-    let y = mul binary64 (sub binary64 (sizeOf x) (floorOf (sizeOf x))) (ofInt binary64 (pos N)) in
-    round-exact y (T≡ (fits binary64 y) (mul-fits binary64 (sub binary64 (sizeOf x) (floorOf (sizeOf x))) (ofInt binary64 (pos N))))
-    (small-wider N (2 ^ 53) y m (times N (sub binary64 (sizeOf x) (floorOf (sizeOf x))) (ofInt binary64 (pos N)) m f (small-bound N m)))

@@ -5,7 +5,7 @@ use Prim.Native.Nat.{ℕ, zero, suc, _+_, _-_, _*_, _/_, _%_, _^_, _≤_, _<_, m
 use native.Mathlib.Nat.{pow-suc, pow-le-pow-right, zero-lt-suc}
 use native.Mathlib.Numerals.{sub-one}
 use native.Mathlib.Omega.{arith}
-use lib.Dec.{eqb, leb}
+use lib.Dec.{eqb}
 use lib.Ieee.{Float, binary64, sub, mul, lt, le}
 use borrow.Author.Tests.{eq-eqb, ne-eqb, le-leb, lt-leb}
 use Rattle.rounding.specs.Integral.{floorOf, ceilOf}
@@ -13,7 +13,7 @@ use Rattle.decimal.proofs.Digits.{tenth-small}
 use Rattle.float.specs.declared.Shortened.{Shortened}
 use Rattle.float.specs.declared.Parts.{Parts}
 use Rattle.float.specs.Shorten.{shorten, one, ten, plain, inner, outer}
-use Rattle.float.specs.Text.{signOf, wholePart, decimalsOf, fillsUp}
+use Rattle.float.specs.Text.{signOf, wholePart, decimalsOf}
 use Rattle.float.specs.Steps.{trimmed, parts, partsOf, tailLength}
 
 -- ---- powers of ten

@@ -1,14 +1,14 @@
 -- The rule's decimals are those that the code keeps: the digits of d on p places, cut where the number d itself is divided by ten. Assumes nothing.
-use mathlib.Core.Path.{_≡_, refl, sym, ap, ap₂, _∙_}
+use mathlib.Core.Path.{_≡_, refl, sym, ap, _∙_}
 use mathlib.Core.Bool.{Bool, true, false, cond}
 use mathlib.Core.List.{List, [], _∷_, _++_, append-assoc}
 use Prim.Native.Nat.{ℕ, zero, suc, _+_, _-_, _/_, _%_, _^_, _≤_, _<_}
-use native.Mathlib.Nat.{pow-le-pow-right, zero-lt-suc, le-trans}
+use native.Mathlib.Nat.{pow-le-pow-right, zero-lt-suc}
 use native.Mathlib.Numerals.{add-one}
 use native.Mathlib.Omega.{arith}
 use lib.Dec.{ltb, eqb}
 use lib.ListN.{length, replicate, length-append, length-replicate, replicate-append-replicate}
-use borrow.Author.Tests.{lt-ltb, le-ltb, eqb-true, eqb-false, ltb-true, ltb-false, ne-eqb}
+use borrow.Author.Tests.{le-ltb, eqb-true, eqb-false, ltb-true, ltb-false, ne-eqb}
 use Rattle.decimal.specs.Print.{digits, longNatural}
 use Rattle.decimal.proofs.Digits.{tenth-small, digits-fuel, digits-few, digits-one}
 use Rattle.float.specs.declared.Parts.{Parts}

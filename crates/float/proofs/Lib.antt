@@ -4,6 +4,7 @@ pub mod Decimals
 pub mod Lists
 pub mod Signs
 pub mod Bounds
+pub mod Casts
 pub mod Enough
 pub mod Printed
 pub mod Worked

@@ -1,10 +1,10 @@
 -- The rule of `print`, case by case; that the parts are written as the rule says; and that a label has at most 38 bytes. Assumes nothing.
-use mathlib.Core.Path.{_≡_, refl, sym, ap, _∙_}
+use mathlib.Core.Path.{_≡_, refl}
 use mathlib.Core.Bool.{Bool, true, false, cond}
-use mathlib.Core.List.{List, [], _++_}
+use mathlib.Core.List.{List, []}
 use Prim.Native.Nat.{ℕ, zero, suc, _+_, _/_, _%_, _^_, _≤_, _<_}
 use native.Mathlib.Omega.{arith}
-use lib.Dec.{leb, eqb}
+use lib.Dec.{eqb}
 use lib.ListN.{length}
 use lib.Ieee.{Float, binary64, fits}
 use borrow.Author.Tests.{le-leb, lt-leb, leb-false}
@@ -15,11 +15,12 @@ use Rattle.float.specs.declared.Parts.{Parts}
 use Rattle.float.specs.Shorten.{shorten, tolerance}
 use Rattle.float.specs.Text.{signOf, wholePart, decimalsOf, fillsUp, decimals, composed, shown, labelOf}
 use Rattle.float.specs.Calls.{printable, labelPrint}
-use Rattle.float.specs.Steps.{AtMost, parts, partsOf, trimmed, bytesOf, placed, textWritten}
+use Rattle.float.specs.Steps.{AtMost, parts, partsOf, trimmed, bytesOf, textWritten}
 use Rattle.float.proofs.Cases.{Few, parts-choose, trim-few, tail-le, shorten-few}
 use Rattle.float.proofs.Decimals.{decimals-kept}
 use Rattle.float.proofs.Lists.{front-most, bytes-length}
-use Rattle.float.proofs.Bounds.{near, stays-near, printable-at-most, whole-le}
+use Rattle.float.proofs.Bounds.{near, stays-near, printable-at-most}
+use Rattle.float.proofs.Casts.{whole-le}
 
 -- ---- the refusals
 pub print-11 : (n : Float) (h e : ℕ) (old : List ℕ) → printable n ≡ false → _≡_ {A = Answer ℕ × List ℕ} (refused 11, old) (labelPrint n h e old)

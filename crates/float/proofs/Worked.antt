@@ -8,7 +8,7 @@ use Rattle.decimal.specs.Print.{digits}
 use Rattle.decimal.specs.Read.{sameBytes}
 use Rattle.float.specs.Shorten.{shorten}
 use Rattle.float.specs.Text.{withoutZeros, decimals, shown, labelOf}
-use Rattle.float.specs.Worked.{every, holds, rows}
+use Rattle.float.specs.Worked.{every, rows}
 
 pub worked : every rows ≡ true
 unfolding labelOf shown shorten decimals withoutZeros digits sameBytes integral wholeOf ofBits ofInt round add sub sum mul div lt le eq neg

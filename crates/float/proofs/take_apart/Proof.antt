@@ -5,7 +5,8 @@ use native.Mathlib.Omega.{arith}
 use Rattle.rounding.proofs.Sizes.{in-float}
 use Rattle.float.specs.Text.{wholePart, decimalsOf}
 use Rattle.float.proofs.Cases.{pow-small, parts-none, parts-grown, parts-trim}
-use Rattle.float.proofs.Bounds.{near, at-most-number, whole-le, whole-exact, decimals-exact}
+use Rattle.float.proofs.Bounds.{near, at-most-number}
+use Rattle.float.proofs.Casts.{whole-le, whole-exact, decimals-exact}
 use lib.Ieee.{toUnsigned}
 use borrow.Author.Needs.{needs}
 use Rattle.float.proofs.take_apart.Statement.{statement}
