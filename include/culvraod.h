@@ -512,8 +512,8 @@ int32_t culv_ruler_pair(const uint8_t *left, size_t left_len,
  * whole part and the decimals are printed, the decimals rounded, a half away
  * from zero, without the zeros at their end, and filled up with zeros. Without
  * decimals the number is cut toward zero: 2.9 with max_decimal 0 is "2".
- * Should the rounded decimals fill up to a one, the whole part grows by one
- * and no decimals follow. A negative zero is "-0".
+ * Where rounding makes a whole one of the decimals, it is carried into the
+ * whole part. A negative zero is "-0".
  *
  * 0: *written is the number of bytes of the label.
  * Refused, with nothing written:

@@ -34,7 +34,7 @@ wholePart x = natAbs (wholeOf floors (sizeOf x))
 abbrev pub decimalsOf : Float → ℕ → ℕ
 decimalsOf x p = natAbs (wholeOf halves (mul binary64 (sub binary64 (sizeOf x) (floorOf (sizeOf x))) (ofInt binary64 (pos (10 ^ p)))))
 
--- whether the rounded decimals fill up to a one: only where there are decimals
+-- whether rounding makes a whole one of the decimals: never where there are none
 abbrev pub fillsUp : Float → ℕ → Bool
 fillsUp x zero = false
 fillsUp x (suc p) = leb (10 ^ suc p) (decimalsOf x (suc p))
@@ -84,7 +84,7 @@ abbrev pub composed : Bool → ℕ → List ℕ → ℕ → List ℕ
 composed s w t e = front s w ++ pointed (filledUp e t)
 
 -- ---- labels
--- x with p levels: if its decimals fill up to a one, the whole part grows by one and no decimals follow
+-- x with p levels. Where rounding makes a whole one of the decimals, that one is carried into the whole part, and nothing is left of them.
 unfoldable pub shown : Float → ℕ → ℕ → List ℕ
 shown x p e =
     cond (fillsUp x p) (composed (signOf x) (wholePart x + 1) [] e)
@@ -93,6 +93,6 @@ shown x p e =
 abbrev pub shownOf : Shortened → ℕ → List ℕ
 shownOf r e = shown (r .value) (r .levels) e
 
--- the label of n: shortened to at most h decimals, and filled with zeros to at least e
+-- the label of n: what n is shortened to with h levels, and zeros until there are e decimals
 unfoldable pub labelOf : Float → ℕ → ℕ → List ℕ
 labelOf n h e = shownOf (shorten h n (tolerance h)) e
