@@ -499,9 +499,9 @@ int32_t culv_ruler_pair(const uint8_t *left, size_t left_len,
 /* ---- Labels of real numbers ---- */
 
 /*
- * The label of n with at most max_decimal and at least min_decimal decimals,
- * written to out, which has len bytes. 38 bytes are always enough. No byte of
- * value 0 is put behind the label.
+ * The label of n: at most max_decimal decimals of its own, and zeros until
+ * there are min_decimal. It is written to out, which has len bytes; 38 are
+ * always enough. No byte of value 0 is put behind the label.
  *
  * n is shortened with a tolerance, at first 1 over ten to the power
  * max_decimal. Where that has reached 1, n stays as it is; else if the floor
