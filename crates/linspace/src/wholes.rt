@@ -250,7 +250,7 @@ impl Linspacei32 {
     }
 
     // Whether both ends and the step are admitted.
-    fn admitted(self) -> bool
+    pub fn admitted(self) -> bool
         ensures { λ r. ⌜ r ≡ axisAdmitted whole (self .inner .0) (self .inner .1) (self .step) ⌝ }
     {
         let inner = self.inner;

@@ -32,7 +32,7 @@ pub enum Value {
 
 impl RangedCoordi32 {
     // Whether both ends are admitted.
-    fn admitted(self) -> bool
+    pub fn admitted(self) -> bool
         ensures { λ r. ⌜ r ≡ endsAdmitted (self .0) (self .1) ⌝ }
     {
         if ranged1d::whole_admitted(self.0) {

@@ -72,7 +72,7 @@ times-inf (fin w m e) s k u h p = (unlike w u, rw (ne-eqb m 0 (λ z. no z)))
     no z = let d : 0 < k * down e = mul-pos p (down-pos e) in let a : m * up e ≡ 0 = ap (λ (i : ℕ). i * up e) z ∙ zero-mul (up e) in omega (arith, h .1)
 
 product-inf : (l : ℤ) (u : Bool) → natAbs l ≤ 2 ^ 53 → 0 < natAbs l → (v : Bool) × (product l (inf u) ≡ inf v)
-product-inf l u h p = let x = int-value l h in times-inf (ofInt binary64 l) (x .0) (natAbs l) u (x .1) p
+product-inf l u h p = let x = int-value binary64 l h in times-inf (ofInt binary64 l) (x .0) (natAbs l) u (x .1) p
 
 is-inf : (t : Float) (u : Bool) → eq t (inf u) ≡ true → t ≡ inf u
 unfolding eq

@@ -38,8 +38,8 @@ none-turned = sym (round-neg binary64 false 0 1)
 pub less-int : (x y : ℤ) → natAbs x ≤ 2 ^ 53 → natAbs y ≤ 2 ^ 53 → sub binary64 (ofInt binary64 x) (ofInt binary64 y) ≡ ofInt binary64 (x -ℤ y)
 unfolding sub
 less-int x (pos zero) h k = ap (add binary64 (ofInt binary64 x)) none-turned ∙ minus-none x h ∙ ap (ofInt binary64) (sym (+ℤ-idr x))
-less-int x (pos (suc n)) h k = ap (add binary64 (ofInt binary64 x)) (sym (int-neg (pos (suc n)) (λ e. omega (arith, ap natAbs e)))) ∙ whole-sum binary64 x (negsuc n) h k
-less-int x (negsuc n) h k = ap (add binary64 (ofInt binary64 x)) (sym (int-neg (negsuc n) (λ e. omega (arith, ap natAbs e)))) ∙ whole-sum binary64 x (pos (suc n)) h k
+less-int x (pos (suc n)) h k = ap (add binary64 (ofInt binary64 x)) (sym (int-neg binary64 (pos (suc n)) (λ e. omega (arith, ap natAbs e)))) ∙ whole-sum binary64 x (negsuc n) h k
+less-int x (negsuc n) h k = ap (add binary64 (ofInt binary64 x)) (sym (int-neg binary64 (negsuc n) (λ e. omega (arith, ap natAbs e)))) ∙ whole-sum binary64 x (pos (suc n)) h k
 
 -- ---- from 2^52 to 2^53 the low bits count ones
 abbrev pub Low : ℕ → Type 0
@@ -90,7 +90,7 @@ valued (fin u m e) s k v = eq-self (fin u m e) tt
 
 -- whole numbers that differ as floats differ
 pub int-self : (z : ℤ) → natAbs z ≤ 2 ^ 53 → eq (ofInt binary64 z) (ofInt binary64 z) ≡ true
-int-self z h = let x = int-value z h in valued (ofInt binary64 z) (x .0) (natAbs z) (x .1)
+int-self z h = let x = int-value binary64 z h in valued (ofInt binary64 z) (x .0) (natAbs z) (x .1)
 
 pub differ : (a b : ℤ) → natAbs a ≤ 2 ^ 53 → eq (ofInt binary64 a) (ofInt binary64 b) ≡ false → a ≡ b → ⊥
 differ a b h n e = true≢false (sym (int-self a h) ∙ ap (λ (z : ℤ). eq (ofInt binary64 a) (ofInt binary64 z)) e ∙ n)

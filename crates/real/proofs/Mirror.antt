@@ -45,7 +45,7 @@ falls : (n : ℕ) (t : Float) → falling (negsuc n) t ≡ whole.negated (rising
 unfolding rising falling
 falls n t =
     let l = ofInt binary64 (pos (suc n)) in
-    rw (int-neg (pos (suc n)) (λ e. omega (arith, ap natAbs e)), mul-neg l t) (sum-turn (mul binary64 l t))
+    rw (int-neg binary64 (pos (suc n)) (λ e. omega (arith, ap natAbs e)), mul-neg l t) (sum-turn (mul binary64 l t))
 
 twice : (w : Whole) → whole.negated (whole.negated w) ≡ w
 twice (Number z) = ap Number (negℤ-negℤ z)
@@ -164,7 +164,7 @@ whole-alike : (a b v : ℤ) → Near a → Near b → Near v → eq (ofInt binar
     → Alike (share (ofInt binary64 (negℤ a)) (ofInt binary64 (negℤ b)) (ofInt binary64 (negℤ v))) (share (ofInt binary64 a) (ofInt binary64 b) (ofInt binary64 v))
 whole-alike a b v ha hb hv n =
     rw (whole-share a b v ha hb hv, whole-share (negℤ a) (negℤ b) (negℤ v) (near-neg a ha) (near-neg b hb) (near-neg v hv), length-neg a v, length-neg a b)
-    (div-alike (ofInt binary64 (v -ℤ a)) (ofInt binary64 (b -ℤ a)) (int-alike (v -ℤ a)) (int-neg (b -ℤ a) (λ e. differ a b ha n (no-difference a b e))))
+    (div-alike (ofInt binary64 (v -ℤ a)) (ofInt binary64 (b -ℤ a)) (int-alike (v -ℤ a)) (int-neg binary64 (b -ℤ a) (λ e. differ a b ha n (no-difference a b e))))
 
 admitted-neg : (z : ℤ) → wholeAdmitted (negℤ z) ≡ wholeAdmitted z
 admitted-neg z = ap (λ (n : ℕ). leb n 1_000_000_000) (neg-far z)

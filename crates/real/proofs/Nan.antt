@@ -72,7 +72,7 @@ unfolding mul
 times-number (fin u m e) s k t n d v = round-number (unlike u t) (m * up e * (n * up d)) (down e * down d)
 
 product-number : (l : ℤ) → natAbs l ≤ 2 ^ 53 → (t : Bool) (n : ℕ) (d : ℤ) → isNan (product l (fin t n d)) ≡ false
-product-number l h t n d = let x = int-value l h in times-number (ofInt binary64 l) (x .0) (natAbs l) t n d (x .1)
+product-number l h t n d = let x = int-value binary64 l h in times-number (ofInt binary64 l) (x .0) (natAbs l) t n d (x .1)
 
 -- a thousandth more where c is true, and less where it is not
 pub sum-is-number : (c : Bool) (l : ℤ) → natAbs l ≤ 2 ^ 53 → (t : Bool) (n : ℕ) (d : ℤ) → isNan (add binary64 (product l (fin t n d)) (cond c milli (neg milli))) ≡ false

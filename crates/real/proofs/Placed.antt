@@ -98,12 +98,12 @@ pub record Placed (r : Answer ℤ) : Type 0 where
 module _ (l : ℤ) (t : Float) (hl : natAbs l ≤ 2_000_000) (ht : Small 11 t) where
   product-small : Small 22_000_000 (product l t)
   product-small =
-      small-mul 22_000_000 (lit≤ tt) 2_000_000 11 (ofInt binary64 l) t (lit≤ tt) (small-int 2_000_000 (lit≤ tt) l hl) ht
+      small-mul binary64 22_000_000 (lit≤ tt) 2_000_000 11 (ofInt binary64 l) t (lit≤ tt) (small-int binary64 2_000_000 (lit≤ tt) l hl) ht
 
   steps-told : (w : Way) (d : Float) → Small 1 d → Told (steps w farthest d l t) 22_000_001
   steps-told w d h =
       small-told w farthest 22_000_001 (add binary64 (product l t) d) (lit≤ tt)
-      (small-add 22_000_001 (lit≤ tt) 22_000_000 1 (product l t) d (lit≤ tt) product-small h)
+      (small-add binary64 22_000_001 (lit≤ tt) 22_000_000 1 (product l t) d (lit≤ tt) product-small h)
 
 plus-told : (p : ℤ) (w : Whole) → natAbs p ≤ 1_000_000 → Told w 22_000_001 → Told (plus p w) 23_000_001
 plus-told p w hp n = (p +ℤ n .0, ap (plus p) (n .1), omega (arith, add-far p (n .0), n .2))
@@ -131,7 +131,7 @@ placed a b v limit h ha hb hv far =
     share-small e =
         let n : a ≡ b → ⊥ = differ a b (omega arith) e in
         rw (whole-share a b v (omega arith) (omega arith) (omega arith))
-        (small-quotient 11 (lit≤ tt) (v -ℤ a) (b -ℤ a) (omega (arith, minus-far v a)) (omega (arith, minus-far b a)) (some-size (b -ℤ a) (λ z. n (no-difference a b z))) (far n))
+        (small-quotient binary64 11 (lit≤ tt) (v -ℤ a) (b -ℤ a) (omega (arith, minus-far v a)) (omega (arith, minus-far b a)) (some-size (b -ℤ a) (λ z. n (no-difference a b z))) (far n))
 
     step : eq fa fb ≡ false → (w : Way) (d : Float) → Small 1 d → Told (plus (limit .0) (steps w farthest d (limit .1 -ℤ limit .0) (share fa fb fv))) 23_000_001
     step e w d s =

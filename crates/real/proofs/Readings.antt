@@ -77,7 +77,7 @@ offset-alike : (x p q : ℤ) → same p q ≡ false → Alike (offset (negℤ x)
 offset-alike x p q n =
     rw (length-neg p x, length-neg p q)
     (div-alike (ofInt binary64 (x -ℤ p)) (ofInt binary64 (q -ℤ p)) (int-alike (x -ℤ p))
-    (int-neg (q -ℤ p) (λ e. true≢false (sym (same-yes p q (no-difference p q e)) ∙ n))))
+    (int-neg binary64 (q -ℤ p) (λ e. true≢false (sym (same-yes p q (no-difference p q e)) ∙ n))))
 
 value-alike : (a b t' t : Float) → Alike t' t → Alike (valueAt (neg a) (neg b) t') (neg (valueAt a b t))
 value-alike a b t' t w =

@@ -8,7 +8,7 @@ use native.Mathlib.Nat.{zero-add, zero-mul, mul-zero, mul-pos}
 use native.Mathlib.Omega.{arith}
 use lib.Dec.{ltb, eqb, eqb·suc-zero}
 use lib.IntN.{ℤ, pos, negsuc, negℤ, natAbs}
-use lib.Ieee.{Float, nan, inf, fin, binary64, up, down, unlike, level, round, neg, sum, add, sub, mul, div, eq, ofInt}
+use lib.Ieee.{Format, prec, Float, nan, inf, fin, binary32, binary64, up, down, unlike, level, round, neg, sum, add, sub, mul, div, eq, ofInt}
 use lib.Ieee.Fits.{up-pos, down-pos}
 use lib.Ieee.Exact.{HasValue}
 use lib.Ieee.Back.{round-whole}
@@ -74,17 +74,18 @@ pub same-through : {A : Type 0} {x y : Float} (f : Float → A) → ((s t : Bool
 same-through f z (inl e) = ap f e
 same-through f z (inr w) = ap f (w .0 .1) ∙ z (w .0 .0) (w .1 .0) ∙ sym (ap f (w .1 .1))
 
-zero-one : (s : Bool) → round binary64 s 0 1 ≡ zeroOf s
+pub zero-one : (f : Format) (s : Bool) → round f s 0 1 ≡ zeroOf s
 unfolding round
-zero-one true = refl
-zero-one false = refl
+zero-one binary32 true = refl
+zero-one binary32 false = refl
+zero-one binary64 true = refl
+zero-one binary64 false = refl
 
-round-zero : (s : Bool) (n d : ℕ) → 0 < d → n ≡ 0 → round binary64 s n d ≡ zeroOf s
-round-zero s n d p e =
-    ap (λ (k : ℕ). round binary64 s k d) e ∙ round-same binary64 s 0 d 0 1 p (omega arith) (simp zero-mul) ∙ zero-one s
+pub round-zero : (f : Format) (s : Bool) (n d : ℕ) → 0 < d → n ≡ 0 → round f s n d ≡ zeroOf s
+round-zero f s n d p e = ap (λ (k : ℕ). round f s k d) e ∙ round-same f s 0 d 0 1 p (omega arith) (simp zero-mul) ∙ zero-one f s
 
 zeros : (s t : Bool) (m n d : ℕ) → 0 < d → m ≡ 0 → n ≡ 0 → Alike (round binary64 s m d) (round binary64 t n d)
-zeros s t m n d p e g = inr ((s, round-zero s m d p e), (t, round-zero t n d p g))
+zeros s t m n d p e g = inr ((s, round-zero binary64 s m d p e), (t, round-zero binary64 t n d p g))
 
 neg-zero : (s : Bool) → neg (zeroOf s) ≡ zeroOf (not s)
 unfolding neg
@@ -117,7 +118,7 @@ minus-plus a b c p = go (ltb a b) (ltb b a) refl refl
     go false true h k = inl (round-neg binary64 true (a - b) c)
     go false false h k =
         let e : a ≡ b = omega (arith, ltb-false a b h, ltb-false b a k) in
-        let z : round binary64 false (a - b) c ≡ zeroOf false = round-zero false (a - b) c p (omega arith) in
+        let z : round binary64 false (a - b) c ≡ zeroOf false = round-zero binary64 false (a - b) c p (omega arith) in
         inr (e, z, z)
 
 sum-turns : (s : Bool) (a : ℕ) (t : Bool) (b c : ℕ) → 0 < c
@@ -268,19 +269,19 @@ pub eq-alike : {x' x y' y : Float} → Alike x' x → Alike y' y → eq x' y' �
 eq-alike {x} {y'} v w = same-through (λ (z : Float). eq z y') (eq-left y') v ∙ same-through (eq x) (eq-right x) w
 
 -- ---- whole numbers
-pub int-value : (z : ℤ) → natAbs z ≤ 2 ^ 53 → (s : Bool) × HasValue (ofInt binary64 z) s (natAbs z) 1
+pub int-value : (f : Format) (z : ℤ) → natAbs z ≤ 2 ^ prec f → (s : Bool) × HasValue (ofInt f z) s (natAbs z) 1
 unfolding ofInt
-int-value (pos n) h = (false, round-whole binary64 false n h)
-int-value (negsuc n) h = (true, round-whole binary64 true (suc n) h)
+int-value f (pos n) h = (false, round-whole f false n h)
+int-value f (negsuc n) h = (true, round-whole f true (suc n) h)
 
-pub int-neg : (z : ℤ) → (z ≡ pos 0 → ⊥) → ofInt binary64 (negℤ z) ≡ neg (ofInt binary64 z)
+pub int-neg : (f : Format) (z : ℤ) → (z ≡ pos 0 → ⊥) → ofInt f (negℤ z) ≡ neg (ofInt f z)
 unfolding ofInt
-int-neg (pos zero) h = absurd (h refl)
-int-neg (pos (suc n)) h = round-neg binary64 false (suc n) 1
-int-neg (negsuc n) h = round-neg binary64 true (suc n) 1
+int-neg f (pos zero) h = absurd (h refl)
+int-neg f (pos (suc n)) h = round-neg f false (suc n) 1
+int-neg f (negsuc n) h = round-neg f true (suc n) 1
 
 pub int-alike : (z : ℤ) → Alike (ofInt binary64 (negℤ z)) (neg (ofInt binary64 z))
 unfolding ofInt
-int-alike (pos zero) = inr ((false, zero-one false), (true, ap neg (zero-one false) ∙ neg-zero false))
+int-alike (pos zero) = inr ((false, zero-one binary64 false), (true, ap neg (zero-one binary64 false) ∙ neg-zero false))
 int-alike (pos (suc n)) = inl (round-neg binary64 false (suc n) 1)
 int-alike (negsuc n) = inl (round-neg binary64 true (suc n) 1)

@@ -1,0 +1,4 @@
+pub mod Margin
+pub mod Rules
+pub mod Entries
+pub mod WholeRules

@@ -1,0 +1,201 @@
+-- The margin of a segment: it lies between 0 and the film's length, so that the narrowed limits lie between the film's; and it turns with the
+-- film. Assumes nothing.
+use mathlib.Core.Path.{_≡_, refl, sym, ap, _∙_, subst}
+use mathlib.Core.Bool.{Bool, true, false, cond, not, true≢false}
+use Prim.Native.Nat.{ℕ, zero, suc, _+_, _-_, _*_, _^_, _≤_, _<_}
+use native.Mathlib.Nat.{zero-mul, mul-pos, mul-suc, le-trans}
+use native.Mathlib.Omega.{arith}
+use lib.Dec.{T, eqb, eqb·suc-zero}
+use lib.IntN.{ℤ, pos, negsuc, natAbs, negℤ, _+ℤ_, _-ℤ_, negℤ-negℤ, negℤ-+ℤ, -ℤ-+ℤ-cancel, +ℤ-negℤ-cancel, +ℤ-comm, +ℤ-assoc}
+use lib.Ieee.{Format, prec, Float, nan, inf, fin, binary32, up, down, unlike, round, neg, div, ofInt, inFloat}
+use lib.Ieee.Fits.{down-pos, up-pos}
+use lib.Ieee.Exact.{HasValue}
+use lib.Ieee.Back.{round-whole}
+use mir.Syntax.{w32}
+use mir.Val.{SFits}
+use borrow.Author.Tests.{le-leb, lt-ltb}
+use Rattle.ranged1d.specs.Admitted.{limitAdmitted}
+use Rattle.ranged1d.specs.declared.Limit.{Limit}
+use Rattle.ranged1d.proofs.Whole.{sub-cases, add-far, minus-far, neg-far, quot-far, fits32}
+use Rattle.rounding.specs.Integral.{halves, sized}
+use Rattle.rounding.specs.Within.{wholeOf, roundWithin}
+use Rattle.rounding.specs.declared.Whole.the-variants.{Number}
+use Rattle.rounding.proofs.Laws.{number-is}
+use Rattle.rounding.proofs.Quotients.{sized-le}
+use Rattle.rounding.proofs.Signs.{round-neg, whole-neg}
+use Rattle.real.specs.Mirror.{mirrored}
+use Rattle.real.proofs.Cases.{near-limits}
+use Rattle.real.proofs.Readings.{length-neg}
+use Rattle.real.proofs.Signs.{zeroOf, zero-one, round-zero, int-neg}
+use Rattle.real.proofs.Sizes.{Small, Plus, plus-div, small-quotient, small-told}
+use Rattle.segmented.specs.Segments.{half, shared, margin, narrowed}
+
+-- l ÷ n in f32, and its nearest whole number
+abbrev pub quotient : ℕ → ℤ → Float
+quotient n l = div binary32 (ofInt binary32 l) (ofInt binary32 (pos n))
+
+abbrev shareOf : ℕ → ℤ → ℤ
+shareOf n l = wholeOf halves (quotient n l)
+
+pub margin-is : (n : ℕ) (limit : Limit) → margin n limit ≡ shareOf n (limit .1 -ℤ limit .0)
+unfolding margin shared
+margin-is n limit = refl
+
+-- ---- negation
+unlike-neg : (s t : Bool) → unlike (not s) t ≡ not (unlike s t)
+unlike-neg true true = refl
+unlike-neg true false = refl
+unlike-neg false true = refl
+unlike-neg false false = refl
+
+div-neg : (f : Format) (x y : Float) → div f (neg x) y ≡ neg (div f x y)
+unfolding div neg
+div-neg f nan y = refl
+div-neg f (inf s) nan = refl
+div-neg f (inf s) (inf t) = refl
+div-neg f (inf s) (fin t n d) = ap inf (unlike-neg s t)
+div-neg f (fin s m e) nan = refl
+div-neg f (fin s m e) (inf t) = ap zeroOf (unlike-neg s t)
+div-neg f (fin s m e) (fin t n d) = rw (unlike-neg s t) (go (eqb n 0) (eqb m 0))
+  where
+    u : Bool
+    u = unlike s t
+
+    a : ℕ
+    a = m * up e * down d
+
+    b : ℕ
+    b = n * up d * down e
+
+    go : (x y : Bool) → cond x (cond y nan (inf (not u))) (round f (not u) a b) ≡ neg (cond x (cond y nan (inf u)) (round f u a b))
+    go true true = refl
+    go true false = refl
+    go false y = round-neg f u a b
+
+-- nothing, shared among however many
+zero-whole : (s : Bool) → wholeOf halves (zeroOf s) ≡ pos 0
+unfolding wholeOf
+zero-whole true = refl
+zero-whole false = refl
+
+zero-share : (s : Bool) (y : Float) → wholeOf halves (div binary32 (zeroOf s) y) ≡ pos 0
+unfolding div wholeOf
+zero-share s nan = refl
+zero-share s (inf t) = zero-whole (unlike s t)
+zero-share s (fin t zero d) = refl
+zero-share s (fin t (suc n) d) = rw (eqb·suc-zero n) (ap (wholeOf halves) (round-zero binary32 (unlike s t) (0 * down d) (suc n * up d * 1) (mul-pos (mul-pos (omega arith) (up-pos d)) (omega arith)) (zero-mul (down d))) ∙ zero-whole (unlike s t))
+
+no-share : (n : ℕ) → shareOf n (pos 0) ≡ pos 0
+unfolding ofInt
+no-share n = ap (λ x. wholeOf halves (div binary32 x (ofInt binary32 (pos n)))) (zero-one binary32 false) ∙ zero-share false (ofInt binary32 (pos n))
+
+turned : (n : ℕ) (l : ℤ) → (l ≡ pos 0 → ⊥) → shareOf n (negℤ l) ≡ negℤ (shareOf n l)
+turned n l h =
+    ap (λ x. wholeOf halves (div binary32 x (ofInt binary32 (pos n)))) (int-neg binary32 l h)
+    ∙ ap (wholeOf halves) (div-neg binary32 (ofInt binary32 l) (ofInt binary32 (pos n)))
+    ∙ whole-neg halves (quotient n l)
+
+share-neg : (n : ℕ) (l : ℤ) → shareOf n (negℤ l) ≡ negℤ (shareOf n l)
+share-neg n (pos zero) = no-share n ∙ sym (ap negℤ (no-share n))
+share-neg n (pos (suc k)) = turned n (pos (suc k)) (λ e. omega (arith, ap natAbs e))
+share-neg n (negsuc k) = turned n (negsuc k) (λ e. omega (arith, ap natAbs e))
+
+pub margin-neg : (n : ℕ) (limit : Limit) → margin n (mirrored limit) ≡ negℤ (margin n limit)
+margin-neg n limit =
+    margin-is n (mirrored limit) ∙ ap (shareOf n) (length-neg (limit .0) (limit .1)) ∙ share-neg n (limit .1 -ℤ limit .0) ∙ ap negℤ (sym (margin-is n limit))
+
+-- ---- size: a length of k is shared into parts of at most k
+told : (C : ℕ) (x : Float) → Plus x → Small C x → (j : ℕ) × (wholeOf halves x ≡ pos j) × (j ≤ C)
+unfolding wholeOf
+told C (fin true m e) s v = absurd (true≢false s)
+told C (fin false m e) s v = (sized halves false (m * up e) (down e), refl, sized-le halves false (m * up e) (down e) C (down-pos e) v)
+
+int-plus : (k : ℕ) → k ≤ 16777216 → HasValue (ofInt binary32 (pos k)) false k 1
+unfolding ofInt
+int-plus k h = round-whole binary32 false k h
+
+share-least : (k n : ℕ) → 1 ≤ n → k ≤ k * n
+share-least k (suc n) h = omega (arith, mul-suc k n)
+
+-- a number between p and q is no farther than they are
+pub squeezed : (p : ℤ) (i j b : ℕ) → natAbs p ≤ b → natAbs ((p +ℤ pos i) +ℤ pos j) ≤ b → natAbs (p +ℤ pos i) ≤ b
+squeezed (pos w) i j b hp hq = omega arith
+squeezed (negsuc w) i j b hp hq = sub-cases i (suc w) (λ z. natAbs (z +ℤ pos j) ≤ b → natAbs z ≤ b) (λ l q. omega arith) (λ l q. omega arith) hq
+
+module _ (n : ℕ) (some : 1 ≤ n) (few : n ≤ 16777216) where
+  share-pos : (k : ℕ) → k ≤ 16777216 → (j : ℕ) × (shareOf n (pos k) ≡ pos j) × (j ≤ k)
+  share-pos k h =
+      told k (quotient n (pos k))
+      (plus-div binary32 (ofInt binary32 (pos k)) (ofInt binary32 (pos n)) k n some (int-plus k h) (int-plus n few))
+      (small-quotient binary32 k h (pos k) (pos n) h few some (share-least k n some))
+
+  -- q − margin lies between p and q, l being q − p
+  upward : (p q : ℤ) (k b : ℕ) → q -ℤ p ≡ pos k → k ≤ 16777216 → natAbs p ≤ b → natAbs q ≤ b → natAbs (q -ℤ shareOf n (pos k)) ≤ b
+  upward p q k b e h hp hq =
+      let s = share-pos k h in
+      let j = s .0 in
+      let i = k - j in
+      let whole : q ≡ (p +ℤ pos i) +ℤ pos j =
+      sym (-ℤ-+ℤ-cancel q p) ∙ ap (λ z. z +ℤ p) (e ∙ ap pos (omega (arith, s .2))) ∙ +ℤ-comm (pos (i + j)) p ∙ sym (+ℤ-assoc p (pos i) (pos j)) in
+      let is : q -ℤ shareOf n (pos k) ≡ p +ℤ pos i =
+      ap (λ z. q -ℤ z) (s .1) ∙ ap (λ z. z -ℤ pos j) whole ∙ +ℤ-negℤ-cancel (p +ℤ pos i) (pos j) in
+      rw is (squeezed p i j b hp (subst (λ z. natAbs z ≤ b) whole hq))
+
+  between : (p q l : ℤ) (b : ℕ) → q -ℤ p ≡ l → natAbs l ≤ 16777216 → natAbs p ≤ b → natAbs q ≤ b → natAbs (q -ℤ shareOf n l) ≤ b
+  between p q (pos k) b e h hp hq = upward p q k b e h hp hq
+  between p q (negsuc k) b e h hp hq =
+      let far : natAbs (negℤ q -ℤ shareOf n (pos (suc k))) ≤ b =
+      upward (negℤ p) (negℤ q) (suc k) b (length-neg p q ∙ ap negℤ e) h (rw (neg-far p) hp) (rw (neg-far q) hq) in
+      let is : negℤ (q -ℤ shareOf n (negsuc k)) ≡ negℤ q -ℤ shareOf n (pos (suc k)) =
+      negℤ-+ℤ q (negℤ (shareOf n (negsuc k))) ∙ ap (λ z. negℤ q +ℤ negℤ (negℤ z)) (share-neg n (pos (suc k))) ∙ ap (λ z. negℤ q +ℤ z) (negℤ-negℤ (negℤ (shareOf n (pos (suc k))))) in
+      subst (λ m. m ≤ b) (ap natAbs (sym is) ∙ neg-far (q -ℤ shareOf n (negsuc k))) far
+
+  share-small : (l : ℤ) → natAbs l ≤ 16777216 → natAbs (shareOf n l) ≤ natAbs l
+  share-small (pos k) h = let s = share-pos k h in rw (s .1) (s .2)
+  share-small (negsuc k) h = let s = share-pos (suc k) h in rw (share-neg n (pos (suc k)), s .1, neg-far (pos (s .0))) (s .2)
+
+  -- what the code's rounding within 2,000,000 gives
+  pub share-told : (l : ℤ) → natAbs l ≤ 2000000 → roundWithin 2000000 (quotient n l) ≡ Number (shared n l)
+  unfolding shared
+  share-told l h =
+      let t = small-told halves 2000000 (natAbs l) (quotient n l) h
+      (small-quotient binary32 (natAbs l) (omega arith) l (pos n) (omega arith) few some (share-least (natAbs l) n some)) in
+      t .1 ∙ ap Number (sym (number-is halves 2000000 (quotient n l) (t .0) (t .1)))
+
+  pub shared-small : (l : ℤ) → natAbs l ≤ 2000000 → natAbs (shared n l) ≤ 2000000
+  unfolding shared
+  shared-small l h = le-trans (share-small l (omega arith)) h
+
+-- what an f32 holds exactly
+pub in-f32 : (z : ℤ) → natAbs z ≤ 16777216 → T (inFloat binary32 z)
+unfolding inFloat
+in-f32 (pos n) h = subst T (sym (le-leb n 16777216 h)) tt
+in-f32 (negsuc n) h = subst T (sym (lt-ltb n 16777216 h)) tt
+
+-- ---- of admitted limits
+module _ (n : ℕ) (limit : Limit) (admitted : limitAdmitted limit ≡ true) where
+  pub length-small : natAbs (limit .1 -ℤ limit .0) ≤ 2000000
+  length-small = let h = near-limits limit admitted in omega (arith, h .0, h .1, minus-far (limit .1) (limit .0))
+
+  pub margin-small : 1 ≤ n → n ≤ 16777216 → natAbs (margin n limit) ≤ 2000000
+  margin-small some few =
+      let h = length-small in
+      rw (margin-is n limit) (le-trans (share-small n some few (limit .1 -ℤ limit .0) (omega arith)) h)
+
+  pub narrowed-admitted : 1 ≤ n → n ≤ 16777216 → limitAdmitted (narrowed n limit) ≡ true
+  narrowed-admitted some few =
+      let h = near-limits limit admitted in
+      let g = length-small in
+      let near : natAbs (limit .1 -ℤ margin n limit) ≤ 1000000 =
+      rw (margin-is n limit) (between n some few (limit .0) (limit .1) (limit .1 -ℤ limit .0) 1000000 refl (omega arith) (h .0) (h .1)) in
+      rw (le-leb (natAbs (limit .0)) 1000000 (h .0), le-leb (natAbs (limit .1 -ℤ margin n limit)) 1000000 near)
+
+-- ---- what fits an i32: the sum of two places, and half of one
+pub sum-near : (x y : ℤ) → natAbs x ≤ 1_001_000_000 → natAbs y ≤ 1_001_000_000 → natAbs (x +ℤ y) ≤ 2_002_000_000
+sum-near x y hx hy = omega (arith, add-far x y, hx, hy)
+
+pub sum-fits : (x y : ℤ) → natAbs x ≤ 1_001_000_000 → natAbs y ≤ 1_001_000_000 → SFits w32 (x +ℤ y)
+sum-fits x y hx hy = fits32 (x +ℤ y) (omega (arith, sum-near x y hx hy))
+
+pub half-fits : (x : ℤ) → natAbs x ≤ 2_002_000_000 → SFits w32 (half x)
+half-fits x h = fits32 (half x) (omega (arith, quot-far x 2, h))

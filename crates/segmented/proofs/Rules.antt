@@ -1,0 +1,430 @@
+-- The rules of the calls, return by return, over any axis, and over a stepped one of either kind of numbers. Assumes nothing.
+use mathlib.Core.Path.{_≡_, refl, sym, ap, _∙_}
+use mathlib.Core.Bool.{Bool, true, false, cond, not, true≢false, _&&_, _||_}
+use mathlib.Core.List.{List, [], _∷_}
+use Prim.Native.Nat.{ℕ, zero, suc, _+_, _≤_, _<_}
+use native.Mathlib.Numerals.{add-one}
+use native.Mathlib.Omega.{arith}
+use borrow.Author.Tests.{eq-eqb, ne-eqb, eqb-true, eqb-false, ltb-true, ltb-false}
+use lib.Dec.{ltb, eqb}
+use lib.IntN.{ℤ, _+ℤ_, _-ℤ_}
+use lib.ListN.{length}
+use lib.Ieee.{Float}
+use Rattle.ranged1d.specs.Answer.{Answer, given, none, refused, Reason, _when_, lowest, written}
+use Rattle.ranged1d.specs.Admitted.{wholeAdmitted, pixelAdmitted, limitAdmitted}
+use Rattle.ranged1d.specs.declared.Limit.{Limit}
+use Rattle.rounding.specs.declared.Whole.{Whole}
+use Rattle.rounding.specs.declared.Whole.the-variants.{Number, Beyond}
+use Rattle.discrete.specs.Index.{indexFor, pixelIndex}
+use Rattle.real.specs.Place.{isBeyond, number, realPlace, wholePlace}
+use Rattle.search.specs.declared.RoundingMethod.{RoundingMethod}
+use Rattle.linspace.specs.List.{Kind, whole, real, stepped, against, tooLong, axisAdmitted, most}
+use Rattle.linspace.specs.Calls.{nth, hasEntries, stepSize, stepFromIndex, stepIndexOf, stepMarks, stepKeyPoints}
+use Rattle.linspace.proofs.Walks.{nth-past}
+use Rattle.linspace.proofs.Marks.{marks-none}
+use Rattle.linspace.proofs.WholeRules.{ends-place}
+use Rattle.segmented.specs.Values.{Segment, exact, centerOf, last}
+use Rattle.segmented.specs.Segments.{Axis, Finder, half, margin, narrowed, start, entryAfter, successor, middle, placed, afterBeyond, tooFar, fitIn, unsoughtPlace, segmentPlace, segmentSize, indexIn, unsoughtIn, segmentIndexOf, exactly, segmentAt, segmentFromIndex, segmentOf, segmentReading, segmentKeyPoints}
+use Rattle.segmented.specs.Axes.{steppedAxis, steppedFinder}
+use Rattle.segmented.specs.Steps.{spotAnswer, countAnswer, Stands, nextAnswer, centerAnswer, placedAnswer}
+use Rattle.segmented.proofs.Margin.{narrowed-admitted}
+
+-- ---- answers
+pub one-refusal : {A B : Type 0} {m n : ℕ} → _≡_ {A = Answer A} (refused m) (refused n) → _≡_ {A = Answer B} (refused m) (refused n)
+one-refusal {m = m} {n = n} e = let s : m ≡ n = cc in ap refused s
+
+pub given-is : {A : Type 0} {x y : A} → _≡_ {A = Answer A} (given x) (given y) → x ≡ y
+given-is e = cc
+
+pub not-both : {A : Type 0} {x : A} {n : ℕ} → _≡_ {A = Answer A} (given x) (refused n) → ⊥
+not-both e = let z : _≡_ {A = ℕ} 0 1 = cc in omega (arith, z)
+
+pub not-none : {A : Type 0} {x : A} → _≡_ {A = Answer A} none (given x) → ⊥
+not-none e = let z : _≡_ {A = ℕ} 0 1 = cc in omega (arith, z)
+
+and-no : (x y : Bool) → y ≡ false → (x && y) ≡ false
+and-no true y e = e
+and-no false y e = refl
+
+pub both-left : (x y : Bool) → (x && y) ≡ true → x ≡ true
+both-left true y e = refl
+both-left false y e = e
+
+pub both-right : (x y : Bool) → (x && y) ≡ true → y ≡ true
+both-right true y e = e
+both-right false y e = absurd (true≢false (sym e))
+
+-- ---- why there are no segments: u and z are 6 and 7, w that there are no entries or too many
+abbrev counting : {B : Type 0} → Bool → Bool → Bool → List Reason → Answer B → Answer B
+counting u z w rest r = lowest (4 when (not (u || z) && w) ∷ 6 when u ∷ 7 when z ∷ rest) r
+
+stopped : {B C : Type 0} (u z w : Bool) (rest : List Reason) (r : Answer B) (x : C) {n : ℕ} → counting u z w [] (given x) ≡ refused n → counting u z w rest r ≡ refused n
+stopped true z w rest r x e = one-refusal e
+stopped false true w rest r x e = one-refusal e
+stopped false false true rest r x e = one-refusal e
+stopped false false false rest r x e = absurd (not-both e)
+
+-- the same with 5 between them
+stopped-far : {B C : Type 0} (u z w f : Bool) (rest : List Reason) (r : Answer B) (x : C) {n : ℕ} → counting u z w [] (given x) ≡ refused n
+    → lowest (4 when (not (u || z) && w) ∷ 5 when (not (u || z) && f) ∷ 6 when u ∷ 7 when z ∷ rest) r ≡ refused n
+stopped-far true z w f rest r x e = one-refusal e
+stopped-far false true w f rest r x e = one-refusal e
+stopped-far false false true f rest r x e = one-refusal e
+stopped-far false false false f rest r x e = absurd (not-both e)
+
+-- ---- places that are looked for
+pub spot-number : (w : Whole) {z : ℤ} → spotAnswer w ≡ given z → w ≡ Number z
+spot-number (Number y) e = ap Number (given-is e)
+spot-number Beyond e = absurd (not-both (sym e))
+
+spot-refused : {B : Type 0} (w : Whole) (r : Answer B) {n : ℕ} → spotAnswer w ≡ refused n → refused n ≡ lowest (5 when isBeyond w ∷ []) r
+spot-refused (Number y) r e = absurd (not-both e)
+spot-refused Beyond r e = sym (one-refusal e)
+
+module _ {A : Type 0} (axis : Axis A) where
+  abbrev w : Bool
+  w = eqb (axis .count) 0 || axis .tooMany
+
+  counts-are : axis .admitted ≡ true → countAnswer axis ≡ counting (axis .against) (axis .tooLong) w [] (given (axis .count))
+  unfolding countAnswer
+  counts-are h = rw h refl
+
+  -- ---- what is known of a count
+  pub stands : (axis .tooMany ≡ false → axis .tooLong ≡ false → axis .count ≤ 16_777_216) → {n : ℕ} → countAnswer axis ≡ given n → Stands axis n
+  unfolding countAnswer
+  stands few {n} = go (axis .admitted) refl (axis .against) refl (axis .tooLong) refl (eqb (axis .count) 0) refl (axis .tooMany) refl
+    where
+      go : (t : Bool) → axis .admitted ≡ t → (u : Bool) → axis .against ≡ u → (z : Bool) → axis .tooLong ≡ z → (o : Bool) → eqb (axis .count) 0 ≡ o → (y : Bool) → axis .tooMany ≡ y
+          → lowest (1 when not t ∷ 4 when (not (u || z) && (o || y)) ∷ 6 when u ∷ 7 when z ∷ []) (given (axis .count)) ≡ given n → Stands axis n
+      go false ht u hu z hz o ho y hy e = absurd (not-both (sym e))
+      go true ht true hu z hz o ho y hy e = absurd (not-both (sym e))
+      go true ht false hu true hz o ho y hy e = absurd (not-both (sym e))
+      go true ht false hu false hz true ho y hy e = absurd (not-both (sym e))
+      go true ht false hu false hz false ho true hy e = absurd (not-both (sym e))
+      go true ht false hu false hz false ho false hy e =
+          let s : axis .count ≡ n = given-is e in
+          record { admitted = ht; onward = hu; short = hz; few = hy; count = s; some = omega (arith, eqb-false (axis .count) 0 ho, s); most = omega (arith, few hy hz, s) }
+
+  module _ {n : ℕ} (k : Stands axis n) where
+    pub some-entries : eqb (axis .count) 0 ≡ false
+    some-entries = ne-eqb (axis .count) 0 (λ e. omega (arith, k .some, k .count, e))
+
+    pub count-again : given n ≡ countAnswer axis
+    unfolding countAnswer
+    count-again = rw (k .admitted, k .onward, k .short, some-entries, k .few) (ap given (sym (k .count)))
+
+  -- ---- `size`
+  pub size-stopped : {n : ℕ} → countAnswer axis ≡ refused n → refused n ≡ segmentSize axis
+  unfolding countAnswer segmentSize
+  size-stopped {n} = go (axis .admitted)
+    where
+      go : (t : Bool) → lowest (1 when not t ∷ []) (counting (axis .against) (axis .tooLong) w [] (given (axis .count))) ≡ refused n
+          → refused n ≡ lowest (1 when not t ∷ []) (counting (axis .against) (axis .tooLong) w [] (given (suc (axis .count))))
+      go false e = sym e
+      go true e = sym (stopped (axis .against) (axis .tooLong) w [] (given (suc (axis .count))) (axis .count) e)
+
+  pub size-is : {n : ℕ} → Stands axis n → given (n + 1) ≡ segmentSize axis
+  unfolding segmentSize
+  size-is {n} k = rw (k .admitted, k .onward, k .short, some-entries k, k .few, k .count) (ap given (add-one n))
+
+  -- ---- `map`
+  module _ (find : Finder A) (s : Segment A) (limit : Limit) where
+    pub place-unfit : (axis .admitted && fitIn axis s) ≡ false → refused 1 ≡ segmentPlace axis find s limit
+    unfolding segmentPlace
+    place-unfit h = rw h refl
+
+    module _ (h : (axis .admitted && fitIn axis s) ≡ true) where
+      pub place-unlimited : limitAdmitted limit ≡ false → refused 2 ≡ segmentPlace axis find s limit
+      unfolding segmentPlace
+      place-unlimited l = rw (h, l) refl
+
+      module _ (l : limitAdmitted limit ≡ true) where
+        pub place-stopped : axis .admitted ≡ true → {n : ℕ} → countAnswer axis ≡ refused n → refused n ≡ segmentPlace axis find s limit
+        unfolding segmentPlace
+        place-stopped t e = rw (h, l) (sym (stopped-far (axis .against) (axis .tooLong) w (tooFar axis find s limit) (9 when unsoughtPlace axis find s ∷ []) (placed axis find s limit) (axis .count) (sym (counts-are t) ∙ e)))
+
+        pub place-is : {n : ℕ} → Stands axis n → placedAnswer axis find s limit ≡ segmentPlace axis find s limit
+        unfolding segmentPlace placedAnswer
+        place-is k = rw (h, l, k .onward, k .short, some-entries k, k .few) refl
+
+  -- ---- a place on an axis with segments
+  module _ (find : Finder A) (limit : Limit) where
+    pub placed-exact : (v : A) → spotAnswer (start axis v limit) ≡ placedAnswer axis find (exact v) limit
+    unfolding placedAnswer
+    placed-exact v = refl
+
+    pub placed-last : given (limit .1) ≡ placedAnswer axis find last limit
+    unfolding placedAnswer
+    placed-last = refl
+
+    pub placed-far : (v : A) {n : ℕ} → spotAnswer (start axis v limit) ≡ refused n → refused n ≡ placedAnswer axis find (centerOf v) limit
+    unfolding placedAnswer
+    placed-far v {n} = go (start axis v limit) (afterBeyond axis limit (successor axis find v)) _
+      where
+        go : (x : Whole) (f : Bool) (r : Answer ℤ) → spotAnswer x ≡ refused n → refused n ≡ cond (isBeyond x || f) (refused 5) r
+        go (Number y) f r e = absurd (not-both e)
+        go Beyond f r e = sym e
+
+    pub placed-center : (v : A) {z : ℤ} → start axis v limit ≡ Number z → centerAnswer axis find v limit ≡ placedAnswer axis find (centerOf v) limit
+    unfolding placedAnswer centerAnswer
+    placed-center v e = rw e refl
+
+    -- ---- the middle of a segment, by what the successor is
+    abbrev centerOn : A → Answer A → Answer ℤ
+    centerOn v r = lowest (5 when afterBeyond axis limit r ∷ []) (middle axis v limit r)
+
+    module _ (v : A) where
+      center-is : centerOn v (nextAnswer axis find v) ≡ centerAnswer axis find v limit
+      unfolding nextAnswer centerAnswer
+      center-is = go (find .unsought v)
+        where
+          go : (t : Bool) → centerOn v (cond t (refused 9) (cond t none (entryAfter axis (find .index v))))
+              ≡ cond (afterBeyond axis limit (cond t none (entryAfter axis (find .index v)))) (refused 5) (cond t (refused 9) (middle axis v limit (cond t none (entryAfter axis (find .index v)))))
+          go true = refl
+          go false = refl
+
+      module _ {z : ℤ} (left : start axis v limit ≡ Number z) where
+        pub center-refused : {n : ℕ} → nextAnswer axis find v ≡ refused n → refused n ≡ centerAnswer axis find v limit
+        center-refused e = sym (ap (centerOn v) e) ∙ center-is
+
+        pub center-alone : nextAnswer axis find v ≡ none → given (z +ℤ half (margin (axis .count) limit)) ≡ centerAnswer axis find v limit
+        center-alone e = rw left at (sym (ap (centerOn v) e) ∙ center-is)
+
+        module _ (right : A) (e : nextAnswer axis find v ≡ given right) where
+          pub center-far : {n : ℕ} → spotAnswer (start axis right limit) ≡ refused n → refused n ≡ centerAnswer axis find v limit
+          center-far f = spot-refused (start axis right limit) _ f ∙ sym (ap (centerOn v) e) ∙ center-is
+
+          pub center-between : {y : ℤ} → spotAnswer (start axis right limit) ≡ given y → given (half (z +ℤ y)) ≡ centerAnswer axis find v limit
+          center-between f = rw (left, spot-number (start axis right limit) f) at (sym (ap (centerOn v) e) ∙ center-is)
+
+  -- ---- `index_of`
+  module _ (find : Finder A) (s : Segment A) where
+    pub index-unfit : fitIn axis s ≡ false → refused 1 ≡ segmentIndexOf axis find s
+    unfolding segmentIndexOf
+    index-unfit h = rw (and-no (axis .admitted) (fitIn axis s) h) refl
+
+    pub index-stopped : fitIn axis s ≡ true → {n : ℕ} → countAnswer axis ≡ refused n → refused n ≡ segmentIndexOf axis find s
+    unfolding countAnswer segmentIndexOf
+    index-stopped h {n} = rw h (go (axis .admitted))
+      where
+        go : (t : Bool) → lowest (1 when not t ∷ []) (counting (axis .against) (axis .tooLong) w [] (given (axis .count))) ≡ refused n
+            → refused n ≡ lowest (1 when not (t && true) ∷ []) (counting (axis .against) (axis .tooLong) w (9 when unsoughtIn axis find s ∷ []) (indexIn axis find s))
+        go false e = sym e
+        go true e = sym (stopped (axis .against) (axis .tooLong) w (9 when unsoughtIn axis find s ∷ []) (indexIn axis find s) (axis .count) e)
+
+  module _ (find : Finder A) where
+    pub index-last : {n : ℕ} → Stands axis n → given n ≡ segmentIndexOf axis find last
+    unfolding segmentIndexOf
+    index-last k = rw (k .admitted, k .onward, k .short, some-entries k, k .few) (ap given (sym (k .count)))
+
+    pub index-center : (v : A) → segmentIndexOf axis find (exact v) ≡ segmentIndexOf axis find (centerOf v)
+    unfolding segmentIndexOf
+    index-center v = refl
+
+  -- ---- `from_index`
+  pub last-at : {n : ℕ} → Stands axis n → (k : ℕ) → k ≡ n → given last ≡ segmentAt axis k
+  unfolding segmentAt
+  last-at s k e = rw (eq-eqb k (axis .count) (e ∙ sym (s .count))) refl
+
+  pub exact-at : {n : ℕ} → Stands axis n → (k : ℕ) → (k ≡ n → ⊥) → {r : Answer A} → axis .entry k ≡ r → exactly axis r ≡ segmentAt axis k
+  unfolding segmentAt
+  exact-at s k d e = rw (ne-eqb k (axis .count) (λ h. d (h ∙ s .count))) (sym (ap (exactly axis) e))
+
+  pub from-stopped : (k : ℕ) {n : ℕ} → countAnswer axis ≡ refused n → refused n ≡ segmentFromIndex axis k
+  unfolding countAnswer segmentFromIndex
+  from-stopped k {n} = go (axis .admitted)
+    where
+      go : (t : Bool) → lowest (1 when not t ∷ []) (counting (axis .against) (axis .tooLong) w [] (given (axis .count))) ≡ refused n
+          → refused n ≡ lowest (1 when not t ∷ []) (counting (axis .against) (axis .tooLong) w [] (segmentAt axis k))
+      go false e = one-refusal (sym e)
+      go true e = sym (stopped (axis .against) (axis .tooLong) w [] (segmentAt axis k) (axis .count) e)
+
+  pub from-is : (k : ℕ) {n : ℕ} → Stands axis n → segmentAt axis k ≡ segmentFromIndex axis k
+  unfolding segmentFromIndex
+  from-is k s = rw (s .admitted, s .onward, s .short, some-entries s, s .few) refl
+
+  -- ---- `unmap`
+  module _ (x : ℤ) (limit : Limit) where
+    pub reading-unfit : axis .admitted ≡ false → refused 1 ≡ segmentReading axis x limit
+    unfolding segmentReading
+    reading-unfit h = rw h refl
+
+    module _ (h : axis .admitted ≡ true) where
+      pub reading-off : pixelAdmitted x ≡ false → refused 2 ≡ segmentReading axis x limit
+      unfolding segmentReading
+      reading-off p = rw (h, p) refl
+
+      module _ (p : pixelAdmitted x ≡ true) where
+        pub reading-unlimited : limitAdmitted limit ≡ false → refused 2 ≡ segmentReading axis x limit
+        unfolding segmentReading
+        reading-unlimited l = rw (h, p, l) refl
+
+        module _ (l : limitAdmitted limit ≡ true) where
+          abbrev readAt : Answer (Segment A)
+          readAt = segmentOf axis (indexFor (x -ℤ limit .0) (limit .1 -ℤ limit .0) (suc (axis .count)))
+
+          reading-tests : segmentReading axis x limit ≡ counting (axis .against) (axis .tooLong) w [] readAt
+          unfolding segmentReading
+          reading-tests = rw (h, p, l) refl
+
+          pub reading-stopped : {n : ℕ} → countAnswer axis ≡ refused n → refused n ≡ segmentReading axis x limit
+          reading-stopped e = sym (reading-tests ∙ stopped (axis .against) (axis .tooLong) w [] readAt (axis .count) (sym (counts-are h) ∙ e))
+
+          reading-by : {n : ℕ} → Stands axis n → segmentReading axis x limit ≡ readAt
+          unfolding segmentReading
+          reading-by s = rw (h, p, l, s .onward, s .short, some-entries s, s .few) refl
+
+          index-by : (n : ℕ) {r : Answer ℕ} → pixelIndex x limit (n + 1) ≡ r → indexFor (x -ℤ limit .0) (limit .1 -ℤ limit .0) (suc n) ≡ r
+          unfolding pixelIndex
+          index-by n e = rw (p, l, add-one n) at e
+
+          pub reading-is : {n : ℕ} → Stands axis n → {r : Answer ℕ} → pixelIndex x limit (n + 1) ≡ r → segmentOf axis r ≡ segmentReading axis x limit
+          reading-is {n} s e = sym (reading-by s ∙ ap (segmentOf axis) (ap (λ (k : ℕ). indexFor (x -ℤ limit .0) (limit .1 -ℤ limit .0) (suc k)) (s .count) ∙ index-by n e))
+
+-- ---- stepped axes
+module _ {A : Type 0} (kind : Kind A) (a b d : A) where
+  abbrev steps : Axis A
+  steps = steppedAxis kind a b d
+
+  -- a list that is not too long is short enough
+  pub few-enough : steps .tooMany ≡ false → steps .tooLong ≡ false → steps .count ≤ 16_777_216
+  few-enough f z = omega (arith, ltb-false most (length (stepped kind a b d)) z)
+
+  pub stepped-stands : {n : ℕ} → countAnswer steps ≡ given n → Stands steps n
+  stepped-stands e = stands steps few-enough e
+
+  -- ---- the count, from that of the list
+  abbrev countOn : Bool → Answer ℕ → Answer ℕ
+  countOn o (given n) = cond o (refused 4) (given n)
+  countOn o none = none
+  countOn o (refused n) = refused n
+
+  count-on : countAnswer steps ≡ countOn (eqb (length (stepped kind a b d)) 0) (stepSize kind a b d)
+  unfolding countAnswer stepSize
+  count-on = go (axisAdmitted kind a b d) (against kind a b d) (tooLong kind a b d) (eqb (length (stepped kind a b d)) 0)
+    where
+      go : (t u z o : Bool) → lowest (1 when not t ∷ 4 when (not (u || z) && (o || false)) ∷ 6 when u ∷ 7 when z ∷ []) (given (length (stepped kind a b d)))
+          ≡ countOn o (lowest (1 when not t ∷ 6 when u ∷ 7 when z ∷ []) (given (length (stepped kind a b d))))
+      go false u z o = refl
+      go true true z o = refl
+      go true false true o = refl
+      go true false false true = refl
+      go true false false false = refl
+
+  size-length : {n : ℕ} → stepSize kind a b d ≡ given n → length (stepped kind a b d) ≡ n
+  unfolding stepSize
+  size-length {n} = go (axisAdmitted kind a b d) (against kind a b d) (tooLong kind a b d)
+    where
+      go : (t u z : Bool) → lowest (1 when not t ∷ 6 when u ∷ 7 when z ∷ []) (given (length (stepped kind a b d))) ≡ given n → length (stepped kind a b d) ≡ n
+      go false u z e = absurd (not-both (sym e))
+      go true true z e = absurd (not-both (sym e))
+      go true false true e = absurd (not-both (sym e))
+      go true false false e = given-is e
+
+  pub count-refused : {n : ℕ} → stepSize kind a b d ≡ refused n → refused n ≡ countAnswer steps
+  count-refused e = sym (count-on ∙ ap (countOn _) e)
+
+  pub count-none : {n : ℕ} → stepSize kind a b d ≡ given n → n ≡ 0 → refused 4 ≡ countAnswer steps
+  count-none e z = sym (count-on ∙ ap (countOn _) e ∙ rw (eq-eqb (length (stepped kind a b d)) 0 (size-length e ∙ z)) refl)
+
+  pub count-some : {n : ℕ} → stepSize kind a b d ≡ given n → (n ≡ 0 → ⊥) → given n ≡ countAnswer steps
+  count-some e z = sym (count-on ∙ ap (countOn _) e ∙ rw (ne-eqb (length (stepped kind a b d)) 0 (λ h. z (sym (size-length e) ∙ h))) refl)
+
+  -- ---- entries
+  module _ {n : ℕ} (s : Stands steps n) where
+    pub entry-is : (k : ℕ) → stepFromIndex kind a b d k ≡ steps .entry k
+    unfolding stepFromIndex
+    entry-is k = rw (s .admitted, s .onward, s .short) refl
+
+    pub entry-past : (k : ℕ) → n ≤ k → steps .entry (suc k) ≡ none
+    entry-past k l = nth-past (stepped kind a b d) (suc k) (omega (arith, l, s .count))
+
+    -- ---- searches
+    module _ (method : RoundingMethod) (v : A) (h : kind .admitted v ≡ true) where
+      pub index-is : stepIndexOf kind a b d v method ≡ segmentIndexOf steps (steppedFinder kind a b d method) (exact v)
+      unfolding stepIndexOf segmentIndexOf
+      index-is = rw (s .admitted, s .onward, s .short, h, some-entries steps s) refl
+
+      pub next-is : {r : Answer ℕ} → stepIndexOf kind a b d v method ≡ r → entryAfter steps r ≡ nextAnswer steps (steppedFinder kind a b d method) v
+      unfolding stepIndexOf nextAnswer
+      next-is e =
+          sym (ap (entryAfter steps) e)
+          ∙ rw (s .admitted, s .onward, s .short, h) (go (steppedFinder kind a b d method .unsought v) (steppedFinder kind a b d method .index v))
+        where
+          go : (t : Bool) (f : Answer ℕ) → entryAfter steps (cond t (refused 9) f) ≡ cond t (refused 9) (cond t none (entryAfter steps f))
+          go true f = refl
+          go false f = refl
+
+  -- ---- `key_points`
+  module _ (m : ℕ) (old : List A) where
+    abbrev marked : List A
+    marked = stepMarks kind a b d m
+
+    abbrev segmentMarks : Answer ℕ × List A
+    segmentMarks = segmentKeyPoints steps (length marked) m old
+
+    no-marks : length (stepped kind a b d) ≡ 0 → marked ≡ []
+    no-marks e = marks-none (kind .nil) (stepped kind a b d) m e
+
+    -- memory too short for the marks is so for an axis with entries
+    short-some : ltb (length old) (length marked) ≡ true → eqb (length (stepped kind a b d)) 0 ≡ false
+    short-some h = ne-eqb (length (stepped kind a b d)) 0 (λ e. omega (arith, ltb-true (length old) (length marked) h, ap length (no-marks e)))
+
+    abbrev by : Bool → Bool → Bool → Bool → Bool → Bool → Answer ℕ
+    by t y u z f o = lowest (1 when not t ∷ 3 when y ∷ 4 when (not (u || z) && (o || false)) ∷ 6 when u ∷ 7 when z ∷ 13 when f ∷ []) (given (length marked))
+
+    abbrev below : Bool → Bool → Bool → Bool → Bool → Answer ℕ
+    below t y u z f = lowest (1 when not t ∷ 3 when y ∷ 6 when u ∷ 7 when z ∷ 13 when f ∷ []) (given (length marked))
+
+    pub points-refused : {n : ℕ} {new : List A} → stepKeyPoints kind a b d m old ≡ (refused n, new) → (refused n, new) ≡ segmentMarks
+    unfolding stepKeyPoints segmentKeyPoints
+    points-refused {n} {new} e =
+        sym e ∙ ap (λ (r : Answer ℕ). written r marked old)
+        (go (axisAdmitted kind a b d) (eqb m 0 && hasEntries (stepped kind a b d)) (against kind a b d) (tooLong kind a b d) (ltb (length old) (length marked)) refl (ap (λ p. p .0) e))
+      where
+        go : (t y u z f : Bool) → ltb (length old) (length marked) ≡ f → below t y u z f ≡ refused n → below t y u z f ≡ by t y u z f (eqb (length (stepped kind a b d)) 0)
+        go false y u z f h r = refl
+        go true true u z f h r = refl
+        go true false true z f h r = refl
+        go true false false true f h r = refl
+        go true false false false true h r = rw (short-some h) refl
+        go true false false false false h r = absurd (not-both r)
+
+    pub points-is : {k : ℕ} → Stands steps k → stepKeyPoints kind a b d m old ≡ segmentMarks
+    unfolding stepKeyPoints segmentKeyPoints
+    points-is s = rw (s .admitted, s .onward, s .short, some-entries steps s) refl
+
+    pub points-stopped : {n k : ℕ} {new : List A} → stepKeyPoints kind a b d m old ≡ (given k, new) → countAnswer steps ≡ refused n → (refused n, new) ≡ segmentMarks
+    unfolding stepKeyPoints segmentKeyPoints countAnswer
+    points-stopped {n} {k} {new} e =
+        go (axisAdmitted kind a b d) (eqb m 0 && hasEntries (stepped kind a b d)) (against kind a b d) (tooLong kind a b d) (ltb (length old) (length marked)) (eqb (length (stepped kind a b d)) 0) refl e
+      where
+        go : (t y u z f o : Bool) → eqb (length (stepped kind a b d)) 0 ≡ o → written (below t y u z f) marked old ≡ (given k, new)
+            → lowest (1 when not t ∷ 4 when (not (u || z) && (o || false)) ∷ 6 when u ∷ 7 when z ∷ []) (given (length (stepped kind a b d))) ≡ refused n
+            → (refused n, new) ≡ written (by t y u z f o) marked old
+        go false y u z f o h p c = absurd (not-both (sym (ap (λ q. q .0) p)))
+        go true true u z f o h p c = absurd (not-both (sym (ap (λ q. q .0) p)))
+        go true false true z f o h p c = absurd (not-both (sym (ap (λ q. q .0) p)))
+        go true false false true f o h p c = absurd (not-both (sym (ap (λ q. q .0) p)))
+        go true false false false true o h p c = absurd (not-both (sym (ap (λ q. q .0) p)))
+        go true false false false false false h p c = absurd (not-both c)
+        go true false false false false true h p c =
+            let kept : new ≡ old = sym (ap (λ q. q .1) p) ∙ rw (no-marks (eqb-true (length (stepped kind a b d)) 0 h)) refl in
+            ap (λ (l : List A). (refused n, l)) kept ∙ ap (λ (r : Answer ℕ). (r, old)) (sym c)
+
+-- ---- every real is admitted
+pub every-real : (a b d : Float) (s : Segment Float) → (axisAdmitted real a b d && fitIn (steppedAxis real a b d) s) ≡ true
+every-real a b d (exact v) = refl
+every-real a b d (centerOf v) = refl
+every-real a b d last = refl
+
+-- ---- the place where a segment begins, by the ends alone
+pub real-begins : (a b d : Float) {n : ℕ} → Stands (steppedAxis real a b d) n → (v : Float) (limit : Limit) → limitAdmitted limit ≡ true → {l : Limit} → l ≡ narrowed n limit
+    → realPlace a b v l ≡ spotAnswer (start (steppedAxis real a b d) v limit)
+unfolding realPlace
+real-begins a b d {n} s v limit h e = rw (e, narrowed-admitted n limit h (s .some) (s .most), s .count) refl
+
+pub whole-begins : (a b d : ℤ) {n : ℕ} → Stands (steppedAxis whole a b d) n → (v : ℤ) → wholeAdmitted v ≡ true → (limit : Limit) → limitAdmitted limit ≡ true → {l : Limit} → l ≡ narrowed n limit
+    → wholePlace a b v l ≡ spotAnswer (start (steppedAxis whole a b d) v limit)
+whole-begins a b d {n} s v hv limit h {l} e =
+    ends-place a b d (s .admitted) v l ∙ rw (e, hv, narrowed-admitted n limit h (s .some) (s .most), s .count) refl

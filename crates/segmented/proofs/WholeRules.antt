@@ -1,0 +1,192 @@
+-- What is known of segments over a whole axis: its count, its entries and their places, and what its calls answer. Assumes nothing.
+use mathlib.Core.Path.{_≡_, refl, sym, ap, _∙_, subst}
+use mathlib.Core.Bool.{Bool, true, false, cond, not, _&&_, _||_}
+use mathlib.Core.List.{List, [], _∷_}
+use Prim.Native.Nat.{ℕ, zero, suc, _+_, _-_, _≤_, _<_}
+use native.Mathlib.Decide.{decLt}
+use native.Mathlib.Numerals.{add-one}
+use native.Mathlib.Omega.{arith}
+use borrow.Author.Tests.{eq-eqb, ne-eqb, ltb-true, ltb-false, lt-ltb, le-ltb, le-leb, leb-true}
+use lib.Dec.{T, ltb, eqb}
+use lib.IntN.{ℤ, pos, negsuc, natAbs, _+ℤ_, _-ℤ_, +ℤ-comm, +ℤ-assoc, -ℤ-+ℤ-cancel}
+use lib.ListN.{length}
+use lib.Signed.{ltZ, leZ, nonNeg}
+use lib.Ieee.{binary64, ofInt}
+use Rattle.ranged1d.specs.Answer.{Answer, given, none, refused, _when_, lowest, written}
+use Rattle.ranged1d.specs.Admitted.{wholeAdmitted, limitAdmitted}
+use Rattle.ranged1d.specs.declared.Limit.{Limit}
+use Rattle.rounding.specs.declared.Whole.{Whole}
+use Rattle.rounding.specs.declared.Whole.the-variants.{Number}
+use Rattle.real.specs.Place.{wholePlace, number}
+use Rattle.real.proofs.Placed.{spot-near}
+use Rattle.ranged1d.proofs.Whole.{ordered, not-lt}
+use Rattle.numeric.specs.declared.KeyPoints.{KeyPoints}
+use Rattle.numeric.specs.Marks.{marks, stepOf, noStep}
+use Rattle.numeric.specs.Calls.{planOf, wholePlan, wholeKeyPoints}
+use Rattle.numeric.specs.Whole.{countOf, endsAdmitted, wholeSize, wholeIndexOf}
+use Rattle.segmented.specs.Values.{Segment, exact}
+use Rattle.segmented.specs.Segments.{Axis, narrowed, start, segmentAt, segmentIndexOf, segmentKeyPoints}
+use Rattle.segmented.specs.Axes.{wholeAxis, wholeFinder}
+use Rattle.segmented.specs.Steps.{spotAnswer, countAnswer, Stands, nextAnswer}
+use Rattle.segmented.proofs.Margin.{narrowed-admitted, squeezed}
+use Rattle.segmented.proofs.Rules.{given-is, not-both, not-none, one-refusal, both-left, both-right, stands, some-entries, exact-at}
+
+not-negative-is : (z : ℤ) → T (nonNeg z) → pos (natAbs z) ≡ z
+not-negative-is (pos n) t = refl
+not-negative-is (negsuc n) t = absurd t
+
+module _ (a b : ℤ) where
+  abbrev axis : Axis ℤ
+  axis = wholeAxis a b
+
+  pub whole-stands : {n : ℕ} → countAnswer axis ≡ given n → Stands axis n
+  whole-stands e = stands axis (λ f z. ltb-false 16_777_216 (countOf a b) f) e
+
+  -- ---- the count
+  size-tests : countAnswer axis ≡ lowest (1 when not (endsAdmitted a b) ∷ 4 when (eqb (countOf a b) 0 || ltb 16_777_216 (countOf a b)) ∷ []) (given (countOf a b))
+  unfolding countAnswer
+  size-tests = refl
+
+  pub count-refused : {n : ℕ} → wholeSize a b ≡ refused n → refused n ≡ countAnswer axis
+  unfolding wholeSize
+  count-refused {n} e = go (endsAdmitted a b) e ∙ sym size-tests
+    where
+      go : (t : Bool) → lowest (1 when not t ∷ []) (given (countOf a b)) ≡ refused n
+          → refused n ≡ lowest (1 when not t ∷ 4 when (eqb (countOf a b) 0 || ltb 16_777_216 (countOf a b)) ∷ []) (given (countOf a b))
+      go false e = sym e
+      go true e = absurd (not-both e)
+
+  module _ {n : ℕ} (e : wholeSize a b ≡ given n) where
+    counted : (endsAdmitted a b ≡ true) × (countOf a b ≡ n)
+    unfolding wholeSize
+    counted = go (endsAdmitted a b) refl e
+      where
+        go : (t : Bool) → endsAdmitted a b ≡ t → lowest (1 when not t ∷ []) (given (countOf a b)) ≡ given n → (endsAdmitted a b ≡ true) × (countOf a b ≡ n)
+        go false h e = absurd (not-both (sym e))
+        go true h e = (h, given-is e)
+
+    pub count-none : n ≡ 0 → refused 4 ≡ countAnswer axis
+    count-none z = sym (size-tests ∙ rw (counted .0, eq-eqb (countOf a b) 0 (counted .1 ∙ z)) refl)
+
+    module _ (some : n ≡ 0 → ⊥) where
+      there : eqb (countOf a b) 0 ≡ false
+      there = ne-eqb (countOf a b) 0 (λ z. some (sym (counted .1) ∙ z))
+
+      pub count-many : 16_777_216 < n → refused 4 ≡ countAnswer axis
+      count-many l = sym (size-tests ∙ rw (counted .0, there, lt-ltb 16_777_216 (countOf a b) (omega (arith, l, counted .1))) refl)
+
+      pub count-some : n ≤ 16_777_216 → given n ≡ countAnswer axis
+      count-some l = sym (size-tests ∙ rw (counted .0, there, le-ltb 16_777_216 (countOf a b) (omega (arith, l, counted .1))) (ap given (counted .1)))
+
+  module _ {n : ℕ} (s : Stands axis n) where
+    -- ---- places
+    pub begins-is : (v : ℤ) → wholeAdmitted v ≡ true → (limit : Limit) → limitAdmitted limit ≡ true → {l : Limit} → l ≡ narrowed n limit → wholePlace a b v l ≡ spotAnswer (start axis v limit)
+    unfolding wholePlace
+    begins-is v hv limit h e = rw (e, s .admitted, hv, narrowed-admitted n limit h (s .some) (s .most), s .count) refl
+
+    -- ---- entries
+    entry-in : (k : ℕ) → k < n → axis .entry k ≡ given (a +ℤ pos k)
+    entry-in k l = rw (lt-ltb k (countOf a b) (omega (arith, l, s .count))) refl
+
+    entry-out : (k : ℕ) → n ≤ k → axis .entry k ≡ none
+    entry-out k l = rw (le-ltb k (countOf a b) (omega (arith, l, s .count))) refl
+
+    pub segment-in : (k : ℕ) → k < n → given (exact (a +ℤ pos k)) ≡ segmentAt axis k
+    segment-in k l = exact-at axis s k (λ e. omega (arith, e, l)) (entry-in k l)
+
+    pub segment-out : (k : ℕ) → n < k → none ≡ segmentAt axis k
+    segment-out k l = exact-at axis s k (λ e. omega (arith, e, l)) (entry-out k (omega (arith, l)))
+
+    -- ---- the successor of v
+    module _ (v : ℤ) where
+      pub next-before : ltZ v a ≡ true → none ≡ nextAnswer axis (wholeFinder a) v
+      unfolding nextAnswer
+      next-before h = rw h refl
+
+      module _ (h : ltZ v a ≡ false) where
+        next-by : nextAnswer axis (wholeFinder a) v ≡ axis .entry (suc (natAbs (v -ℤ a)))
+        unfolding nextAnswer
+        next-by = rw h refl
+
+        pub next-in : natAbs (v -ℤ a) + 1 < n → given (a +ℤ pos (natAbs (v -ℤ a) + 1)) ≡ nextAnswer axis (wholeFinder a) v
+        next-in l = ap (λ (k : ℕ). given (a +ℤ pos k)) (add-one (natAbs (v -ℤ a))) ∙ sym (next-by ∙ entry-in (suc (natAbs (v -ℤ a))) (omega (arith, l)))
+
+        pub next-out : n ≤ natAbs (v -ℤ a) + 1 → none ≡ nextAnswer axis (wholeFinder a) v
+        next-out l = sym (next-by ∙ entry-out (suc (natAbs (v -ℤ a))) (omega (arith, l)))
+
+    -- a value of the axis lies between its ends
+    rises : ltZ b a ≡ false
+    unfolding countOf
+    rises = go (ltZ b a) refl (s .count)
+      where
+        go : (t : Bool) → ltZ b a ≡ t → cond t 0 (natAbs (b -ℤ a) + 1) ≡ n → ltZ b a ≡ false
+        go true h e = absurd (omega (arith, e, s .some))
+        go false h e = h
+
+    spans : natAbs (b -ℤ a) + 1 ≡ n
+    unfolding countOf
+    spans = rw rises at (s .count)
+
+    far-end : a +ℤ pos (natAbs (b -ℤ a)) ≡ b
+    far-end = +ℤ-comm a (pos (natAbs (b -ℤ a))) ∙ ap (λ z. z +ℤ a) (not-negative-is (b -ℤ a) (ordered a b (not-lt b a rises))) ∙ -ℤ-+ℤ-cancel b a
+
+    pub near-ends : (natAbs a ≤ 1_000_000_000) × (natAbs b ≤ 1_000_000_000)
+    near-ends = (leb-true (natAbs a) 1_000_000_000 (both-left (wholeAdmitted a) (wholeAdmitted b) (s .admitted)), leb-true (natAbs b) 1_000_000_000 (both-right (wholeAdmitted a) (wholeAdmitted b) (s .admitted)))
+
+    pub value-near : (k : ℕ) → k < n → natAbs (a +ℤ pos k) ≤ 1_000_000_000
+    value-near k l =
+        let j = natAbs (b -ℤ a) - k in
+        let all : (a +ℤ pos k) +ℤ pos j ≡ b = +ℤ-assoc a (pos k) (pos j) ∙ ap (λ (i : ℕ). a +ℤ pos i) (omega (arith, l, spans)) ∙ far-end in
+        squeezed a k j 1_000_000_000 (near-ends .0) (rw all (near-ends .1))
+
+    pub next-admitted : (v : ℤ) {w : ℤ} → nextAnswer axis (wholeFinder a) v ≡ given w → wholeAdmitted w ≡ true
+    next-admitted v {w} e = go (ltZ v a) refl (decLt (natAbs (v -ℤ a) + 1) n)
+      where
+        go : (t : Bool) → ltZ v a ≡ t → Dec (natAbs (v -ℤ a) + 1 < n) → wholeAdmitted w ≡ true
+        go true h d = absurd (not-none (next-before v h ∙ e))
+        go false h (yes l) = let is : a +ℤ pos (natAbs (v -ℤ a) + 1) ≡ w = given-is (next-in v h l ∙ e) in
+            le-leb (natAbs w) 1_000_000_000 (omega (arith, ap natAbs is, value-near (natAbs (v -ℤ a) + 1) l))
+        go false h (no l) = absurd (not-none (next-out v h (omega (arith, l)) ∙ e))
+
+    -- ---- `index_of`
+    pub index-is : (v : ℤ) → wholeAdmitted v ≡ true → wholeIndexOf a b v ≡ segmentIndexOf axis (wholeFinder a) (exact v)
+    unfolding wholeIndexOf segmentIndexOf
+    index-is v h = rw (s .admitted, h, some-entries axis s, s .few) refl
+
+  -- ---- `key_points`
+  module _ (m : ℕ) (old : List ℤ) where
+    abbrev told : ℤ × ℕ
+    told = (pos (stepOf a b m), length (marks a b m))
+
+    pub points-refused : {n : ℕ} → wholePlan a b m ≡ refused n → (refused n, old) ≡ segmentKeyPoints axis told m old
+    unfolding wholePlan segmentKeyPoints
+    points-refused {n} = go (endsAdmitted a b) (noStep a b m) _
+      where
+        go : (t y : Bool) (r : Answer (ℤ × ℕ)) → lowest (1 when not t ∷ 3 when y ∷ []) (given (planOf a b m)) ≡ refused n
+            → (refused n, old) ≡ written (lowest (1 when not t ∷ 3 when y ∷ []) r) (marks a b m) old
+        go false y r e = ap (λ (x : Answer (ℤ × ℕ)). (x, old)) (one-refusal (sym e))
+        go true true r e = ap (λ (x : Answer (ℤ × ℕ)). (x, old)) (one-refusal (sym e))
+        go true false r e = absurd (not-both e)
+
+    module _ {p : KeyPoints} (e : wholePlan a b m ≡ given p) where
+      planned : (endsAdmitted a b ≡ true) × (noStep a b m ≡ false)
+      unfolding wholePlan
+      planned = go (endsAdmitted a b) refl (noStep a b m) refl e
+        where
+          go : (t : Bool) → endsAdmitted a b ≡ t → (y : Bool) → noStep a b m ≡ y → lowest (1 when not t ∷ 3 when y ∷ []) (given (planOf a b m)) ≡ given p → (endsAdmitted a b ≡ true) × (noStep a b m ≡ false)
+          go false h y k e = absurd (not-both (sym e))
+          go true h true k e = absurd (not-both (sym e))
+          go true h false k e = (h, k)
+
+      pub points-stopped : {n : ℕ} → countAnswer axis ≡ refused n → (refused n, old) ≡ segmentKeyPoints axis told m old
+      unfolding segmentKeyPoints
+      points-stopped {n} c = rw (planned .0, planned .1) (go (eqb (countOf a b) 0 || ltb 16_777_216 (countOf a b)) (rw (planned .0) at (sym size-tests ∙ c)))
+        where
+          go : (w : Bool) → cond w (refused 4) (given (countOf a b)) ≡ refused n
+              → (refused n, old) ≡ written (cond w (refused 4) (lowest (13 when ltb (length old) (length (marks a b m)) ∷ []) (given told))) (marks a b m) old
+          go true q = ap (λ (x : Answer (ℤ × ℕ)). (x, old)) (one-refusal (sym q))
+          go false q = absurd (not-both q)
+
+      pub points-is : {n : ℕ} → Stands axis n → wholeKeyPoints a b m old ≡ segmentKeyPoints axis told m old
+      unfolding wholeKeyPoints segmentKeyPoints
+      points-is s = rw (s .admitted, planned .1, some-entries axis s, s .few) refl

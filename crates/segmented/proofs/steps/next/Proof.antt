@@ -1,0 +1,95 @@
+-- `segmented::steps::next` meets its contract. Assumes nothing.
+use mathlib.Core.Path.{_≡_, sym, ap, _∙_}
+use lib.IntN.{ℤ}
+use mir.Facts.{toZ-ofZ}
+use native.Mathlib.Omega.{arith}
+use Prim.Native.Nat.{_+_}
+use native.Mathlib.Numerals.{add-one}
+use Rattle.ranged1d.specs.Answer.{none}
+use Rattle.numeric.specs.Whole.{tellIndex}
+use Rattle.numeric.specs.declared.whole.Index.{Index}
+use Rattle.linspace.specs.List.{whole}
+use Rattle.linspace.specs.Calls.{stepIndexOf}
+use Rattle.segmented.specs.Segments.{Axis}
+use Rattle.segmented.specs.Axes.{steppedAxis, steppedFinder}
+use Rattle.segmented.specs.Segments.{entryAfter}
+use Rattle.segmented.specs.Steps.{nextAnswer}
+use Rattle.segmented.proofs.Rules.{entry-is, entry-past, next-is}
+use borrow.Author.Needs.{needs}
+use Rattle.segmented.proofs.steps.next.Statement.{statement}
+use Rattle.segmented.proofs.steps.next.Tie as tie
+
+module _ (s : tie.Start) where
+  abbrev a : ℤ
+  a = s .args .axis .inner .0
+
+  abbrev b : ℤ
+  b = s .args .axis .inner .1
+
+  abbrev d : ℤ
+  d = s .args .axis .step
+
+  abbrev axis : Axis ℤ
+  axis = steppedAxis whole a b d
+
+told : (c : tie.After-index-of) {r : Index} → c .index-of .result ≡ r
+    → let s = c .before in entryAfter (axis s) (tellIndex r) ≡ nextAnswer (axis s) (steppedFinder whole (a s) (b s) (d s) (s .args .method)) (s .args .v)
+told c e =
+    let s = c .before in
+    next-is whole (a s) (b s) (d s) (s .pre .0) (s .args .method) (s .args .v) (s .pre .1) (sym (rw (toZ-ofZ (c .before .fits .v)) at (c .index-of .ensures)) ∙ ap tellIndex e)
+
+index-of-requires : tie.Need-index-of-requires
+index-of-requires c κs = search needs
+
+enum-known-r : tie.Need-enum-known-r
+enum-known-r c = search needs
+
+enum-told : tie.Need-enum-told
+enum-told c = search needs
+
+enum-known-k : tie.Need-enum-known-k
+enum-known-k c = search needs
+
+returns : tie.Need-returns
+returns c =
+    let k = c .before .before in
+    let at = k .before .before in
+    let s = at .before in
+    sym (entry-past whole (a s) (b s) (d s) (s .pre .0) (k .k .given .0 .0) (c .if1 .taken)) ∙ told at (k .k .given .1)
+
+add-from-index : tie.Need-add-from-index
+add-from-index c = search needs
+
+from-index-requires : tie.Need-from-index-requires
+from-index-requires c κs = search needs
+
+returns-2 : tie.Need-returns-2
+returns-2 c = told (c .before .before .before) (c .before .r .given .1)
+
+returns-3 : tie.Need-returns-3
+returns-3 c = told (c .before .before) (c .enum-told .given .1)
+
+returns-4 : tie.Need-returns-4
+returns-4 c =
+    let k = c .before .before .before in
+    let at = k .before .before in
+    let s = at .before in
+    c .from-index .ensures
+    ∙ entry-is whole (a s) (b s) (d s) (s .pre .0) (k .k .given .0 .0 + 1)
+    ∙ ap (axis s .entry) (add-one (k .k .given .0 .0))
+    ∙ told at (k .k .given .1)
+
+pub next-spec : {M : Type 1} → statement M
+next-spec =
+    tie.close
+    (tie.spec
+    index-of-requires
+    enum-known-r
+    enum-told
+    enum-known-k
+    returns
+    add-from-index
+    from-index-requires
+    returns-2
+    returns-3
+    returns-4)

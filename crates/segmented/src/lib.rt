@@ -1,0 +1,99 @@
+// Segmented axes, after `SegmentedCoord` of discrete.rs: each entry of the axis below begins a segment, and one value more stands behind
+// the last.
+mod reals;
+mod steps;
+mod wholes;
+
+ghost use mathlib.Core.Path.{_≡_};
+ghost use mathlib.Core.Bool.{true};
+ghost use Prim.Native.Nat.{_≤_};
+ghost use Rattle.ranged1d.specs.Admitted.{limitAdmitted};
+ghost use lib.IntN.{natAbs, _+ℤ_};
+ghost use Rattle.segmented.specs.Segments.{half, shared, margin, narrowed};
+use linspace::Linspacef64;
+use linspace::Linspacei32;
+use numeric::RangedCoordi32;
+use ranged1d::Limit;
+use ranged1d::Refusal;
+use rounding::Whole;
+
+// A value of a segmented axis of whole numbers: where an entry's segment begins, its middle, and what stands behind all.
+pub enum SegmentValuei32 {
+    Exact(i32),
+    CenterOf(i32),
+    Last,
+}
+
+// The same of real numbers.
+pub enum SegmentValuef64 {
+    Exact(f64),
+    CenterOf(f64),
+    Last,
+}
+
+pub enum Segmenti32 {
+    At(SegmentValuei32),
+    Nothing,
+    Refused(Refusal),
+}
+
+pub enum Segmentf64 {
+    At(SegmentValuef64),
+    Nothing,
+    Refused(Refusal),
+}
+
+// Segments over a whole axis, and over a stepped axis of whole or of real numbers.
+pub struct SegmentedCoordi32(pub RangedCoordi32);
+
+pub struct SegmentedLinspacei32(pub Linspacei32);
+
+pub struct SegmentedLinspacef64(pub Linspacef64);
+
+// A length l of a film, shared among n. Both are exact as f32, so that their quotient is rounded once.
+fn share(n: u32, l: i32) -> i32
+    requires { ⌜ natAbs l ≤ 2000000 ⌝ ∗ ⌜ 1 ≤ n ⌝ ∗ ⌜ n ≤ 16777216 ⌝ }
+    ensures { λ r. ⌜ r ≡ shared n l ⌝ }
+{
+    match rounding::round_within((l as f32) / (n as f32), 2000000) {
+        Whole::Number(z) => z as i32,
+        Whole::Beyond => 0,
+    }
+}
+
+// The margin of a segment, one of n between admitted limits.
+fn margin_of(n: u32, limit: Limit) -> i32
+    requires { ⌜ limitAdmitted limit ≡ true ⌝ ∗ ⌜ 1 ≤ n ⌝ ∗ ⌜ n ≤ 16777216 ⌝ }
+    ensures { λ r. ⌜ r ≡ margin n limit ⌝ }
+{
+    let p = limit.0;
+    let q = limit.1;
+    share(n, q - p)
+}
+
+// The limits between which entries are placed. They lie between those of the film, so that they are admitted too.
+fn narrow(n: u32, limit: Limit) -> Limit
+    requires { ⌜ limitAdmitted limit ≡ true ⌝ ∗ ⌜ 1 ≤ n ⌝ ∗ ⌜ n ≤ 16777216 ⌝ }
+    ensures { λ r. ⌜ r ≡ narrowed n limit ⌝ }
+{
+    let p = limit.0;
+    let q = limit.1;
+    let k = margin_of(n, limit);
+    Limit(p, q - k)
+}
+
+// Half way between two places.
+fn between(left: i32, right: i32) -> i32
+    requires { ⌜ natAbs left ≤ 1001000000 ⌝ ∗ ⌜ natAbs right ≤ 1001000000 ⌝ }
+    ensures { λ r. ⌜ r ≡ half (left +ℤ right) ⌝ }
+{
+    (left + right) / 2
+}
+
+// Half the margin behind a place.
+fn beside(left: i32, n: u32, limit: Limit) -> i32
+    requires { ⌜ natAbs left ≤ 1001000000 ⌝ ∗ ⌜ limitAdmitted limit ≡ true ⌝ ∗ ⌜ 1 ≤ n ⌝ ∗ ⌜ n ≤ 16777216 ⌝ }
+    ensures { λ r. ⌜ r ≡ left +ℤ half (margin n limit) ⌝ }
+{
+    left + margin_of(n, limit) / 2
+}
