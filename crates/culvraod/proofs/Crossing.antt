@@ -9,7 +9,7 @@ use Rattle.culvraod.specs.declared.Method.{Method}
 use Rattle.culvraod.specs.declared.Method.the-variants as method-is
 use Rattle.culvraod.specs.Search.{methodOf, byMethod}
 use Rattle.culvraod.specs.Boundary.{single}
-use Rattle.culvraod.specs.Numeric.{keyPointsC}
+use Rattle.culvraod.specs.Numeric.{marksC, keyPointsC}
 use Rattle.culvraod.specs.Steps.{listC}
 
 pub key-points-cross : {A E : Type 0} (tell : E → Answer (A × ℕ)) {rule : Answer (A × ℕ) × List A} {r x : E} (held : List A) (step : A) (count : ℕ) → (tell r, held) ≡ rule → r ≡ x → keyPointsC (tell x, held) step count ≡ keyPointsC rule step count
@@ -42,3 +42,9 @@ handed {A} old e d = e ∙ ap (λ (x : Answer A). single x old) d
 -- a written list, whose length was handed out
 pub listed-cross : {A : Type 0} (old : ℕ) {r : ℤ} {last : ℕ} {t : Answer ℕ} {held : List A} {rule : Answer ℕ × List A} → (r, last) ≡ single t old → (t, held) ≡ rule → (r, held, last) ≡ listC rule old
 listed-cross {A} old {held = held} e d = ap (λ (p : ℤ × ℕ). (p .0, held, p .1)) e ∙ ap (λ (x : Answer ℕ × List A). listC x old) d
+
+-- written marks, whose step and number were handed out
+pub marks-handed : {A : Type 0} (step : A) (count : ℕ) {r : ℤ} {s : A} {n : ℕ} {t : Answer (A × ℕ)} {held : List A} {rule : Answer (A × ℕ) × List A} → (r, s, n) ≡ marksC t step count → (t, held) ≡ rule
+    → (r, held, s, n) ≡ keyPointsC rule step count
+marks-handed {A} step count {held = held} e d =
+    ap (λ (p : ℤ × A × ℕ). (p .0, held, p .1, p .2)) e ∙ ap (λ (x : Answer (A × ℕ) × List A). keyPointsC x step count) d

@@ -3,3 +3,4 @@ pub mod Numeric
 pub mod Ruler
 pub mod Search
 pub mod Steps
+pub mod Segments

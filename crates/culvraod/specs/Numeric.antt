@@ -6,6 +6,10 @@ use Rattle.ranged1d.specs.Answer.{Answer}
 use Rattle.numeric.specs.Calls.{wholeKeyPoints, indexKeyPoints}
 use Rattle.culvraod.specs.Boundary.{code, outAfter}
 
+-- an answer of a step and a count: the code, the step, the count
+abbrev pub marksC : {A : Type 0} → Answer (A × ℕ) → A → ℕ → ℤ × A × ℕ
+marksC x step count = (code x, outAfter (λ a. a .0) x step, outAfter (λ a. a .1) x count)
+
 -- a call that writes a list and gives a step and a count: the code, the list, the step, the count
 abbrev pub keyPointsC : {A : Type 0} → Answer (A × ℕ) × List A → A → ℕ → ℤ × List A × A × ℕ
 keyPointsC done step count = (code (done .0), done .1, outAfter (λ x. x .0) (done .0) step, outAfter (λ x. x .1) (done .0) count)

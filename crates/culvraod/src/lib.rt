@@ -1,6 +1,8 @@
 // The C interface: every call under its C name. include/culvraod.h documents them.
+mod segments;
+
 ghost use mathlib.Core.Path.{_≡_};
-ghost use Rattle.numeric.specs.Calls.{wholeKeyPoints, indexKeyPoints};
+ghost use Rattle.numeric.specs.Calls.{tellMarks, wholeKeyPoints, indexKeyPoints};
 ghost use Rattle.numeric.specs.Whole.{tellCount, tellIndex, tellValue, wholeSize, wholeIndexOf, wholeFromIndex, wholeReading};
 ghost use Rattle.real.specs.Place.{tellPlace, wholePlace, realPlace};
 ghost use Rattle.real.specs.Reading.{tellReading, realReading};
@@ -13,7 +15,7 @@ ghost use Rattle.culvraod.specs.Search.{methodOf, byMethod};
 ghost use Rattle.ruler.specs.Rule.{rulerWrite, rulerRead, recordIn, labelIn, sideOf};
 ghost use Rattle.culvraod.specs.Ruler.{rulerOf, readC, partC, pairC};
 ghost use Rattle.culvraod.specs.Boundary.{single, limitOf};
-ghost use Rattle.culvraod.specs.Numeric.{keyPointsC};
+ghost use Rattle.culvraod.specs.Numeric.{marksC, keyPointsC};
 use float::FloatPrettyPrinter;
 use float::Label;
 use linspace::Linspacef64;
@@ -146,6 +148,19 @@ fn give_label(x: Label, written: &mut usize) -> i32
     }
 }
 
+fn give_marks(x: Marks, step: &mut i32, count: &mut usize) -> i32
+    ensures { λ r. ⌜ (r, now (step .exit), now (count .exit)) ≡ marksC (tellMarks x) (now (step .entry)) (now (count .entry)) ⌝ }
+{
+    match x {
+        Marks::Written(s, n) => {
+            *step = s;
+            *count = n;
+            0
+        }
+        Marks::Refused(r) => r.number() as i32,
+    }
+}
+
 #[no_mangle]
 pub extern "C" fn culv_whole_key_points(
     a: i32,
@@ -157,14 +172,7 @@ pub extern "C" fn culv_whole_key_points(
 ) -> i32
     ensures { λ r. ⌜ (r, now (out .exit), now (step .exit), now (count .exit)) ≡ keyPointsC (wholeKeyPoints a b m (now (out .entry))) (now (step .entry)) (now (count .entry)) ⌝ }
 {
-    match RangedCoordi32(a, b).key_points(m, out) {
-        Marks::Written(s, n) => {
-            *step = s;
-            *count = n;
-            0
-        }
-        Marks::Refused(r) => r.number() as i32,
-    }
+    give_marks(RangedCoordi32(a, b).key_points(m, out), step, count)
 }
 
 #[no_mangle]

@@ -28,7 +28,7 @@ use Rattle.linspace.specs.Mirror.{WholeMirrored, RealMirrored}
 use Rattle.linspace.proofs.Turned.{KindTurns, stepped-turned, marks-turned, sizes-turned, values-turned, key-points-turned, searches-turned, against-turned, long-turned}
 
 -- ---- whole numbers
-whole-kind : KindTurns whole Opposite
+pub whole-kind : KindTurns whole Opposite
 whole-kind = record {
   turns = whole-turns;
   plus-turns = λ {x} {x'} {y} {y'} r s. rw (r, s) (sym (negℤ-+ℤ x' y'));
@@ -46,7 +46,7 @@ opposite (x ∷ xs) (y ∷ ys) (more r e) = rw (r, opposite xs ys e) refl
 add-across : {x y : Float} (x' y' : Float) → Across x x' → Across y y' → Across (add binary64 x y) (add binary64 x' y')
 add-across x' y' r s = alike-on (add-alike r s) (turns-alike (add-turns x' y'))
 
-real-kind : KindTurns real Across
+pub real-kind : KindTurns real Across
 unfolding neg
 real-kind = record {
   turns = real-turns;

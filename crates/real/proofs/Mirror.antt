@@ -22,7 +22,7 @@ use Rattle.rounding.proofs.Signs as whole
 use Rattle.real.specs.Place.{farthest, milli, share, rising, falling, plus, orEnd, along, spot, isBeyond, realPlace, wholePlace, wholeSpot}
 use Rattle.real.specs.Mirror.{mirrored, negated, Mirrored}
 use Rattle.real.proofs.Cases.{answered, facing, facing-beyond, no-end, some-size, steps}
-use Rattle.real.proofs.Signs.{zeroOf, Alike, same-through, Turns, turns-alike, eq-neg, add-turns, sub-turns, mul-neg, mul-right, div-alike, eq-alike, int-neg, int-alike}
+use Rattle.real.proofs.Signs.{zeroOf, Alike, alike-on, alike-through, same-through, Turns, turns-alike, eq-neg, add-left, add-turns, sub-turns, mul-neg, mul-right, div-alike, eq-alike, int-neg, int-alike}
 use Rattle.real.proofs.Exact.{differ, no-difference, whole-share}
 use Rattle.real.proofs.Readings.{limit-neg, length-neg, readings}
 
@@ -112,7 +112,7 @@ along-zero p q (pos (suc n)) s t = ap (plus p) (steps-zero floors milli tiny-up 
 along-zero p q (negsuc n) s t = ap (plus p) (steps-zero ceils (neg milli) tiny-down (negsuc n) s t)
 
 -- ---- the place, for ends and a value that stand for the negated ones
-half-neg : (z : ℤ) → quotZ (negℤ z) (pos 2) ≡ negℤ (quotZ z (pos 2))
+pub half-neg : (z : ℤ) → quotZ (negℤ z) (pos 2) ≡ negℤ (quotZ z (pos 2))
 half-neg (pos zero) = refl
 half-neg (pos (suc n)) = refl
 half-neg (negsuc n) = sym (negℤ-negℤ (quotZ (pos (suc n)) (pos 2)))
@@ -137,18 +137,25 @@ behind : (c : Bool) (w' w : Whole) → w' ≡ whole.negated w → cond c (refuse
 behind true w' w e = refl
 behind false w' w e = ap answered e ∙ answered-neg w
 
--- ---- real places
-share-alike : (a b v : Float) → eq a b ≡ false → Alike (share (neg a) (neg b) (neg v)) (share a b v)
-share-alike a b v n = go (sub-turns b a)
+-- ---- real places, also of a value that is the negated one only up to the sign of a zero
+less-alike : {x y : Float} (z : Float) → Alike x y → Alike (sub binary64 x z) (sub binary64 y z)
+unfolding sub
+less-alike z r = alike-through (λ (x : Float). add binary64 x (neg z)) (add-left (neg z)) r
+
+share-alike : (a b v w : Float) → Alike w (neg v) → eq a b ≡ false → Alike (share (neg a) (neg b) w) (share a b v)
+share-alike a b v w r n = go (sub-turns b a)
   where
-    go : Turns (sub binary64 (neg b) (neg a)) (sub binary64 b a) (eq a b ≡ true) → Alike (share (neg a) (neg b) (neg v)) (share a b v)
-    go (inl e) = div-alike (sub binary64 v a) (sub binary64 b a) (turns-alike (sub-turns v a)) e
-    go (inr w) = absurd (true≢false (sym (w .0) ∙ n))
+    go : Turns (sub binary64 (neg b) (neg a)) (sub binary64 b a) (eq a b ≡ true) → Alike (share (neg a) (neg b) w) (share a b v)
+    go (inl e) = div-alike (sub binary64 v a) (sub binary64 b a) (alike-on (less-alike (neg a) r) (turns-alike (sub-turns v a))) e
+    go (inr t) = absurd (true≢false (sym (t .0) ∙ n))
+
+pub real-spot : (limit : Limit) (a b v w : Float) → Alike w (neg v) → spot (neg a) (neg b) w (mirrored limit) ≡ whole.negated (spot a b v limit)
+real-spot limit a b v w r = spot-neg limit a b v (neg a) (neg b) w (eq-neg a b) (share-alike a b v w r)
 
 real-places : (limit : Limit) (a b v : Float) → realPlace (neg a) (neg b) (neg v) (mirrored limit) ≡ negated (realPlace a b v limit)
 unfolding realPlace
 real-places limit a b v =
-    rw (limit-neg limit) (behind (not (limitAdmitted limit)) (spot (neg a) (neg b) (neg v) (mirrored limit)) (spot a b v limit) (spot-neg limit a b v (neg a) (neg b) (neg v) (eq-neg a b) (share-alike a b v)))
+    rw (limit-neg limit) (behind (not (limitAdmitted limit)) (spot (neg a) (neg b) (neg v) (mirrored limit)) (spot a b v limit) (real-spot limit a b v (neg v) (inl refl)))
 
 -- ---- whole places
 ends-neg : (a b : ℤ) → eq (ofInt binary64 (negℤ a)) (ofInt binary64 (negℤ b)) ≡ eq (ofInt binary64 a) (ofInt binary64 b)
@@ -172,6 +179,11 @@ admitted-neg z = ap (λ (n : ℕ). leb n 1_000_000_000) (neg-far z)
 admitted-near : (z : ℤ) → wholeAdmitted z ≡ true → Near z
 admitted-near z h = omega (arith, leb-true (natAbs z) 1_000_000_000 h)
 
+pub whole-spot : (limit : Limit) (a b v : ℤ) → wholeAdmitted a ≡ true → wholeAdmitted b ≡ true → wholeAdmitted v ≡ true
+    → wholeSpot (negℤ a) (negℤ b) (negℤ v) (mirrored limit) ≡ whole.negated (wholeSpot a b v limit)
+whole-spot limit a b v h i j =
+    spot-neg limit (ofInt binary64 a) (ofInt binary64 b) (ofInt binary64 v) (ofInt binary64 (negℤ a)) (ofInt binary64 (negℤ b)) (ofInt binary64 (negℤ v)) (ends-neg a b) (whole-alike a b v (admitted-near a h) (admitted-near b i) (admitted-near v j))
+
 whole-places : (limit : Limit) (a b v : ℤ) → wholePlace (negℤ a) (negℤ b) (negℤ v) (mirrored limit) ≡ negated (wholePlace a b v limit)
 unfolding wholePlace
 whole-places limit a b v =
@@ -181,8 +193,7 @@ whole-places limit a b v =
         → cond (not (x && y && z)) (refused 1) (cond (not (limitAdmitted limit)) (refused 2) (answered (wholeSpot (negℤ a) (negℤ b) (negℤ v) (mirrored limit))))
         ≡ negated (cond (not (x && y && z)) (refused 1) (cond (not (limitAdmitted limit)) (refused 2) (answered (wholeSpot a b v limit))))
     go true true true h i j =
-        behind (not (limitAdmitted limit)) (wholeSpot (negℤ a) (negℤ b) (negℤ v) (mirrored limit)) (wholeSpot a b v limit)
-        (spot-neg limit (ofInt binary64 a) (ofInt binary64 b) (ofInt binary64 v) (ofInt binary64 (negℤ a)) (ofInt binary64 (negℤ b)) (ofInt binary64 (negℤ v)) (ends-neg a b) (whole-alike a b v (admitted-near a h) (admitted-near b i) (admitted-near v j)))
+        behind (not (limitAdmitted limit)) (wholeSpot (negℤ a) (negℤ b) (negℤ v) (mirrored limit)) (wholeSpot a b v limit) (whole-spot limit a b v h i j)
     go true true false h i j = refl
     go true false z h i j = refl
     go false y z h i j = refl

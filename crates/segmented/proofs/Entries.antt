@@ -48,7 +48,7 @@ module _ (a b d : ℤ) {n : ℕ} (s : Stands (steppedAxis whole a b d) n) where
   known : Known a b d n
   known = known-of a b d (s .admitted) (rw (s .onward, s .short) (ap given (s .count)))
 
-  entry-admitted : (k : ℕ) {w : ℤ} → nth (stepped whole a b d) k ≡ given w → wholeAdmitted w ≡ true
+  pub entry-admitted : (k : ℕ) {w : ℤ} → nth (stepped whole a b d) k ≡ given w → wholeAdmitted w ≡ true
   entry-admitted k {w} e = go (decLt k n)
     where
       by-index : nth (stepped whole a b d) k ≡ nth (listOf (element a d) n) k

@@ -1,4 +1,6 @@
+-- What belongs to no one function: `Mirror` has what a later crate may use. Assumes nothing.
 pub mod Margin
 pub mod Rules
 pub mod Entries
 pub mod WholeRules
+pub mod Mirror

@@ -1,5 +1,6 @@
 -- The rules of the calls, return by return, over any axis, and over a stepped one of either kind of numbers. Assumes nothing.
 use mathlib.Core.Path.{_≡_, refl, sym, ap, _∙_}
+use mathlib.Core.Logic.{_⊎_, inl, inr}
 use mathlib.Core.Bool.{Bool, true, false, cond, not, true≢false, _&&_, _||_}
 use mathlib.Core.List.{List, [], _∷_}
 use Prim.Native.Nat.{ℕ, zero, suc, _+_, _≤_, _<_}
@@ -104,6 +105,19 @@ module _ {A : Type 0} (axis : Axis A) where
       go true ht false hu false hz false ho false hy e =
           let s : axis .count ≡ n = given-is e in
           record { admitted = ht; onward = hu; short = hz; few = hy; count = s; some = omega (arith, eqb-false (axis .count) 0 ho, s); most = omega (arith, few hy hz, s) }
+
+  -- there is a count, or why there is none
+  pub counted-or-stopped : ((n : ℕ) × (countAnswer axis ≡ refused n)) ⊎ ((n : ℕ) × (countAnswer axis ≡ given n))
+  unfolding countAnswer
+  counted-or-stopped = go (axis .admitted) (axis .against) (axis .tooLong) w
+    where
+      go : (t u z o : Bool) → let r = lowest (1 when not t ∷ 4 when (not (u || z) && o) ∷ 6 when u ∷ 7 when z ∷ []) (given (axis .count)) in
+          ((n : ℕ) × (r ≡ refused n)) ⊎ ((n : ℕ) × (r ≡ given n))
+      go false u z o = inl (1, refl)
+      go true true z o = inl (6, refl)
+      go true false true o = inl (7, refl)
+      go true false false true = inl (4, refl)
+      go true false false false = inr (axis .count, refl)
 
   module _ {n : ℕ} (k : Stands axis n) where
     pub some-entries : eqb (axis .count) 0 ≡ false

@@ -1,27 +1,17 @@
 -- `culvraod::culv_whole_key_points` meets its contract. Assumes nothing.
-use native.Mathlib.Omega.{arith}
 use borrow.Author.Needs.{needs}
-use mir.Facts.{toZ-ofZ, toZ-pos}
+use denote.Ref.{now}
+use mir.Facts.{toZ-ofZ}
 use mir.Syntax.{w32}
-use Rattle.numeric.specs.Calls.{tellMarks}
-use Rattle.culvraod.proofs.Crossing.{key-points-cross}
+use Rattle.culvraod.proofs.Crossing.{marks-handed}
 use Rattle.culvraod.proofs.culv_whole_key_points.Statement.{statement}
 use Rattle.culvraod.proofs.culv_whole_key_points.Tie as tie
 
 key-points-requires : tie.Need-key-points-requires
 key-points-requires c κs = search needs
 
-enum-known-s : tie.Need-enum-known-s
-enum-known-s c = search needs
-
-enum-known-r : tie.Need-enum-known-r
-enum-known-r c = search needs
-
-number-requires : tie.Need-number-requires
-number-requires c κs = search needs
-
-cast-result : tie.Need-cast-result
-cast-result c = search needs
+give-marks-requires : tie.Need-give-marks-requires
+give-marks-requires c κs = search needs
 
 same-length : tie.Need-same-length
 same-length c = search needs
@@ -29,30 +19,9 @@ same-length c = search needs
 returns : tie.Need-returns
 returns c =
     let k = c .before .before .before .before in
-    let at = k .before .before in
-    rw (toZ-ofZ (record { sfits = c .known-told .given .0 .1 }))
-    (key-points-cross tellMarks (k .key-points .last .1 .1 .0) (at .args .step .now) (at .args .count .now) (rw (toZ-ofZ (at .fits .a), toZ-ofZ (at .fits .b)) at (k .key-points .ensures)) (c .before .s .given .1))
-
-same-length-2 : tie.Need-same-length-2
-same-length-2 c = search needs
-
-returns-2 : tie.Need-returns-2
-returns-2 c =
-    let k = c .before .before .before .before .before in
-    let at = k .before .before in
-    rw (toZ-pos w32 {n = c .number .result} (omega (arith, c .number .ok)), c .number .ensures)
-    (key-points-cross tellMarks (k .key-points .last .1 .1 .0) (at .args .step .now) (at .args .count .now) (rw (toZ-ofZ (at .fits .a), toZ-ofZ (at .fits .b)) at (k .key-points .ensures)) (c .before .before .r .given .1))
+    let s = k .before .before in
+    rw (toZ-ofZ {w = w32} (record { sfits = c .give-marks .ok }))
+    (marks-handed (now (s .args .step)) (now (s .args .count)) (c .give-marks .ensures) (rw (toZ-ofZ (s .fits .a), toZ-ofZ (s .fits .b)) at (k .key-points .ensures)))
 
 pub culv-whole-key-points-spec : {M : Type 1} → statement M
-culv-whole-key-points-spec =
-    tie.close
-    (tie.spec
-    key-points-requires
-    enum-known-s
-    enum-known-r
-    number-requires
-    cast-result
-    same-length
-    returns
-    same-length-2
-    returns-2)
+culv-whole-key-points-spec = tie.close (tie.spec key-points-requires give-marks-requires same-length returns)

@@ -1,0 +1,280 @@
+-- Demand 3, whole: every clause of specs/Mirror, from the mirror theorems of the crates below. Assumes nothing.
+use mathlib.Core.Path.{_≡_, refl, sym, ap, _∙_, subst}
+use mathlib.Core.Bool.{Bool, true, false, not, _&&_, _||_}
+use mathlib.Core.List.{List, [], _∷_, _++_, map}
+use mathlib.Core.Logic.{_⊎_, _↔_}
+use Prim.Native.Nat.{ℕ, suc}
+use lib.Dec.{ltb, eqb}
+use lib.IntN.{ℤ, pos, negℤ}
+use lib.ListN.{length, length-map}
+use lib.Ieee.{Float, neg}
+use Rattle.ranged1d.specs.Answer.{Answer, given, none, refused, Reason, lowest, _when_}
+use Rattle.ranged1d.specs.Admitted.{wholeAdmitted, limitAdmitted}
+use Rattle.ranged1d.specs.declared.Limit.{Limit}
+use Rattle.real.specs.Mirror.{negated}
+use Rattle.real.proofs.Mirror as places
+use Rattle.numeric.specs.Marks.{noStep, stepOf, marks}
+use Rattle.numeric.specs.Calls.{wholeKeyPoints}
+use Rattle.numeric.specs.Mirror.{mirrored, nearestZero, Divides, stepOnly}
+use Rattle.numeric.proofs.Mirror as marks-mirror
+use Rattle.search.specs.Mirror.{turned}
+use Rattle.search.specs.declared.RoundingMethod.{RoundingMethod}
+use Rattle.search.proofs.Mirror as searches
+use Rattle.linspace.specs.List.{Kind, whole, real, stepped, against, tooLong, axisAdmitted}
+use Rattle.linspace.specs.Calls.{hasEntries, stepValues, stepIndexOf, stepPlace, stepMarks, stepKeyPoints}
+use Rattle.linspace.specs.Mirror.{AlikeLong, Negated, end, more}
+use Rattle.linspace.proofs.Mirror as steps
+use Rattle.segmented.specs.Segments.{noSegments, segmentKeyPoints}
+use Rattle.segmented.specs.Axes.{steppedAxis}
+use Rattle.segmented.specs.Mirror as segment
+use Rattle.segmented.proofs.Mirror as segments
+use Rattle.ruler.specs.Rule.{rulerBytes, rulerWrite, hasRuler}
+use Rattle.ruler.specs.Mirror.{Verdict, accepted, verdict}
+use Rattle.ruler.proofs.Mirror as rulers-mirror
+use Rattle.mirror.specs.Mirror.{flip, wrote, BothLong, ruling, rulingBack, Rulers, RulerMore, marking, markingBack, Marks, MarkMore, Stepped, Lists, StepMarks, SegmentMarks, DemandThree}
+use Rattle.mirror.proofs.Written.{first-reason, accepted-is, wrote-is, turned-wrote}
+
+not-false : (t : Bool) → not t ≡ false → t ≡ true
+not-false true e = refl
+not-false false e = sym e
+
+-- ---- rulers
+module _ (a b : ℤ) (limit : Limit) (m : ℕ) where
+  abbrev numbers : ℕ × ℕ
+  numbers = (length (rulerBytes a b limit m), length (marks a b m))
+
+  -- the writer's reasons, from the last
+  abbrev short : List ℕ → List Reason
+  short old = 13 when ltb (length old) (length (rulerBytes a b limit m)) ∷ []
+
+  abbrev stepless : List ℕ → List Reason
+  stepless old = 3 when noStep a b m ∷ short old
+
+  abbrev off-film : List ℕ → List Reason
+  off-film old = 2 when not (limitAdmitted limit) ∷ stepless old
+
+  -- an accepted writer has a ruler, and has written its bytes
+  ruled : (old : List ℕ) → verdict (rulerWrite a b limit m old .0) ≡ accepted → hasRuler a b limit m ≡ true
+  unfolding rulerWrite hasRuler
+  ruled old e =
+      let one = first-reason numbers (1 when not (wholeAdmitted a && wholeAdmitted b)) (off-film old) e in
+      let two = first-reason numbers (2 when not (limitAdmitted limit)) (stepless old) (one .1) in
+      let three = first-reason numbers (3 when noStep a b m) (short old) (two .1) in
+      rw (not-false (wholeAdmitted a && wholeAdmitted b) (one .0), not-false (limitAdmitted limit) (two .0), three .0)
+
+  bytes-written : (old : List ℕ) → verdict (rulerWrite a b limit m old .0) ≡ accepted → wrote (λ x. x .0) (rulerWrite a b limit m old) ≡ rulerBytes a b limit m
+  unfolding rulerWrite
+  bytes-written old e =
+      let rs = 1 when not (wholeAdmitted a && wholeAdmitted b) ∷ off-film old in
+      wrote-is {A = ℕ × ℕ} (λ x. x .0) (lowest rs (given numbers)) numbers (rulerBytes a b limit m) old refl (accepted-is numbers rs e)
+
+module _ (a b : ℤ) (limit : Limit) (m : ℕ) (old old' : List ℕ) (alike : BothLong (length (rulerBytes a b limit m)) old (length (rulerBytes (negℤ a) (negℤ b) (flip limit) m)) old') where
+  verdicts : verdict (rulingBack a b limit m old old' .0) ≡ verdict (ruling a b limit m old old' .0)
+  verdicts = rulers-mirror.mirror a b limit m .same-verdict old old' alike
+
+  back-written : verdict (ruling a b limit m old old' .0) ≡ accepted → wrote (λ x. x .0) (rulingBack a b limit m old old') ≡ rulerBytes (negℤ a) (negℤ b) (flip limit) m
+  back-written e = bytes-written (negℤ a) (negℤ b) (flip limit) m old' (verdicts ∙ e)
+
+  rulers : Rulers a b limit m old old'
+  rulers =
+      record {
+        verdicts = verdicts;
+        match-exactly = λ e. rw (back-written e) (rulers-mirror.mirror a b limit m .match-exactly (ruled a b limit m old e));
+        one-half = rulers-mirror.mirror a b limit m .one-half;
+        one-more-below = λ e f l.
+        let o = rulers-mirror.mirror a b limit m .one-more-below (ruled a b limit m old e) f l in
+        record { extra = o .extra; is-next = o .is-next; others-match = bytes-written a b limit m old e ∙ o .others-match };
+        one-more-above = λ e f l.
+        let o = rulers-mirror.mirror a b limit m .one-more-above (ruled a b limit m old e) f l in
+        record { extra = o .extra; is-next = o .is-next; others-match = back-written e ∙ o .others-match };
+      }
+
+-- ---- marks
+of-step : (x : Answer (ℤ × ℕ)) → verdict x ≡ verdict (stepOnly x)
+of-step (given x) = refl
+of-step none = refl
+of-step (refused n) = refl
+
+module _ (a b : ℤ) (m : ℕ) where
+  abbrev told : ℤ × ℕ
+  told = (pos (stepOf a b m), length (marks a b m))
+
+  abbrev few : List ℤ → List Reason
+  few old = 13 when ltb (length old) (length (marks a b m)) ∷ []
+
+  abbrev without-step : List ℤ → List Reason
+  without-step old = 3 when noStep a b m ∷ few old
+
+  served : (old : List ℤ) → verdict (wholeKeyPoints a b m old .0) ≡ accepted → noStep a b m ≡ false
+  unfolding wholeKeyPoints
+  served old e = first-reason told (3 when noStep a b m) (few old) (first-reason told (1 when not (wholeAdmitted a && wholeAdmitted b)) (without-step old) e .1) .0
+
+  marks-written : (old : List ℤ) → verdict (wholeKeyPoints a b m old .0) ≡ accepted → wrote (λ x. x .1) (wholeKeyPoints a b m old) ≡ marks a b m
+  unfolding wholeKeyPoints
+  marks-written old e =
+      let rs = 1 when not (wholeAdmitted a && wholeAdmitted b) ∷ without-step old in
+      wrote-is {A = ℤ × ℕ} (λ x. x .1) (lowest rs (given told)) told (marks a b m) old refl (accepted-is told rs e)
+
+module _ (a b : ℤ) (m : ℕ) (old old' : List ℤ) (alike : BothLong (length (marks a b m)) old (length (marks (negℤ a) (negℤ b) m)) old') where
+  same-step : stepOnly (markingBack a b m old old' .0) ≡ stepOnly (marking a b m old old' .0)
+  same-step = marks-mirror.mirror a b m .same-verdict old old' alike
+
+  marks-back : verdict (marking a b m old old' .0) ≡ accepted → wrote (λ x. x .1) (markingBack a b m old old') ≡ marks (negℤ a) (negℤ b) m
+  marks-back e =
+      marks-written (negℤ a) (negℤ b) m old' (of-step (markingBack a b m old old' .0) ∙ ap verdict same-step ∙ sym (of-step (marking a b m old old' .0)) ∙ e)
+
+  whole-marks : Marks a b m old old'
+  whole-marks =
+      record {
+        verdicts = same-step;
+        match-exactly = λ e. rw (marks-back e, marks-written a b m old e) (marks-mirror.mirror a b m .match-exactly (served a b m old e));
+        one-more-below = λ e f l.
+        let o = marks-mirror.mirror a b m .one-more-below (served a b m old e) f l in
+        record { extra = o .extra; is-next = o .is-next; others-match = rw (marks-back e, marks-written a b m old e) (o .others-match) };
+        one-more-above = λ e f l.
+        let o = marks-mirror.mirror a b m .one-more-above (served a b m old e) f l in
+        record { extra = o .extra; is-next = rw (marks-mirror.mirror a b m .same-step) (o .is-next); others-match = rw (marks-back e, marks-written a b m old e) (o .others-match) };
+      }
+
+-- ---- stepped axes: over either kind, from what is known of its list, its marks and its calls
+module _ {A : Type 0} (kind : Kind A) (opposite : A → A) (Turned : List A → List A → Type 0) (nothing : Turned [] []) (a b d : A) where
+  abbrev values-reasons : A → A → A → List A → List Reason
+  values-reasons a b d old =
+      1 when not (axisAdmitted kind a b d)
+      ∷ 6 when against kind a b d
+      ∷ 7 when (tooLong kind a b d || ltb (length old) (length (stepped kind a b d)))
+      ∷ []
+
+  list-entries : (old old' : List A) → Turned (stepped kind (opposite a) (opposite b) (opposite d)) (stepped kind a b d)
+      → stepValues kind (opposite a) (opposite b) (opposite d) old' .0 ≡ stepValues kind a b d old .0
+      → Turned (wrote (λ n. n) (stepValues kind (opposite a) (opposite b) (opposite d) old')) (wrote (λ n. n) (stepValues kind a b d old))
+  unfolding stepValues
+  list-entries old old' t e =
+      turned-wrote Turned nothing (values-reasons a b d old) (values-reasons (opposite a) (opposite b) (opposite d) old') (stepped kind a b d) (stepped kind (opposite a) (opposite b) (opposite d)) old old' t e
+
+  marks-reasons : A → A → A → ℕ → List A → List Reason
+  marks-reasons a b d m old =
+      1 when not (axisAdmitted kind a b d)
+      ∷ 3 when (eqb m 0 && hasEntries (stepped kind a b d))
+      ∷ 6 when against kind a b d
+      ∷ 7 when tooLong kind a b d
+      ∷ 13 when ltb (length old) (length (stepMarks kind a b d m))
+      ∷ []
+
+  mark-entries : (m : ℕ) (old old' : List A) → Turned (stepMarks kind (opposite a) (opposite b) (opposite d) m) (stepMarks kind a b d m)
+      → stepKeyPoints kind (opposite a) (opposite b) (opposite d) m old' .0 ≡ stepKeyPoints kind a b d m old .0
+      → Turned (wrote (λ n. n) (stepKeyPoints kind (opposite a) (opposite b) (opposite d) m old')) (wrote (λ n. n) (stepKeyPoints kind a b d m old))
+  unfolding stepKeyPoints marks-reasons
+  mark-entries m old old' t e =
+      turned-wrote Turned nothing (marks-reasons a b d m old) (marks-reasons (opposite a) (opposite b) (opposite d) m old') (stepMarks kind a b d m) (stepMarks kind (opposite a) (opposite b) (opposite d) m) old old' t e
+
+  segment-reasons : A → A → A → ℕ → List A → List Reason
+  segment-reasons a b d m old =
+      let axis = steppedAxis kind a b d in
+      1 when not (axis .admitted)
+      ∷ 3 when axis .noStep m
+      ∷ 4 when noSegments axis
+      ∷ 6 when axis .against
+      ∷ 7 when axis .tooLong
+      ∷ 13 when ltb (length old) (length (axis .marks m))
+      ∷ []
+
+  segment-entries : (m : ℕ) (old old' : List A) → Turned (stepMarks kind (opposite a) (opposite b) (opposite d) m) (stepMarks kind a b d m)
+      → segmentKeyPoints (steppedAxis kind (opposite a) (opposite b) (opposite d)) (length (stepMarks kind (opposite a) (opposite b) (opposite d) m)) m old' .0
+      ≡ segmentKeyPoints (steppedAxis kind a b d) (length (stepMarks kind a b d m)) m old .0
+      → Turned
+      (wrote (λ n. n) (segmentKeyPoints (steppedAxis kind (opposite a) (opposite b) (opposite d)) (length (stepMarks kind (opposite a) (opposite b) (opposite d) m)) m old'))
+      (wrote (λ n. n) (segmentKeyPoints (steppedAxis kind a b d) (length (stepMarks kind a b d m)) m old))
+  unfolding segmentKeyPoints segment-reasons
+  segment-entries m old old' t e =
+      turned-wrote Turned nothing (segment-reasons a b d m old) (segment-reasons (opposite a) (opposite b) (opposite d) m old') (stepMarks kind a b d m) (stepMarks kind (opposite a) (opposite b) (opposite d) m) old old' t e
+
+-- memory that is long enough on both sides or on neither, for lists of one length
+alike-long : {A : Type 0} (n n' : ℕ) (old old' : List A) → n' ≡ n → BothLong n old n' old' → AlikeLong n old old'
+alike-long n n' old old' e h = ap (λ k. ltb (length old') k) (sym e) ∙ sym h
+
+negated-long : (l l' : List Float) → Negated l' l → length l' ≡ length l
+negated-long [] [] end = refl
+negated-long (x ∷ l) (x' ∷ l') (more s t) = ap suc (negated-long l l' t)
+
+-- what is known of whole and of real stepped axes, in one form
+record Known {A : Type 0} (kind : Kind A) (opposite : A → A) (Turned : List A → List A → Type 0) (a b d : A) : Type 0 where
+  nothing : Turned [] []
+  long : (l l' : List A) → Turned l' l → length l' ≡ length l
+  lists : Turned (stepped kind (opposite a) (opposite b) (opposite d)) (stepped kind a b d)
+  marks : (m : ℕ) → Turned (stepMarks kind (opposite a) (opposite b) (opposite d) m) (stepMarks kind a b d m)
+  values : (old old' : List A) → AlikeLong (length (stepped kind a b d)) old old' → stepValues kind (opposite a) (opposite b) (opposite d) old' .0 ≡ stepValues kind a b d old .0
+  key-points : (m : ℕ) (old old' : List A) → AlikeLong (length (stepMarks kind a b d m)) old old'
+      → stepKeyPoints kind (opposite a) (opposite b) (opposite d) m old' .0 ≡ stepKeyPoints kind a b d m old .0
+  searches : (v : A) (method : RoundingMethod) → stepIndexOf kind (opposite a) (opposite b) (opposite d) (opposite v) (turned method) ≡ stepIndexOf kind a b d v method
+  places : (v : A) (limit : Limit) → stepPlace kind (opposite a) (opposite b) (opposite d) (opposite v) (flip limit) ≡ negated (stepPlace kind a b d v limit)
+  segments : segment.Mirrored kind opposite a b d
+
+stepped-axis : {A : Type 0} (kind : Kind A) (opposite : A → A) (Turned : List A → List A → Type 0) (a b d : A) → Known kind opposite Turned a b d → Stepped kind opposite Turned a b d
+stepped-axis {A = A} kind opposite Turned a b d k =
+    record {
+      lists = λ old old' h.
+      let v = k .values old old' (alike-long _ _ old old' (k .long _ _ (k .lists)) h) in
+      record { verdicts = v; entries = list-entries kind opposite Turned (k .nothing) a b d old old' (k .lists) v };
+      step-marks = λ m old old' h.
+      let v = k .key-points m old old' (alike m old old' h) in
+      record { verdicts = v; entries = mark-entries kind opposite Turned (k .nothing) a b d m old old' (k .marks m) v };
+      places = k .places;
+      searches = k .searches;
+      segment-indices = k .segments .indices;
+      segment-places = k .segments .places;
+      segment-marks = λ m old old' h.
+      let v = k .segments .key-points m old old' (alike m old old' h) in
+      record { verdicts = v; entries = segment-entries kind opposite Turned (k .nothing) a b d m old old' (k .marks m) v };
+    }
+  where
+    alike : (m : ℕ) (old old' : List A) → BothLong (length (stepMarks kind a b d m)) old (length (stepMarks kind (opposite a) (opposite b) (opposite d) m)) old'
+        → AlikeLong (length (stepMarks kind a b d m)) old old'
+    alike m old old' h = alike-long _ _ old old' (k .long _ _ (k .marks m)) h
+
+whole-steps : (a b d : ℤ) → Stepped whole negℤ (λ new old. new ≡ map negℤ old) a b d
+whole-steps a b d =
+    let w = steps.whole-mirror a b d in
+    stepped-axis whole negℤ (λ new old. new ≡ map negℤ old) a b d
+    (record {
+      nothing = refl;
+      long = λ l l' e. ap length e ∙ length-map l negℤ;
+      lists = w .lists;
+      marks = w .marks;
+      values = w .values;
+      key-points = w .key-points;
+      searches = w .searches;
+      places = w .places;
+      segments = segments.whole-mirror a b d .segments;
+    })
+
+real-steps : (a b d : Float) → Stepped real neg Negated a b d
+real-steps a b d =
+    let r = steps.real-mirror a b d in
+    stepped-axis real neg Negated a b d
+    (record {
+      nothing = end;
+      long = negated-long;
+      lists = r .lists;
+      marks = r .marks;
+      values = r .values;
+      key-points = r .key-points;
+      searches = r .searches;
+      places = r .places;
+      segments = segments.real-mirror a b d .segments;
+    })
+
+-- ---- the theorem
+pub demand-three : DemandThree
+demand-three =
+    record {
+      rulers = rulers;
+      whole-marks = whole-marks;
+      whole-places = λ a b v limit. places.mirror limit .whole-places a b v;
+      real-places = λ a b v limit. places.mirror limit .real-places a b v;
+      real-readings = λ a b x limit. places.mirror limit .readings a b x;
+      whole-searches = searches.mirror .whole-searches;
+      real-searches = searches.mirror .real-searches;
+      whole-steps = whole-steps;
+      real-steps = real-steps;
+    }

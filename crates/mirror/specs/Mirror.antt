@@ -1,0 +1,168 @@
+-- Demand 3, whole: what a draft and its mirror have in common, clause by clause, with 01 "Mirroring, real reading, stepped axes". Each clause is a
+-- statement over the rules that the calls promise, so over what the calls do. All of them hold of every number, so of the admitted ones, and of
+-- every mark limit. `demand-three` of proofs/Mirror proves `DemandThree`. Assumes nothing.
+use Prim.Native.Nat.{ℕ}
+use mathlib.Core.Bool.{Bool}
+use mathlib.Core.List.{List, [], _∷_, _++_, map}
+use mathlib.Core.Logic.{_⊎_, _↔_}
+use mathlib.Core.Path.{_≡_}
+use lib.Dec.{ltb}
+use lib.IntN.{ℤ, pos, negℤ}
+use lib.ListN.{length, take}
+use lib.Signed.{_<ℤ_}
+use lib.Ieee.{Float, neg}
+use Rattle.ranged1d.specs.Answer.{Answer, given, none, refused}
+use Rattle.ranged1d.specs.declared.Limit.{Limit}
+use Rattle.real.specs.Place.{wholePlace, realPlace}
+use Rattle.real.specs.Reading.{realReading}
+use Rattle.real.specs.Mirror as film
+use Rattle.real.specs.Mirror.{negated, Opposite}
+use Rattle.numeric.specs.Marks.{low, high, stepOf, marks}
+use Rattle.numeric.specs.Calls.{wholeKeyPoints}
+use Rattle.numeric.specs.Mirror.{mirrored, nearestZero, Divides, NextTowardZero, stepOnly}
+use Rattle.search.specs.Lists.{wholeSearch, realSearch}
+use Rattle.search.specs.Mirror.{turned}
+use Rattle.search.specs.declared.RoundingMethod.{RoundingMethod}
+use Rattle.linspace.specs.List.{Kind, whole, real, stepped}
+use Rattle.linspace.specs.Calls.{stepValues, stepIndexOf, stepPlace, stepMarks, stepKeyPoints}
+use Rattle.linspace.specs.Mirror.{Negated}
+use Rattle.segmented.specs.Values.{Segment}
+use Rattle.segmented.specs.Segments.{segmentIndexOf, segmentPlace, segmentKeyPoints}
+use Rattle.segmented.specs.Axes.{steppedAxis, steppedFinder}
+use Rattle.segmented.specs.Mirror.{across}
+use Rattle.ruler.specs.Bytes.{Record, joined}
+use Rattle.ruler.specs.Rule.{markAt, recordsOf, rulerBytes, rulerWrite}
+use Rattle.ruler.specs.Mirror as ruler
+use Rattle.ruler.specs.Mirror.{accepted, verdict}
+
+-- ---- the words that every clause uses
+-- the mirror of film limits
+abbrev pub flip : Limit → Limit
+flip limit = film.mirrored limit
+
+-- what a call has written to the memory lent to it, from the number that its answer gives: nothing without an answer
+abbrev pub firstOf : {A B : Type 0} → (A → ℕ) → Answer A → List B → List B
+firstOf many (given x) held = take (many x) held
+firstOf many none held = []
+firstOf many (refused n) held = []
+
+abbrev pub wrote : {A B : Type 0} → (A → ℕ) → Answer A × List B → List B
+wrote many done = firstOf many (done .0) (done .1)
+
+-- lent memory is long enough on both sides, where n numbers are to be written on this side and n' on the other, or on neither
+abbrev pub BothLong : {B : Type 0} → ℕ → List B → ℕ → List B → Type 0
+BothLong n old n' old' = ltb (length old) n ≡ ltb (length old') n'
+
+-- ---- demand 3, the first half: rulers. 01: rulers match when the axis's record has ends and limits negated and the same mark limit and step, and
+-- the marks' records stand in reverse order, each with needle and place negated and the label of the negated needle (`turned` of ruler/specs/Mirror).
+-- The needle nearest zero is zero if the axis holds it, otherwise the end nearer to zero.
+
+-- The half below zero is the axis (a, b), and z its needle nearest zero: what was written has exactly one mark more than the other half's records. It
+-- is the last, the next multiple of the step past z, toward zero, and is placed by this axis's own rule; all others match.
+pub record RulerMore (a b : ℤ) (limit : Limit) (m : ℕ) (z : ℤ) (bytes : List ℕ) (fewer : List Record) : Type 0 where
+  pub extra : ℤ
+  pub is-next : NextTowardZero (stepOf a b m) z extra
+  pub others-match : bytes ≡ joined (ruler.turned fewer ++ (markAt a b limit extra ∷ []))
+
+module _ (a b : ℤ) (limit : Limit) (m : ℕ) (old old' : List ℕ) where
+  -- what writing the ruler of the draft does, and that of its mirror
+  abbrev pub ruling : Answer (ℕ × ℕ) × List ℕ
+  ruling = rulerWrite a b limit m old
+
+  abbrev pub rulingBack : Answer (ℕ × ℕ) × List ℕ
+  rulingBack = rulerWrite (negℤ a) (negℤ b) (flip limit) m old'
+
+  pub record Rulers : Type 0 where
+    -- Both are refused with the same number, or both are accepted.
+    pub verdicts : verdict (rulingBack .0) ≡ verdict (ruling .0)
+    -- Accepted, the mirrored axis has the mirrored ruler exactly when the step divides the needle nearest zero.
+    pub match-exactly : verdict (ruling .0) ≡ accepted
+        → (wrote (λ x. x .0) rulingBack ≡ joined (ruler.turned (recordsOf a b limit m))) ↔ Divides (stepOf a b m) (nearestZero a b)
+    -- Otherwise the axis lies below zero or above it, and the half below zero, which is this axis or its mirror, has exactly one mark more.
+    pub one-half : (Divides (stepOf a b m) (nearestZero a b) → ⊥) → (high a b <ℤ pos 0) ⊎ (pos 0 <ℤ low a b)
+    pub one-more-below : verdict (ruling .0) ≡ accepted → (Divides (stepOf a b m) (nearestZero a b) → ⊥) → high a b <ℤ pos 0
+        → RulerMore a b limit m (high a b) (wrote (λ x. x .0) ruling) (recordsOf (negℤ a) (negℤ b) (flip limit) m)
+    pub one-more-above : verdict (ruling .0) ≡ accepted → (Divides (stepOf a b m) (nearestZero a b) → ⊥) → pos 0 <ℤ low a b
+        → RulerMore (negℤ a) (negℤ b) (flip limit) m (negℤ (low a b)) (wrote (λ x. x .0) rulingBack) (recordsOf a b limit m)
+
+-- ---- 01: marks of whole axes match when negated and in reverse order (`mirrored` of numeric/specs/Mirror); the same theorem for the call that writes
+-- the marks alone, which also tells the step
+pub record MarkMore (a b : ℤ) (m : ℕ) (z : ℤ) (more fewer : List ℤ) : Type 0 where
+  pub extra : ℤ
+  pub is-next : NextTowardZero (stepOf a b m) z extra
+  pub others-match : more ≡ mirrored fewer ++ (extra ∷ [])
+
+module _ (a b : ℤ) (m : ℕ) (old old' : List ℤ) where
+  abbrev pub marking : Answer (ℤ × ℕ) × List ℤ
+  marking = wholeKeyPoints a b m old
+
+  abbrev pub markingBack : Answer (ℤ × ℕ) × List ℤ
+  markingBack = wholeKeyPoints (negℤ a) (negℤ b) m old'
+
+  pub record Marks : Type 0 where
+    pub verdicts : stepOnly (markingBack .0) ≡ stepOnly (marking .0)
+    pub match-exactly : verdict (marking .0) ≡ accepted
+        → (wrote (λ x. x .1) markingBack ≡ mirrored (wrote (λ x. x .1) marking)) ↔ Divides (stepOf a b m) (nearestZero a b)
+    pub one-more-below : verdict (marking .0) ≡ accepted → (Divides (stepOf a b m) (nearestZero a b) → ⊥) → high a b <ℤ pos 0
+        → MarkMore a b m (high a b) (wrote (λ x. x .1) marking) (wrote (λ x. x .1) markingBack)
+    pub one-more-above : verdict (marking .0) ≡ accepted → (Divides (stepOf a b m) (nearestZero a b) → ⊥) → pos 0 <ℤ low a b
+        → MarkMore (negℤ a) (negℤ b) m (negℤ (low a b)) (wrote (λ x. x .1) markingBack) (wrote (λ x. x .1) marking)
+
+-- ---- demand 3, the second half, and the rest of 01's section: what is said of stepped axes, over either kind of numbers, `opposite` negating one. A list
+-- and its mirror are negated entry for entry in the same order: `Turned old new` says so.
+module _ {A : Type 0} (kind : Kind A) (opposite : A → A) (Turned : List A → List A → Type 0) (a b d : A) where
+  -- the list, and its marks, as the calls write them, where the memory is long enough on both sides or on neither: negated entry for entry,
+  -- and both are refused with the same number or neither is
+  pub record Lists (old old' : List A) : Type 0 where
+    pub verdicts : stepValues kind (opposite a) (opposite b) (opposite d) old' .0 ≡ stepValues kind a b d old .0
+    pub entries : Turned (wrote (λ n. n) (stepValues kind (opposite a) (opposite b) (opposite d) old')) (wrote (λ n. n) (stepValues kind a b d old))
+
+  pub record StepMarks (m : ℕ) (old old' : List A) : Type 0 where
+    pub verdicts : stepKeyPoints kind (opposite a) (opposite b) (opposite d) m old' .0 ≡ stepKeyPoints kind a b d m old .0
+    pub entries : Turned (wrote (λ n. n) (stepKeyPoints kind (opposite a) (opposite b) (opposite d) m old')) (wrote (λ n. n) (stepKeyPoints kind a b d m old))
+
+  -- the marks of segments over it
+  pub record SegmentMarks (m : ℕ) (old old' : List A) : Type 0 where
+    pub verdicts :
+        segmentKeyPoints (steppedAxis kind (opposite a) (opposite b) (opposite d)) (length (stepMarks kind (opposite a) (opposite b) (opposite d) m)) m old' .0
+        ≡ segmentKeyPoints (steppedAxis kind a b d) (length (stepMarks kind a b d m)) m old .0
+    pub entries :
+        Turned
+        (wrote (λ n. n) (segmentKeyPoints (steppedAxis kind (opposite a) (opposite b) (opposite d)) (length (stepMarks kind (opposite a) (opposite b) (opposite d) m)) m old'))
+        (wrote (λ n. n) (segmentKeyPoints (steppedAxis kind a b d) (length (stepMarks kind a b d m)) m old))
+
+  pub record Stepped : Type 0 where
+    pub lists : (old old' : List A) → BothLong (length (stepped kind a b d)) old (length (stepped kind (opposite a) (opposite b) (opposite d))) old' → Lists old old'
+    pub step-marks : (m : ℕ) (old old' : List A) → BothLong (length (stepMarks kind a b d m)) old (length (stepMarks kind (opposite a) (opposite b) (opposite d) m)) old' → StepMarks m old old'
+    -- Places are negated, or both are refused with the same number.
+    pub places : (v : A) (limit : Limit) → stepPlace kind (opposite a) (opposite b) (opposite d) (opposite v) (flip limit) ≡ negated (stepPlace kind a b d v limit)
+    -- A search and its mirror, up and down exchanged, give the same index, or both none, or the same refusal.
+    pub searches : (v : A) (method : RoundingMethod) → stepIndexOf kind (opposite a) (opposite b) (opposite d) (opposite v) (turned method) ≡ stepIndexOf kind a b d v method
+    -- Segments over the axis, a value's mirror being that of the number it carries: index, places and marks.
+    pub segment-indices : (method : RoundingMethod) (s : Segment A)
+        → segmentIndexOf (steppedAxis kind (opposite a) (opposite b) (opposite d)) (steppedFinder kind (opposite a) (opposite b) (opposite d) (turned method)) (across opposite s)
+        ≡ segmentIndexOf (steppedAxis kind a b d) (steppedFinder kind a b d method) s
+    pub segment-places : (method : RoundingMethod) (s : Segment A) (limit : Limit)
+        → segmentPlace (steppedAxis kind (opposite a) (opposite b) (opposite d)) (steppedFinder kind (opposite a) (opposite b) (opposite d) (turned method)) (across opposite s) (flip limit)
+        ≡ negated (segmentPlace (steppedAxis kind a b d) (steppedFinder kind a b d method) s limit)
+    pub segment-marks : (m : ℕ) (old old' : List A) → BothLong (length (stepMarks kind a b d m)) old (length (stepMarks kind (opposite a) (opposite b) (opposite d) m)) old' → SegmentMarks m old old'
+
+-- ---- the theorem
+pub record DemandThree : Type 0 where
+  -- Rulers, of any whole axis, limits and mark limit, with bytes lent that are enough on both sides or on neither.
+  pub rulers : (a b : ℤ) (limit : Limit) (m : ℕ) (old old' : List ℕ)
+      → BothLong (length (rulerBytes a b limit m)) old (length (rulerBytes (negℤ a) (negℤ b) (flip limit) m)) old' → Rulers a b limit m old old'
+  -- Marks of any whole axis, likewise.
+  pub whole-marks : (a b : ℤ) (m : ℕ) (old old' : List ℤ) → BothLong (length (marks a b m)) old (length (marks (negℤ a) (negℤ b) m)) old' → Marks a b m old old'
+  -- Mirroring negates places on whole and real axes, or both sides give the same refusal.
+  pub whole-places : (a b v : ℤ) (limit : Limit) → wholePlace (negℤ a) (negℤ b) (negℤ v) (flip limit) ≡ negated (wholePlace a b v limit)
+  pub real-places : (a b v : Float) (limit : Limit) → realPlace (neg a) (neg b) (neg v) (flip limit) ≡ negated (realPlace a b v limit)
+  -- It negates real readings, or both sides give none or the same refusal. Zeros of either sign are equal, and a NaN equals a NaN.
+  pub real-readings : (a b : Float) (x : ℤ) (limit : Limit) → Opposite (realReading (neg a) (neg b) (negℤ x) (flip limit)) (realReading a b x limit)
+  -- A search of a lent list and its mirror, every entry and the target negated, the entries in the same order, up and down exchanged, give the same
+  -- index, or both none, or the same refusal.
+  pub whole-searches : (l : List ℤ) (t : ℤ) (method : RoundingMethod) → wholeSearch (map negℤ l) (negℤ t) (turned method) ≡ wholeSearch l t method
+  pub real-searches : (l : List Float) (t : Float) (method : RoundingMethod) → realSearch (map neg l) (neg t) (turned method) ≡ realSearch l t method
+  -- Stepped axes of whole numbers, whose entries are negated, and of real ones, whose entries are negated up to the sign of a zero.
+  pub whole-steps : (a b d : ℤ) → Stepped whole negℤ (λ new old. new ≡ map negℤ old) a b d
+  pub real-steps : (a b d : Float) → Stepped real neg Negated a b d
