@@ -29,6 +29,7 @@ pub mod readings;
 mod refusal;
 pub mod ruler;
 pub mod search;
+pub mod segmented;
 
 pub use label::FloatPrettyPrinter;
 pub use limit::Limit;
@@ -36,3 +37,4 @@ pub use linspace::{Linspacef64, Linspacei32};
 pub use numeric::{KeyPoints, RangedCoordf64, RangedCoordi32, RangedCoordusize};
 pub use refusal::Refusal;
 pub use search::{search_real, search_whole, RoundingMethod};
+pub use segmented::{SegmentValue, SegmentedCoord};
