@@ -27,6 +27,8 @@ mod lent;
 #[cfg(feature = "library")]
 mod rulers;
 #[cfg(feature = "library")]
+mod segmented;
+#[cfg(feature = "library")]
 mod tally;
 #[cfg(feature = "library")]
 mod timing;
@@ -46,6 +48,7 @@ fn compare() -> bool {
         search::compare(),
         linspace::compare(),
         labels::compare(),
+        segmented::compare(),
     ];
     agrees.iter().all(|&agrees| agrees)
 }

@@ -6,9 +6,12 @@ use std::fmt;
 pub enum Number {
     Whole(i128),
     Real(f64),
+    /// A value of a segmented axis: its kind, and the number that it carries.
+    WholeSegment(u32, i128),
+    RealSegment(u32, f64),
 }
 
-use Number::{Real, Whole};
+use Number::{Real, RealSegment, Whole, WholeSegment};
 
 impl From<i32> for Number {
     fn from(n: i32) -> Number {
@@ -38,6 +41,12 @@ impl PartialEq for Number {
         match (*self, *other) {
             (Whole(one), Whole(other)) => one == other,
             (Real(one), Real(other)) => same(one, other),
+            (WholeSegment(kind, one), WholeSegment(other_kind, other)) => {
+                kind == other_kind && one == other
+            }
+            (RealSegment(kind, one), RealSegment(other_kind, other)) => {
+                kind == other_kind && same(one, other)
+            }
             _ => false,
         }
     }
@@ -48,17 +57,30 @@ impl fmt::Display for Number {
         match self {
             Whole(n) => write!(f, "{n}"),
             Real(n) => write!(f, "{n:?}"),
+            WholeSegment(kind, n) => write!(f, "kind {kind} of {n}"),
+            RealSegment(kind, n) => write!(f, "kind {kind} of {n:?}"),
         }
     }
 }
 
 impl Number {
-    /// The number in base ten; of a real number its bits, of NaN always the same.
+    /// The value of this kind that carries the number.
+    pub fn in_segment(self, kind: u32) -> Number {
+        match self {
+            Whole(n) | WholeSegment(_, n) => WholeSegment(kind, n),
+            Real(n) | RealSegment(_, n) => RealSegment(kind, n),
+        }
+    }
+
+    /// The number in base ten; of a real number its bits, of NaN always the same. A segment's kind
+    /// comes before its number.
     pub fn digits(self) -> String {
         match self {
             Whole(n) => n.to_string(),
             Real(n) if n.is_nan() => 0x7ff8_0000_0000_0000u64.to_string(),
             Real(n) => n.to_bits().to_string(),
+            WholeSegment(kind, n) => format!("{kind} {n}"),
+            RealSegment(kind, n) => format!("{kind} {}", Real(n).digits()),
         }
     }
 }
@@ -70,6 +92,8 @@ impl Number {
         match self {
             Whole(n) => n.unsigned_abs(),
             Real(n) => n.abs().to_bits().reverse_bits().into(),
+            WholeSegment(_, n) => Whole(n).size(),
+            RealSegment(_, n) => Real(n).size(),
         }
     }
 
@@ -78,6 +102,12 @@ impl Number {
         match (self, other) {
             (Whole(one), Whole(other)) => one == -other,
             (Real(one), Real(other)) => one == -other || one.is_nan() && other.is_nan(),
+            (WholeSegment(kind, one), WholeSegment(other_kind, other)) => {
+                kind == other_kind && Whole(one).mirrors(Whole(other))
+            }
+            (RealSegment(kind, one), RealSegment(other_kind, other)) => {
+                kind == other_kind && Real(one).mirrors(Real(other))
+            }
             _ => false,
         }
     }

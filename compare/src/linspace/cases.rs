@@ -167,7 +167,7 @@ pub fn drawn<N: Numbers>(random: &mut Random) -> Drawn<N> {
 }
 
 /// A value at an entry, close to one or between two, as a rule.
-fn value<N: Numbers>(random: &mut Random, Drawn { axis, n }: Drawn<N>) -> N {
+pub fn value<N: Numbers>(random: &mut Random, Drawn { axis, n }: Drawn<N>) -> N {
     let Steps { a, b, d } = axis;
     match random.below(12) {
         0 => return N::odd(random),
@@ -202,7 +202,7 @@ const INDICES: [u64; 9] = [0, 1, 2, 9, 65_535, 65_536, 1 << 32, 1 << 63, u64::MA
 const METHODS: [u32; 6] = [0, 1, 2, 3, 4, u32::MAX];
 
 #[cfg(feature = "library")]
-const SMALL_LIMITS: [i32; 4] = [-3, 0, 1, 5];
+pub const SMALL_LIMITS: [i32; 4] = [-3, 0, 1, 5];
 
 /// An axis made of picked numbers.
 pub fn picked<N: Copy>(pick: &mut impl Pick, numbers: &[N]) -> Steps<N> {
@@ -212,7 +212,7 @@ pub fn picked<N: Copy>(pick: &mut impl Pick, numbers: &[N]) -> Steps<N> {
 
 /// An ordinary axis, of 10 to 100 entries.
 #[cfg(feature = "library")]
-fn ordinary_axis<N: Numbers>(random: &mut Random) -> Drawn<N> {
+pub fn ordinary_axis<N: Numbers>(random: &mut Random) -> Drawn<N> {
     let ((a, d), n) = (N::ordinary_start(random), 10 + random.below(91));
     Drawn {
         axis: steps(a, N::after(a, d, n), d),
@@ -222,7 +222,7 @@ fn ordinary_axis<N: Numbers>(random: &mut Random) -> Drawn<N> {
 
 /// A value between two entries of an ordinary axis.
 #[cfg(feature = "library")]
-fn ordinary_value<N: Numbers>(random: &mut Random, Drawn { axis, n }: Drawn<N>) -> N {
+pub fn ordinary_value<N: Numbers>(random: &mut Random, Drawn { axis, n }: Drawn<N>) -> N {
     let entry = N::after(axis.a, axis.d, random.below(n));
     N::middle(entry, N::after(entry, axis.d, 1))
 }

@@ -1,14 +1,14 @@
 //! Stepped axes.
 
 mod calls;
-mod cases;
-mod kind;
-mod rule;
+pub mod cases;
+pub mod kind;
+pub mod rule;
 
 #[cfg(feature = "library")]
 mod bench;
 #[cfg(feature = "library")]
-mod library;
+pub mod library;
 #[cfg(feature = "library")]
 mod lists;
 
@@ -23,13 +23,13 @@ pub use bench::bench;
 /// A stepped axis: its ends and its step.
 #[derive(Clone, Copy)]
 pub struct Steps<N> {
-    a: N,
-    b: N,
-    d: N,
+    pub a: N,
+    pub b: N,
+    pub d: N,
 }
 
 impl<N: Into<Number>> Steps<N> {
-    fn named(self) -> [(&'static str, Number); 3] {
+    pub fn named(self) -> [(&'static str, Number); 3] {
         let Steps { a, b, d } = self;
         [("a", a.into()), ("b", b.into()), ("d", d.into())]
     }

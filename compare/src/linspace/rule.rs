@@ -14,7 +14,7 @@ use crate::search::rule as search;
 /// A list may have so many entries.
 pub const MOST: usize = 65_536;
 
-fn admitted<N: Entry>(axis: Steps<N>) -> Result<(), i32> {
+pub fn admitted<N: Entry>(axis: Steps<N>) -> Result<(), i32> {
     N::admitted(&[axis.a, axis.b, axis.d])
 }
 

@@ -1,0 +1,430 @@
+//! Inputs of segments.
+
+use super::axis::{Axis, Whole, Worded};
+use super::calls::{FromIndex, IndexOf, Map, Size, Unmap};
+use super::value::{Value, CENTER_OF, EXACT, LAST};
+use crate::admitted::FILM;
+use crate::cases::{self, held, whole, whole_ends, Cases, Pick};
+use crate::counts::rule::count;
+use crate::linspace::cases::{self as stepped, Numbers};
+use crate::linspace::Steps;
+use crate::random::Random;
+use crate::readings::cases::{any_pixel, pixel_at};
+use crate::search::cases::method;
+use crate::search::rule::{self as search, DOWN, NEAREST, UP};
+
+#[cfg(feature = "library")]
+use crate::cases::{ordinary, SMALL};
+#[cfg(feature = "library")]
+use crate::linspace::cases::{ordinary_axis, ordinary_value, SMALL_LIMITS};
+
+/// An axis, and about how many entries it has.
+#[derive(Clone, Copy)]
+pub struct Drawn<A> {
+    pub axis: A,
+    pub n: u64,
+}
+
+/// Axes of a sort that segments stand on.
+pub trait Axes: Axis {
+    /// Ways to find a value, each with a kind of value.
+    const CHOICES: &'static [(Self::Method, u32)];
+    /// How many lines the calls have that take neither a value nor limits.
+    const LINES: [usize; 2];
+    const CORNERS: &'static [Self::Number];
+    #[cfg(feature = "library")]
+    const PICKED: &'static [Self::Number];
+
+    /// An axis made of picked numbers.
+    fn picked(pick: &mut impl Pick, numbers: &[Self::Number]) -> Self;
+    fn drawn(random: &mut Random) -> Drawn<Self>;
+    /// A number at an entry, close to one or between two, as a rule.
+    fn number(random: &mut Random, drawn: Drawn<Self>) -> Self::Number;
+    fn method(random: &mut Random) -> Self::Method;
+
+    /// An axis as an ordinary caller would have it.
+    #[cfg(feature = "library")]
+    fn ordinary(random: &mut Random) -> Drawn<Self>;
+    /// A number on an ordinary axis, and a search that there is.
+    #[cfg(feature = "library")]
+    fn ordinary_number(random: &mut Random, drawn: Drawn<Self>) -> Self::Number;
+    #[cfg(feature = "library")]
+    fn ordinary_method(random: &mut Random) -> Self::Method;
+}
+
+const WHOLE: i32 = 1_000_000_000;
+const PIXEL: i32 = FILM as i32;
+const LIMITS: [i32; 5] = [-PIXEL - 1, -PIXEL, 0, 1_000, PIXEL];
+const MOST: i64 = Whole::MOST as i64;
+
+/// Whole ends whose number of values is often about as large as may be.
+fn drawn_ends(random: &mut Random) -> (i32, i32) {
+    let near = random.within(-1, 2) as i64;
+    let values = match random.below(8) {
+        0 => return whole_ends(random),
+        1 => MOST + near,
+        2 => 1 + near,
+        3 | 4 => random.below(MOST as u64) as i64 >> random.below(25),
+        _ => random.below(20) as i64,
+    };
+    let a = whole(random);
+    (a, held(i64::from(a) + values - 1))
+}
+
+impl Axes for Whole {
+    const CHOICES: &'static [((), u32)] = &[
+        ((), EXACT),
+        ((), CENTER_OF),
+        ((), LAST),
+        ((), LAST + 1),
+        ((), u32::MAX),
+    ];
+    const LINES: [usize; 2] = [85, 15];
+    #[rustfmt::skip]
+    const CORNERS: &'static [i32] = &[
+        i32::MIN, -WHOLE - 1, -WHOLE, -16_777_216, -1, 0, 1, 2, 9, 16_777_215, 16_777_216,
+        WHOLE - 1, WHOLE, WHOLE + 1, i32::MAX,
+    ];
+    #[cfg(feature = "library")]
+    const PICKED: &'static [i32] = &SMALL;
+
+    fn picked(pick: &mut impl Pick, numbers: &[i32]) -> Whole {
+        let [a, b] = [(); 2].map(|()| pick.pick(numbers));
+        Whole { a, b }
+    }
+
+    fn drawn(random: &mut Random) -> Drawn<Whole> {
+        let (a, b) = drawn_ends(random);
+        Drawn {
+            axis: Whole { a, b },
+            n: count(a, b) as u64,
+        }
+    }
+
+    fn number(random: &mut Random, Drawn { axis, n }: Drawn<Whole>) -> i32 {
+        let Whole { a, b } = axis;
+        match random.below(8) {
+            0 => whole(random),
+            1 | 2 => {
+                let end = i64::from(random.pick(&[a, b]));
+                held(end + random.within(-2, 2) as i64)
+            }
+            _ => held(i64::from(a) + random.below(n + 2) as i64),
+        }
+    }
+
+    fn method(_: &mut Random) {}
+
+    #[cfg(feature = "library")]
+    fn ordinary(random: &mut Random) -> Drawn<Whole> {
+        let a = random.within(-1_000_000, 1_000_000) as i32;
+        let n = 2 + random.below(100);
+        let b = a + n as i32 - 1;
+        Drawn {
+            axis: Whole { a, b },
+            n,
+        }
+    }
+
+    #[cfg(feature = "library")]
+    fn ordinary_number(random: &mut Random, Drawn { axis, n }: Drawn<Whole>) -> i32 {
+        axis.a + random.below(n) as i32
+    }
+
+    #[cfg(feature = "library")]
+    fn ordinary_method(_: &mut Random) {}
+}
+
+fn of_steps<N>(stepped::Drawn { axis, n }: stepped::Drawn<N>) -> Drawn<Steps<N>> {
+    Drawn { axis, n }
+}
+
+fn to_steps<N>(Drawn { axis, n }: Drawn<Steps<N>>) -> stepped::Drawn<N> {
+    stepped::Drawn { axis, n }
+}
+
+impl<N: Worded + Numbers> Axes for Steps<N> {
+    const CHOICES: &'static [(u32, u32)] = &[
+        (search::EXACT, EXACT),
+        (search::EXACT, CENTER_OF),
+        (UP, CENTER_OF),
+        (DOWN, CENTER_OF),
+        (NEAREST, CENTER_OF),
+        (NEAREST, LAST),
+        (UP, LAST + 1),
+        (NEAREST + 1, EXACT),
+        (u32::MAX, LAST),
+    ];
+    const LINES: [usize; 2] = N::LINES;
+    const CORNERS: &'static [N] = N::CORNERS;
+    #[cfg(feature = "library")]
+    const PICKED: &'static [N] = N::PICKED;
+
+    fn picked(pick: &mut impl Pick, numbers: &[N]) -> Steps<N> {
+        stepped::picked(pick, numbers)
+    }
+
+    fn drawn(random: &mut Random) -> Drawn<Steps<N>> {
+        of_steps(stepped::drawn(random))
+    }
+
+    fn number(random: &mut Random, drawn: Drawn<Steps<N>>) -> N {
+        stepped::value(random, to_steps(drawn))
+    }
+
+    fn method(random: &mut Random) -> u32 {
+        method(random)
+    }
+
+    #[cfg(feature = "library")]
+    fn ordinary(random: &mut Random) -> Drawn<Steps<N>> {
+        of_steps(ordinary_axis(random))
+    }
+
+    #[cfg(feature = "library")]
+    fn ordinary_number(random: &mut Random, drawn: Drawn<Steps<N>>) -> N {
+        ordinary_value(random, to_steps(drawn))
+    }
+
+    #[cfg(feature = "library")]
+    fn ordinary_method(random: &mut Random) -> u32 {
+        random.below(4) as u32
+    }
+}
+
+fn kind(random: &mut Random) -> u32 {
+    match random.below(40) {
+        0 => random.pick(&[LAST + 1, 4, u32::MAX]),
+        1 | 2 => LAST,
+        3..16 => EXACT,
+        _ => CENTER_OF,
+    }
+}
+
+fn value<A: Axes>(random: &mut Random, drawn: Drawn<A>) -> Value<A::Number> {
+    let (v, kind) = (A::number(random, drawn), kind(random));
+    Value { v, kind }
+}
+
+/// Limits an odd number of halves of n apart, if n has a half and the film holds it.
+fn halves(random: &mut Random, n: u64) -> Option<(i32, i32)> {
+    let half = (n > 0 && n.is_multiple_of(2)).then_some(n / 2)?;
+    let most = (2 * FILM as u64 / half).min(random.pick(&[9, 99, 2 * FILM as u64]));
+    let length = half * (1 + 2 * random.below(most.div_ceil(2).max(1)));
+    let first = i128::from(FILM).checked_sub(length.into())?;
+    let p = (first >= (-FILM).into()).then(|| random.within((-FILM).into(), first))?;
+    let (p, q) = (p as i32, (p + i128::from(length)) as i32);
+    Some(random.pick(&[(p, q), (q, p)]))
+}
+
+/// Two limits; often n parts of the film end in a half.
+fn film(random: &mut Random, n: u64) -> (i32, i32) {
+    let halves = match random.below(4) {
+        0 => halves(random, n),
+        _ => None,
+    };
+    halves.unwrap_or_else(|| cases::film(random))
+}
+
+impl<A: Axes> Cases for Size<A> {
+    const WORKED: &'static [Self] = &[];
+    const LINES: [usize; 2] = A::LINES;
+
+    fn corner(pick: &mut impl Pick) -> Self {
+        Size(A::picked(pick, A::CORNERS))
+    }
+
+    #[cfg(feature = "library")]
+    fn small(pick: &mut impl Pick) -> Self {
+        Size(A::picked(pick, A::PICKED))
+    }
+
+    fn drawn(random: &mut Random) -> Self {
+        Size(A::drawn(random).axis)
+    }
+
+    #[cfg(feature = "library")]
+    fn ordinary(random: &mut Random) -> Self {
+        Size(A::ordinary(random).axis)
+    }
+}
+
+#[rustfmt::skip]
+const INDICES: [u64; 12] = [
+    0, 1, 2, 9, 10, 65_536, 16_777_215, 16_777_216, 16_777_217, 1 << 32, 1 << 63, u64::MAX,
+];
+
+impl<A: Axes> Cases for FromIndex<A> {
+    const WORKED: &'static [Self] = &[];
+    const LINES: [usize; 2] = A::LINES;
+
+    fn corner(pick: &mut impl Pick) -> Self {
+        let k = pick.pick(&INDICES);
+        let axis = A::picked(pick, A::CORNERS);
+        FromIndex { axis, k }
+    }
+
+    #[cfg(feature = "library")]
+    fn small(pick: &mut impl Pick) -> Self {
+        let k = pick.pick(&[0, 1, 2, 3, 4, 5, 6, 7, 8, 9, 10, 11, 12, 13, 14]);
+        let axis = A::picked(pick, A::PICKED);
+        FromIndex { axis, k }
+    }
+
+    fn drawn(random: &mut Random) -> Self {
+        let Drawn { axis, n } = A::drawn(random);
+        let k = match random.below(8) {
+            0 => random.bits() >> random.below(64),
+            1..=3 => (n + random.below(4)).saturating_sub(1),
+            _ => random.below(n + 2),
+        };
+        FromIndex { axis, k }
+    }
+
+    #[cfg(feature = "library")]
+    fn ordinary(random: &mut Random) -> Self {
+        let Drawn { axis, n } = A::ordinary(random);
+        let k = random.below(n);
+        FromIndex { axis, k }
+    }
+}
+
+fn picked_index<A: Axes>(pick: &mut impl Pick, numbers: &[A::Number]) -> IndexOf<A> {
+    let (method, kind) = pick.pick(A::CHOICES);
+    let v = pick.pick(numbers);
+    IndexOf {
+        axis: A::picked(pick, numbers),
+        method,
+        value: Value { v, kind },
+    }
+}
+
+impl<A: Axes> Cases for IndexOf<A> {
+    const WORKED: &'static [Self] = &[];
+    const LINES: [usize; 2] = [85, 15];
+
+    fn corner(pick: &mut impl Pick) -> Self {
+        picked_index(pick, A::CORNERS)
+    }
+
+    #[cfg(feature = "library")]
+    fn small(pick: &mut impl Pick) -> Self {
+        picked_index(pick, A::PICKED)
+    }
+
+    fn drawn(random: &mut Random) -> Self {
+        let drawn = A::drawn(random);
+        IndexOf {
+            axis: drawn.axis,
+            method: A::method(random),
+            value: value(random, drawn),
+        }
+    }
+
+    #[cfg(feature = "library")]
+    fn ordinary(random: &mut Random) -> Self {
+        let drawn = A::ordinary(random);
+        let v = A::ordinary_number(random, drawn);
+        IndexOf {
+            axis: drawn.axis,
+            method: A::ordinary_method(random),
+            value: Value { v, kind: EXACT },
+        }
+    }
+}
+
+fn picked_map<A: Axes>(pick: &mut impl Pick, numbers: &[A::Number], limits: &[i32]) -> Map<A> {
+    let [p, q] = [(); 2].map(|()| pick.pick(limits));
+    let IndexOf {
+        axis,
+        method,
+        value,
+    } = picked_index(pick, numbers);
+    Map {
+        axis,
+        method,
+        value,
+        p,
+        q,
+    }
+}
+
+impl<A: Axes> Cases for Map<A> {
+    const WORKED: &'static [Self] = &[];
+    const LINES: [usize; 2] = [170, 30];
+
+    fn corner(pick: &mut impl Pick) -> Self {
+        picked_map(pick, A::CORNERS, &LIMITS)
+    }
+
+    #[cfg(feature = "library")]
+    fn small(pick: &mut impl Pick) -> Self {
+        picked_map(pick, A::PICKED, &SMALL_LIMITS)
+    }
+
+    fn drawn(random: &mut Random) -> Self {
+        let drawn = A::drawn(random);
+        let (p, q) = film(random, drawn.n);
+        Map {
+            axis: drawn.axis,
+            method: A::method(random),
+            value: value(random, drawn),
+            p,
+            q,
+        }
+    }
+
+    #[cfg(feature = "library")]
+    fn ordinary(random: &mut Random) -> Self {
+        let drawn = A::ordinary(random);
+        let (p, q) = ordinary::film(random);
+        let v = A::ordinary_number(random, drawn);
+        let kind = random.pick(&[EXACT, CENTER_OF]);
+        Map {
+            axis: drawn.axis,
+            method: A::ordinary_method(random),
+            value: Value { v, kind },
+            p,
+            q,
+        }
+    }
+}
+
+fn picked_unmap<A: Axes>(pick: &mut impl Pick, numbers: &[A::Number], pixels: &[i32]) -> Unmap<A> {
+    let [x, p, q] = [(); 3].map(|()| pick.pick(pixels));
+    let axis = A::picked(pick, numbers);
+    Unmap { axis, x, p, q }
+}
+
+impl<A: Axes> Cases for Unmap<A> {
+    const WORKED: &'static [Self] = &[];
+    const LINES: [usize; 2] = [85, 15];
+
+    fn corner(pick: &mut impl Pick) -> Self {
+        picked_unmap(pick, A::CORNERS, &LIMITS)
+    }
+
+    #[cfg(feature = "library")]
+    fn small(pick: &mut impl Pick) -> Self {
+        picked_unmap(pick, A::PICKED, &[-3, -1, 0, 1, 2, 5])
+    }
+
+    fn drawn(random: &mut Random) -> Self {
+        let (Drawn { axis, n }, (p, q)) = (A::drawn(random), cases::film(random));
+        let x = match random.below(2) {
+            0 => any_pixel(random, (p, q)),
+            _ => {
+                let part = random.below(n + 3) as f64 / (n + 1) as f64;
+                pixel_at(random, part, (p, q))
+            }
+        };
+        Unmap { axis, x, p, q }
+    }
+
+    #[cfg(feature = "library")]
+    fn ordinary(random: &mut Random) -> Self {
+        let (p, q) = ordinary::film(random);
+        let (axis, x) = (A::ordinary(random).axis, ordinary::pixel(random, (p, q)));
+        Unmap { axis, x, p, q }
+    }
+}

@@ -1,0 +1,31 @@
+//! Segments over whole and stepped axes.
+
+mod axis;
+mod calls;
+mod cases;
+mod rule;
+mod value;
+
+#[cfg(feature = "library")]
+mod library;
+#[cfg(feature = "library")]
+mod marks;
+#[cfg(feature = "library")]
+mod mirror;
+
+use crate::linspace::Steps;
+use axis::Whole;
+
+#[cfg(feature = "library")]
+pub fn compare() -> bool {
+    library::compare::<Whole>()
+        & library::compare::<Steps<i32>>()
+        & library::compare::<Steps<f64>>()
+        & mirror::compare::<i32>()
+        & mirror::compare::<f64>()
+        & marks::compare::<Whole>()
+        & marks::compare::<Steps<i32>>()
+        & marks::compare::<Steps<f64>>()
+        & marks::compare_mirror::<i32>()
+        & marks::compare_mirror::<f64>()
+}
