@@ -1,4 +1,4 @@
-/* Prints marks of two axes, one the mirror of the other, and a value through the other calls on axes. */
+/* Prints marks of two axes, one the mirror of the other, and a value through the other calls on axes and segments. */
 #include <inttypes.h>
 #include <stdio.h>
 
@@ -97,10 +97,64 @@ static int print_label(double n, uint32_t max_decimal, uint32_t min_decimal)
     return 0;
 }
 
+/* A histogram's axis: where the bucket of v begins, its middle, and the end of all buckets. */
+static int print_segments(int32_t a, int32_t b, int32_t v)
+{
+    int32_t begin, middle, end, at_index, at_pixel, marks[16], step;
+    uint32_t kind, read;
+    size_t marked;
+    uint64_t n, k;
+    if (culv_seg_whole_size(a, b, &n) != 0 || culv_seg_whole_index_of(a, b, 0, v, &k) != 0
+        || culv_seg_whole_from_index(a, b, k, &kind, &at_index) != 0
+        || culv_seg_whole_map(a, b, 0, v, 0, 120, &begin) != 0
+        || culv_seg_whole_map(a, b, 1, v, 0, 120, &middle) != 0
+        || culv_seg_whole_map(a, b, 2, 0, 0, 120, &end) != 0
+        || culv_seg_whole_unmap(a, b, 119, 0, 120, &read, &at_pixel) != 0
+        || culv_seg_whole_key_points(a, b, 4, marks, 16, &step, &marked) != 0)
+        return 1;
+    printf("%" PRIu64 " values, kind %" PRIu32 " of %" PRId32 " at index %" PRIu64 "; from pixel %" PRId32
+           " past %" PRId32 ", all end at %" PRId32 "; kind %" PRIu32 " at pixel 119; %zu marks from %" PRId32 "\n",
+           n, kind, at_index, k, begin, middle, end, read, marked, marks[0]);
+    return 0;
+}
+
+/* Segments over stepped axes, of whole and of real numbers, by the nearest entry. */
+static int print_stepped_segments(void)
+{
+    int32_t whole_middle, real_middle, whole_at, whole_marks[16];
+    double real_at, real_marks[16];
+    uint32_t whole_kind, real_kind;
+    size_t whole_marked, real_marked;
+    uint64_t whole_n, real_n, whole_k, real_k;
+    if (culv_seg_step_whole_size(0, 12, 3, &whole_n) != 0
+        || culv_seg_step_real_size(0, 1, 0.25, &real_n) != 0
+        || culv_seg_step_whole_map(0, 12, 3, 3, 1, 4, 0, 120, &whole_middle) != 0
+        || culv_seg_step_real_map(0, 1, 0.25, 3, 1, 0.3, 0, 120, &real_middle) != 0
+        || culv_seg_step_whole_index_of(0, 12, 3, 3, 1, 4, &whole_k) != 0
+        || culv_seg_step_real_index_of(0, 1, 0.25, 3, 2, 0, &real_k) != 0
+        || culv_seg_step_whole_from_index(0, 12, 3, 1, &whole_kind, &whole_at) != 0
+        || culv_seg_step_real_unmap(0, 1, 0.25, 48, 0, 120, &real_kind, &real_at) != 0
+        || culv_seg_step_whole_key_points(0, 12, 3, 2, whole_marks, 16, &whole_marked) != 0
+        || culv_seg_step_real_key_points(0, 1, 0.25, 2, real_marks, 16, &real_marked) != 0)
+        return 1;
+    printf("%" PRIu64 " and %" PRIu64 " values, middles %" PRId32 " and %" PRId32 ", index %" PRIu64 " and %" PRIu64
+           ", kind %" PRIu32 " of %" PRId32 ", kind %" PRIu32 " of %g, %zu and %zu marks\n",
+           whole_n, real_n, whole_middle, real_middle, whole_k, real_k,
+           whole_kind, whole_at, real_kind, real_at, whole_marked, real_marked);
+    return 0;
+}
+
 int main(void)
 {
-    return print_marks(3, 15, 4) | print_marks(-15, -3, 4)
-        | print_whole(-15, -3, -10) | print_real(0, 49, 1)
-        | print_stepped(8, -1, -4, 2) | print_stepped_real(0, 1, 0.25, 0.4)
-        | print_label(-0.000001, 5, 1) | print_label(1.25, 5, 0);
+    int failed = print_marks(3, 15, 4);
+    failed |= print_marks(-15, -3, 4);
+    failed |= print_whole(-15, -3, -10);
+    failed |= print_real(0, 49, 1);
+    failed |= print_stepped(8, -1, -4, 2);
+    failed |= print_stepped_real(0, 1, 0.25, 0.4);
+    failed |= print_label(-0.000001, 5, 1);
+    failed |= print_label(1.25, 5, 0);
+    failed |= print_segments(1, 4, 2);
+    failed |= print_stepped_segments();
+    return failed;
 }

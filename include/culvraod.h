@@ -442,6 +442,329 @@ int32_t culv_step_real_unmap(double a, double b, double d, int32_t x,
 int32_t culv_step_real_key_points(double a, double b, double d, uint32_t m,
                                   double *out, size_t len, size_t *count);
 
+/* ---- Segments ---- */
+
+/*
+ * Segments stand on an axis that has entries: each entry begins one, and one
+ * value more stands behind all of them. In these calls a value is a kind and,
+ * for the first two kinds, a number v:
+ *    0   exact: where the segment of v begins;
+ *    1   center: the middle of the segment of v;
+ *    2   last: what stands behind all entries. v is not looked at where it is
+ *        passed, and is 0 where it is given back.
+ */
+
+/*
+ * The number of values of the segments over the whole axis from a to b: one
+ * more than culv_whole_size gives.
+ *
+ * 0: *n is the number.
+ * Refused, with nothing written:
+ *    1: a or b is not within -1000000000 to 1000000000;
+ *    4: the axis has no values, b being below a, or more than 16777216.
+ */
+int32_t culv_seg_whole_size(int32_t a, int32_t b, uint64_t *n);
+
+/*
+ * The pixel of a value of the segments over the whole axis from a to b, on a
+ * film from p to q, which may rise or fall. v may lie outside the axis.
+ *
+ * The margin is (q - p) / n, n being that of culv_whole_size, rounded as a
+ * float and then to a whole number, halves away from zero. The place of exact
+ * v is that of culv_whole_map with the limits p and q - margin. That of center
+ * v is the sum of it and of the place of v + 1, halved and cut toward zero, if
+ * v is from a to b - 1; otherwise it is the place of exact v plus half the
+ * margin, cut toward zero. That of last is q.
+ *
+ * 0: *pixel is the place.
+ * Refused, with nothing written:
+ *    1: a, b or v is not within -1000000000 to 1000000000, or kind is above 2;
+ *    2: p or q is not within -1000000 to 1000000;
+ *    4: the axis has no values, b being below a, or more than 16777216;
+ *    5: the whole number added to p for the place of exact v is not within
+ *       -1000000000 to 1000000000.
+ */
+int32_t culv_seg_whole_map(int32_t a, int32_t b, uint32_t kind, int32_t v,
+                           int32_t p, int32_t q, int32_t *pixel);
+
+/*
+ * The index of a value of the segments over the whole axis from a to b: that
+ * of culv_whole_index_of for exact and center, and the number of values of the
+ * axis for last.
+ *
+ * 0: *k is the index, counted from 0.
+ * None, with nothing written: v is below a.
+ * Refused, with nothing written:
+ *    1: a, b or v is not within -1000000000 to 1000000000, or kind is above 2;
+ *    4: the axis has no values, b being below a, or more than 16777216.
+ */
+int32_t culv_seg_whole_index_of(int32_t a, int32_t b, uint32_t kind, int32_t v,
+                                uint64_t *k);
+
+/*
+ * The value at the index k of the segments over the whole axis from a to b:
+ * exact for each value of the axis, then last.
+ *
+ * 0: *kind and *v are the value.
+ * None, with nothing written: k is above the index of last.
+ * Refused, with nothing written:
+ *    1: a or b is not within -1000000000 to 1000000000;
+ *    4: the axis has no values, b being below a, or more than 16777216.
+ */
+int32_t culv_seg_whole_from_index(int32_t a, int32_t b, uint64_t k,
+                                  uint32_t *kind, int32_t *v);
+
+/*
+ * The value of the segments over the whole axis from a to b at the pixel x of
+ * a film from p to q, which may rise or fall.
+ *
+ * With n as in culv_seg_whole_size, its index is the floor of
+ * (x - p) * n / (q - p), worked out exactly, and 0 where that is below zero.
+ * If p is q, the index is 0, but there is none where x is above p.
+ *
+ * 0: *kind and *v are the value.
+ * None, with nothing written: there is no index, or no value at it.
+ * Refused, with nothing written:
+ *    1: a or b is not within -1000000000 to 1000000000;
+ *    2: x, p or q is not within -1000000 to 1000000;
+ *    4: the axis has no values, b being below a, or more than 16777216.
+ */
+int32_t culv_seg_whole_unmap(int32_t a, int32_t b, int32_t x, int32_t p,
+                             int32_t q, uint32_t *kind, int32_t *v);
+
+/*
+ * Marks of the segments over the whole axis from a to b, with the mark limit
+ * m: those of culv_whole_key_points, each of which stands for center of it.
+ *
+ * 0: *step is the step, *count the number of marks, out[0] to out[*count - 1]
+ *    are the marks. out[*count] to out[len - 1] are as before.
+ * Refused, with nothing written:
+ *    1: a or b is not within -1000000000 to 1000000000;
+ *    3: no step serves, as in culv_whole_key_points;
+ *    4: the axis has no values, b being below a, or more than 16777216;
+ *   13: len is less than the number of marks.
+ */
+int32_t culv_seg_whole_key_points(int32_t a, int32_t b, uint32_t m,
+                                  int32_t *out, size_t len,
+                                  int32_t *step, size_t *count);
+
+/*
+ * The number of values of the segments over the list of culv_step_whole_values:
+ * one more than its entries.
+ *
+ * 0: *n is the number.
+ * Refused, with nothing written:
+ *    1: a, b or d is not within -1000000000 to 1000000000;
+ *    4: the list is empty;
+ *    6: d is 0 or leads away from b, and a is not b;
+ *    7: the list has more than 65536 entries.
+ */
+int32_t culv_seg_step_whole_size(int32_t a, int32_t b, int32_t d, uint64_t *n);
+
+/*
+ * The pixel of a value of the segments over the list of culv_step_whole_values,
+ * on a film from p to q, which may rise or fall. v may lie outside the axis or
+ * between entries.
+ *
+ * The margin is that of culv_seg_whole_map, n being the number of entries. The
+ * place of exact v is that of culv_whole_map on the axis from a to b with the
+ * limits p and q - margin. That of center v is the sum of it and of the place
+ * of the entry one after the index of v by the method of culv_search_whole,
+ * halved and cut toward zero. Where there is no such index or no such entry it
+ * is the place of exact v plus half the margin, cut toward zero. That of last
+ * is q.
+ *
+ * 0: *pixel is the place.
+ * Refused, with nothing written:
+ *    1: a, b, d or v is not within -1000000000 to 1000000000, method is above
+ *       3, or kind is above 2;
+ *    2: p or q is not within -1000000 to 1000000;
+ *    4: the list is empty;
+ *    5: neither 6 nor 7 applies, and the whole number added to p for the place
+ *       of exact v is not within -1000000000 to 1000000000;
+ *    6: d is 0 or leads away from b, and a is not b;
+ *    7: the list has more than 65536 entries.
+ */
+int32_t culv_seg_step_whole_map(int32_t a, int32_t b, int32_t d,
+                                uint32_t method, uint32_t kind, int32_t v,
+                                int32_t p, int32_t q, int32_t *pixel);
+
+/*
+ * The index of a value of the segments over the list of culv_step_whole_values:
+ * that of culv_step_whole_index_of for exact and center, and the number of
+ * entries for last.
+ *
+ * 0: *k is the index, counted from 0.
+ * None, with nothing written: there is no such entry.
+ * Refused, with nothing written:
+ *    1: a, b, d or v is not within -1000000000 to 1000000000, method is above
+ *       3, or kind is above 2;
+ *    4: the list is empty;
+ *    6: d is 0 or leads away from b, and a is not b;
+ *    7: the list has more than 65536 entries.
+ */
+int32_t culv_seg_step_whole_index_of(int32_t a, int32_t b, int32_t d,
+                                     uint32_t method, uint32_t kind,
+                                     int32_t v, uint64_t *k);
+
+/*
+ * The value at the index k of the segments over the list of
+ * culv_step_whole_values: exact for each entry, then last.
+ *
+ * 0: *kind and *v are the value.
+ * None, with nothing written: k is above the index of last.
+ * Refused, with nothing written:
+ *    1: a, b or d is not within -1000000000 to 1000000000;
+ *    4: the list is empty;
+ *    6: d is 0 or leads away from b, and a is not b;
+ *    7: the list has more than 65536 entries.
+ */
+int32_t culv_seg_step_whole_from_index(int32_t a, int32_t b, int32_t d,
+                                       uint64_t k, uint32_t *kind,
+                                       int32_t *v);
+
+/*
+ * The value of the segments over the list of culv_step_whole_values at the
+ * pixel x of a film from p to q, which may rise or fall. Its index is worked
+ * out as in culv_seg_whole_unmap, with the n of culv_seg_step_whole_size.
+ *
+ * 0: *kind and *v are the value.
+ * None, with nothing written: there is no index, or no value at it.
+ * Refused, with nothing written:
+ *    1: a, b or d is not within -1000000000 to 1000000000;
+ *    2: x, p or q is not within -1000000 to 1000000;
+ *    4: the list is empty;
+ *    6: d is 0 or leads away from b, and a is not b;
+ *    7: the list has more than 65536 entries.
+ */
+int32_t culv_seg_step_whole_unmap(int32_t a, int32_t b, int32_t d, int32_t x,
+                                  int32_t p, int32_t q, uint32_t *kind,
+                                  int32_t *v);
+
+/*
+ * Marks of the segments over the list of culv_step_whole_values, with the mark
+ * limit m: those of culv_step_whole_key_points, each of which stands for center
+ * of it.
+ *
+ * 0: *count is the number of marks, out[0] to out[*count - 1] are the marks.
+ *    out[*count] to out[len - 1] are as before.
+ * Refused, with nothing written:
+ *    1: a, b or d is not within -1000000000 to 1000000000;
+ *    3: m is 0 and the list has entries, be there too many of them or without
+ *       end;
+ *    4: the list is empty;
+ *    6: d is 0 or leads away from b, and a is not b;
+ *    7: the list has more than 65536 entries;
+ *   13: len is less than the number of marks.
+ */
+int32_t culv_seg_step_whole_key_points(int32_t a, int32_t b, int32_t d,
+                                       uint32_t m, int32_t *out, size_t len,
+                                       size_t *count);
+
+/*
+ * The number of values of the segments over the list of culv_step_real_values:
+ * one more than its entries. All doubles may be passed, here and below.
+ *
+ * 0: *n is the number.
+ * Refused, with nothing written:
+ *    4: the list is empty;
+ *    6: as in culv_step_real_values;
+ *    7: the list has more than 65536 entries.
+ */
+int32_t culv_seg_step_real_size(double a, double b, double d, uint64_t *n);
+
+/*
+ * The pixel of a value of the segments over the list of culv_step_real_values,
+ * on a film from p to q, which may rise or fall. v may lie outside the axis or
+ * between entries.
+ *
+ * Places are those of culv_seg_step_whole_map, with culv_real_map for the place
+ * of exact v, and the method of culv_search_real.
+ *
+ * 0: *pixel is the place.
+ * Refused, with nothing written:
+ *    1: method is above 3, or kind is above 2;
+ *    2: p or q is not within -1000000 to 1000000;
+ *    4: the list is empty;
+ *    5: neither 6 nor 7 applies, and the whole number added to p for the place
+ *       of exact v is not within -1000000000 to 1000000000;
+ *    6: as in culv_step_real_values;
+ *    7: the list has more than 65536 entries;
+ *    9: v is NaN, kind is 1, and method is not 0.
+ */
+int32_t culv_seg_step_real_map(double a, double b, double d,
+                               uint32_t method, uint32_t kind, double v,
+                               int32_t p, int32_t q, int32_t *pixel);
+
+/*
+ * The index of a value of the segments over the list of culv_step_real_values:
+ * that of culv_step_real_index_of for exact and center, and the number of
+ * entries for last.
+ *
+ * 0: *k is the index, counted from 0.
+ * None, with nothing written: there is no such entry.
+ * Refused, with nothing written:
+ *    1: method is above 3, or kind is above 2;
+ *    4: the list is empty;
+ *    6: as in culv_step_real_values;
+ *    7: the list has more than 65536 entries;
+ *    9: v is NaN, kind is not 2, and method is not 0.
+ */
+int32_t culv_seg_step_real_index_of(double a, double b, double d,
+                                    uint32_t method, uint32_t kind,
+                                    double v, uint64_t *k);
+
+/*
+ * The value at the index k of the segments over the list of
+ * culv_step_real_values: exact for each entry, then last.
+ *
+ * 0: *kind and *v are the value.
+ * None, with nothing written: k is above the index of last.
+ * Refused, with nothing written:
+ *    4: the list is empty;
+ *    6: as in culv_step_real_values;
+ *    7: the list has more than 65536 entries.
+ */
+int32_t culv_seg_step_real_from_index(double a, double b, double d,
+                                      uint64_t k, uint32_t *kind,
+                                      double *v);
+
+/*
+ * The value of the segments over the list of culv_step_real_values at the
+ * pixel x of a film from p to q, which may rise or fall. Its index is worked
+ * out as in culv_seg_whole_unmap, with the n of culv_seg_step_real_size.
+ *
+ * 0: *kind and *v are the value.
+ * None, with nothing written: there is no index, or no value at it.
+ * Refused, with nothing written:
+ *    2: x, p or q is not within -1000000 to 1000000;
+ *    4: the list is empty;
+ *    6: as in culv_step_real_values;
+ *    7: the list has more than 65536 entries.
+ */
+int32_t culv_seg_step_real_unmap(double a, double b, double d, int32_t x,
+                                 int32_t p, int32_t q, uint32_t *kind,
+                                 double *v);
+
+/*
+ * Marks of the segments over the list of culv_step_real_values, with the mark
+ * limit m: those of culv_step_real_key_points, each of which stands for center
+ * of it.
+ *
+ * 0: *count is the number of marks, out[0] to out[*count - 1] are the marks.
+ *    out[*count] to out[len - 1] are as before.
+ * Refused, with nothing written:
+ *    3: m is 0 and the list has entries, be there too many of them or without
+ *       end;
+ *    4: the list is empty;
+ *    6: as in culv_step_real_values;
+ *    7: the list has more than 65536 entries;
+ *   13: len is less than the number of marks.
+ */
+int32_t culv_seg_step_real_key_points(double a, double b, double d,
+                                      uint32_t m, double *out, size_t len,
+                                      size_t *count);
+
 /* ---- Rulers as bytes ---- */
 
 /*
