@@ -65,6 +65,7 @@ fn bench() -> bool {
     search::bench();
     linspace::bench();
     labels::bench();
+    segmented::bench();
     true
 }
 

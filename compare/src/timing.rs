@@ -6,9 +6,11 @@ pub const HEADING: &str = "\
 # Medians of 21 repetitions, both sides in turns, all built for release. Lists lent to ours are
 # made once and not cleared between calls; plotters makes a new Vec or String in every call. Calls
 # that answer with one number, and labels, are timed in a batch of a million ordinary inputs, of
-# fifty thousand on stepped axes, the same for both. The compiler may inline what plotters does, but not a C
-# function; so plotters is timed behind a call as well. On a stepped axis plotters makes the list
-# in every call; in a lent list it searches without a look at the order that ours tests.";
+# fifty thousand on stepped axes, the same for both. The compiler may inline what plotters does, but
+# not a C function; so plotters is timed behind a call as well. On a stepped axis, with segments or
+# without, plotters makes the list in every call; in a lent list it searches without a look at the
+# order that ours tests. Segments stand on whole axes of 2 to 101 values and on stepped ones of 10
+# to 100 entries; plotters makes the axis in every call, and half of the places are centers.";
 
 const REPETITIONS: usize = 21;
 const AT_LEAST: f64 = 2e6;

@@ -7,6 +7,8 @@ mod rule;
 mod value;
 
 #[cfg(feature = "library")]
+mod bench;
+#[cfg(feature = "library")]
 mod library;
 #[cfg(feature = "library")]
 mod marks;
@@ -15,6 +17,9 @@ mod mirror;
 
 use crate::linspace::Steps;
 use axis::Whole;
+
+#[cfg(feature = "library")]
+pub use bench::bench;
 
 #[cfg(feature = "library")]
 pub fn compare() -> bool {
