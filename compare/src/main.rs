@@ -9,6 +9,7 @@ mod numeric;
 mod places;
 mod readings;
 mod search;
+mod segmented;
 
 mod admitted;
 mod call;
@@ -26,8 +27,6 @@ mod beside;
 mod lent;
 #[cfg(feature = "library")]
 mod rulers;
-#[cfg(feature = "library")]
-mod segmented;
 #[cfg(feature = "library")]
 mod tally;
 #[cfg(feature = "library")]
@@ -78,6 +77,7 @@ fn vectors() -> bool {
     readings::vectors();
     search::vectors();
     linspace::vectors();
+    segmented::vectors();
     labels::vectors();
     true
 }

@@ -15,8 +15,11 @@ mod marks;
 #[cfg(feature = "library")]
 mod mirror;
 
+use crate::lines;
 use crate::linspace::Steps;
 use axis::Whole;
+use calls::{FromIndex, IndexOf, Map, Size, Unmap};
+use cases::Axes;
 
 #[cfg(feature = "library")]
 pub use bench::bench;
@@ -33,4 +36,18 @@ pub fn compare() -> bool {
         & marks::compare::<Steps<f64>>()
         & marks::compare_mirror::<i32>()
         & marks::compare_mirror::<f64>()
+}
+
+fn print<A: Axes>(seed: u64) {
+    lines::print::<Size<A>>(seed);
+    lines::print::<FromIndex<A>>(seed + 1);
+    lines::print::<IndexOf<A>>(seed + 2);
+    lines::print::<Map<A>>(seed + 3);
+    lines::print::<Unmap<A>>(seed + 4);
+}
+
+pub fn vectors() {
+    print::<Whole>(22);
+    print::<Steps<i32>>(27);
+    print::<Steps<f64>>(32);
 }

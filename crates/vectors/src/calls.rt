@@ -106,7 +106,7 @@ pub(crate) fn whole(numbers: &[u64], k: usize) -> i32 {
     signed(low_half(word(numbers, k)))
 }
 
-fn whole_axis(numbers: &[u64]) -> RangedCoordi32 {
+pub(crate) fn whole_axis(numbers: &[u64]) -> RangedCoordi32 {
     RangedCoordi32(whole(numbers, 0), whole(numbers, 1))
 }
 

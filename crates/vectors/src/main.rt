@@ -9,6 +9,7 @@ mod calls;
 mod labels;
 mod marks;
 mod searches;
+mod segments;
 mod steps;
 mod text;
 
@@ -16,11 +17,11 @@ use libc::STDIN_FILENO;
 use libc::STDOUT_FILENO;
 
 // The calls have numbers from 0 on; after them come the lines that differ and the comments. A total is kept of each.
-const LABEL: usize = 21;
+const LABEL: usize = 36;
 
-const DIFFERS: usize = 22;
+const DIFFERS: usize = 37;
 
-const COMMENT: usize = 23;
+const COMMENT: usize = 38;
 
 fn call_of(word: &[u8]) -> usize {
     if text::equal(word, b"whole") {
@@ -90,6 +91,59 @@ fn step_call_of(word: &[u8]) -> usize {
     if text::equal(word, b"rstepread") {
         return 20;
     }
+    segment_call_of(word)
+}
+
+fn segment_call_of(word: &[u8]) -> usize {
+    if text::equal(word, b"segsize") {
+        return 21;
+    }
+    if text::equal(word, b"segat") {
+        return 22;
+    }
+    if text::equal(word, b"segidx") {
+        return 23;
+    }
+    if text::equal(word, b"segmap") {
+        return 24;
+    }
+    if text::equal(word, b"segread") {
+        return 25;
+    }
+    step_segment_call_of(word)
+}
+
+fn step_segment_call_of(word: &[u8]) -> usize {
+    if text::equal(word, b"wsegsize") {
+        return 26;
+    }
+    if text::equal(word, b"wsegat") {
+        return 27;
+    }
+    if text::equal(word, b"wsegidx") {
+        return 28;
+    }
+    if text::equal(word, b"wsegmap") {
+        return 29;
+    }
+    if text::equal(word, b"wsegread") {
+        return 30;
+    }
+    if text::equal(word, b"rsegsize") {
+        return 31;
+    }
+    if text::equal(word, b"rsegat") {
+        return 32;
+    }
+    if text::equal(word, b"rsegidx") {
+        return 33;
+    }
+    if text::equal(word, b"rsegmap") {
+        return 34;
+    }
+    if text::equal(word, b"rsegread") {
+        return 35;
+    }
     if text::equal(word, b"label") {
         return LABEL;
     }
@@ -137,6 +191,29 @@ fn step_matched(call: usize, numbers: &[u64], n: usize) -> bool
         18 => steps::real_index_of(numbers, n),
         19 => steps::real_map(numbers, n),
         20 => steps::real_unmap(numbers, n),
+        _ => segment_matched(call, numbers, n),
+    }
+}
+
+fn segment_matched(call: usize, numbers: &[u64], n: usize) -> bool
+    requires { ⌜ n ≤ length (now numbers) ⌝ }
+{
+    match call {
+        21 => segments::size(numbers, n),
+        22 => segments::from_index(numbers, n),
+        23 => segments::index_of(numbers, n),
+        24 => segments::map(numbers, n),
+        25 => segments::unmap(numbers, n),
+        26 => segments::whole_size(numbers, n),
+        27 => segments::whole_from_index(numbers, n),
+        28 => segments::whole_index_of(numbers, n),
+        29 => segments::whole_map(numbers, n),
+        30 => segments::whole_unmap(numbers, n),
+        31 => segments::real_size(numbers, n),
+        32 => segments::real_from_index(numbers, n),
+        33 => segments::real_index_of(numbers, n),
+        34 => segments::real_map(numbers, n),
+        35 => segments::real_unmap(numbers, n),
         _ => false,
     }
 }
@@ -228,6 +305,24 @@ fn report_steps(totals: &[u32]) {
     report(b"\nstep_real_unmap matched: ", total(totals, 20));
 }
 
+fn report_segments(totals: &[u32]) {
+    report(b"\nseg_whole_size matched: ", total(totals, 21));
+    report(b"\nseg_whole_from_index matched: ", total(totals, 22));
+    report(b"\nseg_whole_index_of matched: ", total(totals, 23));
+    report(b"\nseg_whole_map matched: ", total(totals, 24));
+    report(b"\nseg_whole_unmap matched: ", total(totals, 25));
+    report(b"\nseg_step_whole_size matched: ", total(totals, 26));
+    report(b"\nseg_step_whole_from_index matched: ", total(totals, 27));
+    report(b"\nseg_step_whole_index_of matched: ", total(totals, 28));
+    report(b"\nseg_step_whole_map matched: ", total(totals, 29));
+    report(b"\nseg_step_whole_unmap matched: ", total(totals, 30));
+    report(b"\nseg_step_real_size matched: ", total(totals, 31));
+    report(b"\nseg_step_real_from_index matched: ", total(totals, 32));
+    report(b"\nseg_step_real_index_of matched: ", total(totals, 33));
+    report(b"\nseg_step_real_map matched: ", total(totals, 34));
+    report(b"\nseg_step_real_unmap matched: ", total(totals, 35));
+}
+
 fn report_all(totals: &[u32]) {
     report(b"whole_key_points matched: ", total(totals, 0));
     report(b"\nindex_key_points matched: ", total(totals, 1));
@@ -241,6 +336,7 @@ fn report_all(totals: &[u32]) {
     report(b"\nsearch_whole matched: ", total(totals, 9));
     report(b"\nsearch_real matched: ", total(totals, 10));
     report_steps(totals);
+    report_segments(totals);
     report(b"\nlabel matched: ", total(totals, LABEL));
     report(b"\nlines that differ: ", total(totals, DIFFERS));
     io::write_all(STDOUT_FILENO, b"\n");
@@ -272,7 +368,7 @@ fn main() {
     let mut whole = [0i32; 64];
     let mut real = [0.0; 64];
     let mut index = [0usize; 64];
-    let mut totals = [0u32; 24];
+    let mut totals = [0u32; 39];
     lend(
         &mut space,
         &mut numbers,

@@ -21,7 +21,7 @@ fn limit(numbers: &[u64]) -> Limit {
     Limit(whole(numbers, 4), whole(numbers, 5))
 }
 
-fn whole_steps(numbers: &[u64]) -> Linspacei32 {
+pub(crate) fn whole_steps(numbers: &[u64]) -> Linspacei32 {
     Linspacei32 {
         inner: RangedCoordi32(whole(numbers, 0), whole(numbers, 1)),
         step: whole(numbers, 2),
@@ -63,7 +63,7 @@ pub(crate) fn whole_unmap(numbers: &[u64], n: usize) -> bool
     same(numbers, n, 6, of_value(v))
 }
 
-fn real_steps(numbers: &[u64]) -> Linspacef64 {
+pub(crate) fn real_steps(numbers: &[u64]) -> Linspacef64 {
     Linspacef64 {
         inner: RangedCoordf64(double(word(numbers, 0)), double(word(numbers, 1))),
         step: double(word(numbers, 2)),

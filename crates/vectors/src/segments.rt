@@ -1,0 +1,263 @@
+// Lines on segments: the axis, the method where a value is found by a search, what the call takes besides, and what is returned. A value
+// is its kind and the number that it carries.
+ghost use Prim.Native.Nat.{_≤_};
+ghost use lib.ListN.{length};
+use crate::bits::bits;
+use crate::bits::double;
+use crate::bits::pattern;
+use crate::calls::of_count;
+use crate::calls::of_index;
+use crate::calls::of_place;
+use crate::calls::same;
+use crate::calls::whole;
+use crate::calls::whole_axis;
+use crate::calls::word;
+use crate::searches::method;
+use crate::steps::real_steps;
+use crate::steps::whole_steps;
+use ranged1d::Limit;
+use ranged1d::Refusal;
+use segmented::SegmentValuef64;
+use segmented::SegmentValuei32;
+use segmented::SegmentedCoordi32;
+use segmented::SegmentedLinspacef64;
+use segmented::SegmentedLinspacei32;
+use segmented::Segmentf64;
+use segmented::Segmenti32;
+
+// What a call gave: the code, and after 0 the kind and the number of the value.
+pub struct Found {
+    pub code: u64,
+    pub kind: u64,
+    pub number: u64,
+}
+
+fn found(kind: u64, number: u64) -> Found {
+    Found {
+        code: 0,
+        kind,
+        number,
+    }
+}
+
+// -1 in two's complement
+fn nothing() -> Found {
+    Found {
+        code: 18446744073709551615,
+        kind: 0,
+        number: 0,
+    }
+}
+
+fn refused(r: Refusal) -> Found {
+    Found {
+        code: r.number() as u64,
+        kind: 0,
+        number: 0,
+    }
+}
+
+fn of_whole(s: SegmentValuei32) -> Found {
+    match s {
+        SegmentValuei32::Exact(v) => found(0, bits(v)),
+        SegmentValuei32::CenterOf(v) => found(1, bits(v)),
+        SegmentValuei32::Last => found(2, 0),
+    }
+}
+
+fn of_segment(x: Segmenti32) -> Found {
+    match x {
+        Segmenti32::At(s) => of_whole(s),
+        Segmenti32::Nothing => nothing(),
+        Segmenti32::Refused(r) => refused(r),
+    }
+}
+
+fn of_real(s: SegmentValuef64) -> Found {
+    match s {
+        SegmentValuef64::Exact(v) => found(0, pattern(v)),
+        SegmentValuef64::CenterOf(v) => found(1, pattern(v)),
+        SegmentValuef64::Last => found(2, 0),
+    }
+}
+
+fn of_real_segment(x: Segmentf64) -> Found {
+    match x {
+        Segmentf64::At(s) => of_real(s),
+        Segmentf64::Nothing => nothing(),
+        Segmentf64::Refused(r) => refused(r),
+    }
+}
+
+// Whether the line of n numbers, `args` of them arguments, has this and nothing after it.
+fn same_value(numbers: &[u64], n: usize, args: usize, f: Found) -> bool
+    requires { ⌜ n ≤ length (now numbers) ⌝ }
+{
+    if n <= args {
+        return false;
+    }
+    if numbers[args] != f.code {
+        return false;
+    }
+    if f.code != 0 {
+        return n == args + 1;
+    }
+    if n != args + 3 {
+        return false;
+    }
+    if numbers[args + 1] != f.kind {
+        return false;
+    }
+    numbers[args + 2] == f.number
+}
+
+// 0 Exact, 1 CenterOf, 2 Last; the lines have no other.
+fn whole_value(kind: u64, v: i32) -> SegmentValuei32 {
+    if kind == 0 {
+        return SegmentValuei32::Exact(v);
+    }
+    if kind == 1 {
+        return SegmentValuei32::CenterOf(v);
+    }
+    SegmentValuei32::Last
+}
+
+fn real_value(kind: u64, v: f64) -> SegmentValuef64 {
+    if kind == 0 {
+        return SegmentValuef64::Exact(v);
+    }
+    if kind == 1 {
+        return SegmentValuef64::CenterOf(v);
+    }
+    SegmentValuef64::Last
+}
+
+fn plain_segments(numbers: &[u64]) -> SegmentedCoordi32 {
+    SegmentedCoordi32(whole_axis(numbers))
+}
+
+pub(crate) fn size(numbers: &[u64], n: usize) -> bool
+    requires { ⌜ n ≤ length (now numbers) ⌝ }
+{
+    same(numbers, n, 2, of_count(plain_segments(numbers).size()))
+}
+
+pub(crate) fn from_index(numbers: &[u64], n: usize) -> bool
+    requires { ⌜ n ≤ length (now numbers) ⌝ }
+{
+    let v = plain_segments(numbers).from_index(word(numbers, 2));
+    same_value(numbers, n, 3, of_segment(v))
+}
+
+pub(crate) fn index_of(numbers: &[u64], n: usize) -> bool
+    requires { ⌜ n ≤ length (now numbers) ⌝ }
+{
+    let value = whole_value(word(numbers, 2), whole(numbers, 3));
+    let k = plain_segments(numbers).index_of(value);
+    same(numbers, n, 4, of_index(k))
+}
+
+pub(crate) fn map(numbers: &[u64], n: usize) -> bool
+    requires { ⌜ n ≤ length (now numbers) ⌝ }
+{
+    let value = whole_value(word(numbers, 2), whole(numbers, 3));
+    let limit = Limit(whole(numbers, 4), whole(numbers, 5));
+    let x = plain_segments(numbers).map(value, limit);
+    same(numbers, n, 6, of_place(x))
+}
+
+pub(crate) fn unmap(numbers: &[u64], n: usize) -> bool
+    requires { ⌜ n ≤ length (now numbers) ⌝ }
+{
+    let limit = Limit(whole(numbers, 3), whole(numbers, 4));
+    let v = plain_segments(numbers).unmap(whole(numbers, 2), limit);
+    same_value(numbers, n, 5, of_segment(v))
+}
+
+fn whole_segments(numbers: &[u64]) -> SegmentedLinspacei32 {
+    SegmentedLinspacei32(whole_steps(numbers))
+}
+
+pub(crate) fn whole_size(numbers: &[u64], n: usize) -> bool
+    requires { ⌜ n ≤ length (now numbers) ⌝ }
+{
+    same(numbers, n, 3, of_count(whole_segments(numbers).size()))
+}
+
+pub(crate) fn whole_from_index(numbers: &[u64], n: usize) -> bool
+    requires { ⌜ n ≤ length (now numbers) ⌝ }
+{
+    let v = whole_segments(numbers).from_index(word(numbers, 3));
+    same_value(numbers, n, 4, of_segment(v))
+}
+
+pub(crate) fn whole_index_of(numbers: &[u64], n: usize) -> bool
+    requires { ⌜ n ≤ length (now numbers) ⌝ }
+{
+    let by = method(word(numbers, 3));
+    let value = whole_value(word(numbers, 4), whole(numbers, 5));
+    let k = whole_segments(numbers).index_of(by, value);
+    same(numbers, n, 6, of_index(k))
+}
+
+pub(crate) fn whole_map(numbers: &[u64], n: usize) -> bool
+    requires { ⌜ n ≤ length (now numbers) ⌝ }
+{
+    let by = method(word(numbers, 3));
+    let value = whole_value(word(numbers, 4), whole(numbers, 5));
+    let limit = Limit(whole(numbers, 6), whole(numbers, 7));
+    let x = whole_segments(numbers).map(by, value, limit);
+    same(numbers, n, 8, of_place(x))
+}
+
+pub(crate) fn whole_unmap(numbers: &[u64], n: usize) -> bool
+    requires { ⌜ n ≤ length (now numbers) ⌝ }
+{
+    let limit = Limit(whole(numbers, 4), whole(numbers, 5));
+    let v = whole_segments(numbers).unmap(whole(numbers, 3), limit);
+    same_value(numbers, n, 6, of_segment(v))
+}
+
+fn real_segments(numbers: &[u64]) -> SegmentedLinspacef64 {
+    SegmentedLinspacef64(real_steps(numbers))
+}
+
+pub(crate) fn real_size(numbers: &[u64], n: usize) -> bool
+    requires { ⌜ n ≤ length (now numbers) ⌝ }
+{
+    same(numbers, n, 3, of_count(real_segments(numbers).size()))
+}
+
+pub(crate) fn real_from_index(numbers: &[u64], n: usize) -> bool
+    requires { ⌜ n ≤ length (now numbers) ⌝ }
+{
+    let v = real_segments(numbers).from_index(word(numbers, 3));
+    same_value(numbers, n, 4, of_real_segment(v))
+}
+
+pub(crate) fn real_index_of(numbers: &[u64], n: usize) -> bool
+    requires { ⌜ n ≤ length (now numbers) ⌝ }
+{
+    let by = method(word(numbers, 3));
+    let value = real_value(word(numbers, 4), double(word(numbers, 5)));
+    let k = real_segments(numbers).index_of(by, value);
+    same(numbers, n, 6, of_index(k))
+}
+
+pub(crate) fn real_map(numbers: &[u64], n: usize) -> bool
+    requires { ⌜ n ≤ length (now numbers) ⌝ }
+{
+    let by = method(word(numbers, 3));
+    let value = real_value(word(numbers, 4), double(word(numbers, 5)));
+    let limit = Limit(whole(numbers, 6), whole(numbers, 7));
+    let x = real_segments(numbers).map(by, value, limit);
+    same(numbers, n, 8, of_place(x))
+}
+
+pub(crate) fn real_unmap(numbers: &[u64], n: usize) -> bool
+    requires { ⌜ n ≤ length (now numbers) ⌝ }
+{
+    let limit = Limit(whole(numbers, 4), whole(numbers, 5));
+    let v = real_segments(numbers).unmap(whole(numbers, 3), limit);
+    same_value(numbers, n, 6, of_real_segment(v))
+}
