@@ -232,8 +232,8 @@ fn index_step_real(axis: SegmentedLinspacef64, method: Method, value: RealCase) 
 pub extern "C" fn culv_seg_whole_size(a: i32, b: i32, n: &mut u64) -> i32
     ensures { λ r. ⌜ (r, now (n .exit)) ≡ single (segmentSize (wholeAxis a b)) (now (n .entry)) ⌝ }
 {
-    let axis = SegmentedCoordi32(RangedCoordi32(a, b));
-    give_count(axis.size(), n)
+    let wholes = SegmentedCoordi32(RangedCoordi32(a, b));
+    give_count(wholes.size(), n)
 }
 
 #[no_mangle]
@@ -248,16 +248,16 @@ pub extern "C" fn culv_seg_whole_map(
 ) -> i32
     ensures { λ r. ⌜ (r, now (pixel .exit)) ≡ single (byCase (caseOf kind v) (λ s. segmentPlace (wholeAxis a b) (wholeFinder a) s (limitOf p q))) (now (pixel .entry)) ⌝ }
 {
-    let axis = SegmentedCoordi32(RangedCoordi32(a, b));
-    give_place(place_whole(axis, whole_case(kind, v), Limit(p, q)), pixel)
+    let wholes = SegmentedCoordi32(RangedCoordi32(a, b));
+    give_place(place_whole(wholes, whole_case(kind, v), Limit(p, q)), pixel)
 }
 
 #[no_mangle]
 pub extern "C" fn culv_seg_whole_index_of(a: i32, b: i32, kind: u32, v: i32, k: &mut u64) -> i32
     ensures { λ r. ⌜ (r, now (k .exit)) ≡ single (byCase (caseOf kind v) (segmentIndexOf (wholeAxis a b) (wholeFinder a))) (now (k .entry)) ⌝ }
 {
-    let axis = SegmentedCoordi32(RangedCoordi32(a, b));
-    give_index(index_whole(axis, whole_case(kind, v)), k)
+    let wholes = SegmentedCoordi32(RangedCoordi32(a, b));
+    give_index(index_whole(wholes, whole_case(kind, v)), k)
 }
 
 #[no_mangle]
@@ -270,8 +270,8 @@ pub extern "C" fn culv_seg_whole_from_index(
 ) -> i32
     ensures { λ r. ⌜ (r, now (kind .exit), now (v .exit)) ≡ segmentC (pos 0) (segmentFromIndex (wholeAxis a b) k) (now (kind .entry)) (now (v .entry)) ⌝ }
 {
-    let axis = SegmentedCoordi32(RangedCoordi32(a, b));
-    give_whole_segment(axis.from_index(k), kind, v)
+    let wholes = SegmentedCoordi32(RangedCoordi32(a, b));
+    give_whole_segment(wholes.from_index(k), kind, v)
 }
 
 #[no_mangle]
@@ -286,8 +286,8 @@ pub extern "C" fn culv_seg_whole_unmap(
 ) -> i32
     ensures { λ r. ⌜ (r, now (kind .exit), now (v .exit)) ≡ segmentC (pos 0) (segmentReading (wholeAxis a b) x (limitOf p q)) (now (kind .entry)) (now (v .entry)) ⌝ }
 {
-    let axis = SegmentedCoordi32(RangedCoordi32(a, b));
-    give_whole_segment(axis.unmap(x, Limit(p, q)), kind, v)
+    let wholes = SegmentedCoordi32(RangedCoordi32(a, b));
+    give_whole_segment(wholes.unmap(x, Limit(p, q)), kind, v)
 }
 
 #[no_mangle]
@@ -301,19 +301,19 @@ pub extern "C" fn culv_seg_whole_key_points(
 ) -> i32
     ensures { λ r. ⌜ (r, now (out .exit), now (step .exit), now (count .exit)) ≡ keyPointsC (segmentKeyPoints (wholeAxis a b) (pos (stepOf a b m), length (marks a b m)) m (now (out .entry))) (now (step .entry)) (now (count .entry)) ⌝ }
 {
-    let axis = SegmentedCoordi32(RangedCoordi32(a, b));
-    give_marks(axis.key_points(m, out), step, count)
+    let wholes = SegmentedCoordi32(RangedCoordi32(a, b));
+    give_marks(wholes.key_points(m, out), step, count)
 }
 
 #[no_mangle]
 pub extern "C" fn culv_seg_step_whole_size(a: i32, b: i32, d: i32, n: &mut u64) -> i32
     ensures { λ r. ⌜ (r, now (n .exit)) ≡ single (segmentSize (steppedAxis whole a b d)) (now (n .entry)) ⌝ }
 {
-    let axis = SegmentedLinspacei32(Linspacei32 {
+    let steps = SegmentedLinspacei32(Linspacei32 {
         inner: RangedCoordi32(a, b),
         step: d,
     });
-    give_count(axis.size(), n)
+    give_count(steps.size(), n)
 }
 
 #[no_mangle]
@@ -330,12 +330,12 @@ pub extern "C" fn culv_seg_step_whole_map(
 ) -> i32
     ensures { λ r. ⌜ (r, now (pixel .exit)) ≡ single (byMethod (methodOf method) (λ m. byCase (caseOf kind v) (λ s. segmentPlace (steppedAxis whole a b d) (steppedFinder whole a b d m) s (limitOf p q)))) (now (pixel .entry)) ⌝ }
 {
-    let axis = SegmentedLinspacei32(Linspacei32 {
+    let steps = SegmentedLinspacei32(Linspacei32 {
         inner: RangedCoordi32(a, b),
         step: d,
     });
     give_place(
-        place_step_whole(axis, method_of(method), whole_case(kind, v), Limit(p, q)),
+        place_step_whole(steps, method_of(method), whole_case(kind, v), Limit(p, q)),
         pixel,
     )
 }
@@ -352,12 +352,12 @@ pub extern "C" fn culv_seg_step_whole_index_of(
 ) -> i32
     ensures { λ r. ⌜ (r, now (k .exit)) ≡ single (byMethod (methodOf method) (λ m. byCase (caseOf kind v) (segmentIndexOf (steppedAxis whole a b d) (steppedFinder whole a b d m)))) (now (k .entry)) ⌝ }
 {
-    let axis = SegmentedLinspacei32(Linspacei32 {
+    let steps = SegmentedLinspacei32(Linspacei32 {
         inner: RangedCoordi32(a, b),
         step: d,
     });
     give_index(
-        index_step_whole(axis, method_of(method), whole_case(kind, v)),
+        index_step_whole(steps, method_of(method), whole_case(kind, v)),
         k,
     )
 }
@@ -373,11 +373,11 @@ pub extern "C" fn culv_seg_step_whole_from_index(
 ) -> i32
     ensures { λ r. ⌜ (r, now (kind .exit), now (v .exit)) ≡ segmentC (pos 0) (segmentFromIndex (steppedAxis whole a b d) k) (now (kind .entry)) (now (v .entry)) ⌝ }
 {
-    let axis = SegmentedLinspacei32(Linspacei32 {
+    let steps = SegmentedLinspacei32(Linspacei32 {
         inner: RangedCoordi32(a, b),
         step: d,
     });
-    give_whole_segment(axis.from_index(k), kind, v)
+    give_whole_segment(steps.from_index(k), kind, v)
 }
 
 #[no_mangle]
@@ -393,11 +393,11 @@ pub extern "C" fn culv_seg_step_whole_unmap(
 ) -> i32
     ensures { λ r. ⌜ (r, now (kind .exit), now (v .exit)) ≡ segmentC (pos 0) (segmentReading (steppedAxis whole a b d) x (limitOf p q)) (now (kind .entry)) (now (v .entry)) ⌝ }
 {
-    let axis = SegmentedLinspacei32(Linspacei32 {
+    let steps = SegmentedLinspacei32(Linspacei32 {
         inner: RangedCoordi32(a, b),
         step: d,
     });
-    give_whole_segment(axis.unmap(x, Limit(p, q)), kind, v)
+    give_whole_segment(steps.unmap(x, Limit(p, q)), kind, v)
 }
 
 #[no_mangle]
@@ -411,22 +411,22 @@ pub extern "C" fn culv_seg_step_whole_key_points(
 ) -> i32
     ensures { λ r. ⌜ (r, now (out .exit), now (count .exit)) ≡ listC (segmentKeyPoints (steppedAxis whole a b d) (length (stepMarks whole a b d m)) m (now (out .entry))) (now (count .entry)) ⌝ }
 {
-    let axis = SegmentedLinspacei32(Linspacei32 {
+    let steps = SegmentedLinspacei32(Linspacei32 {
         inner: RangedCoordi32(a, b),
         step: d,
     });
-    give_listed(axis.key_points(m, out), count)
+    give_listed(steps.key_points(m, out), count)
 }
 
 #[no_mangle]
 pub extern "C" fn culv_seg_step_real_size(a: f64, b: f64, d: f64, n: &mut u64) -> i32
     ensures { λ r. ⌜ (r, now (n .exit)) ≡ single (segmentSize (steppedAxis real a b d)) (now (n .entry)) ⌝ }
 {
-    let axis = SegmentedLinspacef64(Linspacef64 {
+    let reals = SegmentedLinspacef64(Linspacef64 {
         inner: RangedCoordf64(a, b),
         step: d,
     });
-    give_count(axis.size(), n)
+    give_count(reals.size(), n)
 }
 
 #[no_mangle]
@@ -443,12 +443,12 @@ pub extern "C" fn culv_seg_step_real_map(
 ) -> i32
     ensures { λ r. ⌜ (r, now (pixel .exit)) ≡ single (byMethod (methodOf method) (λ m. byCase (caseOf kind v) (λ s. segmentPlace (steppedAxis real a b d) (steppedFinder real a b d m) s (limitOf p q)))) (now (pixel .entry)) ⌝ }
 {
-    let axis = SegmentedLinspacef64(Linspacef64 {
+    let reals = SegmentedLinspacef64(Linspacef64 {
         inner: RangedCoordf64(a, b),
         step: d,
     });
     give_place(
-        place_step_real(axis, method_of(method), real_case(kind, v), Limit(p, q)),
+        place_step_real(reals, method_of(method), real_case(kind, v), Limit(p, q)),
         pixel,
     )
 }
@@ -465,12 +465,12 @@ pub extern "C" fn culv_seg_step_real_index_of(
 ) -> i32
     ensures { λ r. ⌜ (r, now (k .exit)) ≡ single (byMethod (methodOf method) (λ m. byCase (caseOf kind v) (segmentIndexOf (steppedAxis real a b d) (steppedFinder real a b d m)))) (now (k .entry)) ⌝ }
 {
-    let axis = SegmentedLinspacef64(Linspacef64 {
+    let reals = SegmentedLinspacef64(Linspacef64 {
         inner: RangedCoordf64(a, b),
         step: d,
     });
     give_index(
-        index_step_real(axis, method_of(method), real_case(kind, v)),
+        index_step_real(reals, method_of(method), real_case(kind, v)),
         k,
     )
 }
@@ -486,11 +486,11 @@ pub extern "C" fn culv_seg_step_real_from_index(
 ) -> i32
     ensures { λ r. ⌜ (r, now (kind .exit), now (v .exit)) ≡ segmentC nil (segmentFromIndex (steppedAxis real a b d) k) (now (kind .entry)) (now (v .entry)) ⌝ }
 {
-    let axis = SegmentedLinspacef64(Linspacef64 {
+    let reals = SegmentedLinspacef64(Linspacef64 {
         inner: RangedCoordf64(a, b),
         step: d,
     });
-    give_real_segment(axis.from_index(k), kind, v)
+    give_real_segment(reals.from_index(k), kind, v)
 }
 
 #[no_mangle]
@@ -506,11 +506,11 @@ pub extern "C" fn culv_seg_step_real_unmap(
 ) -> i32
     ensures { λ r. ⌜ (r, now (kind .exit), now (v .exit)) ≡ segmentC nil (segmentReading (steppedAxis real a b d) x (limitOf p q)) (now (kind .entry)) (now (v .entry)) ⌝ }
 {
-    let axis = SegmentedLinspacef64(Linspacef64 {
+    let reals = SegmentedLinspacef64(Linspacef64 {
         inner: RangedCoordf64(a, b),
         step: d,
     });
-    give_real_segment(axis.unmap(x, Limit(p, q)), kind, v)
+    give_real_segment(reals.unmap(x, Limit(p, q)), kind, v)
 }
 
 #[no_mangle]
@@ -524,9 +524,9 @@ pub extern "C" fn culv_seg_step_real_key_points(
 ) -> i32
     ensures { λ r. ⌜ (r, now (out .exit), now (count .exit)) ≡ listC (segmentKeyPoints (steppedAxis real a b d) (length (stepMarks real a b d m)) m (now (out .entry))) (now (count .entry)) ⌝ }
 {
-    let axis = SegmentedLinspacef64(Linspacef64 {
+    let reals = SegmentedLinspacef64(Linspacef64 {
         inner: RangedCoordf64(a, b),
         step: d,
     });
-    give_listed(axis.key_points(m, out), count)
+    give_listed(reals.key_points(m, out), count)
 }

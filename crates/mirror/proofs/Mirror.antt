@@ -82,11 +82,11 @@ module _ (a b : ℤ) (limit : Limit) (m : ℕ) (old old' : List ℕ) (alike : Bo
         match-exactly = λ e. rw (back-written e) (rulers-mirror.mirror a b limit m .match-exactly (ruled a b limit m old e));
         one-half = rulers-mirror.mirror a b limit m .one-half;
         one-more-below = λ e f l.
-        let o = rulers-mirror.mirror a b limit m .one-more-below (ruled a b limit m old e) f l in
-        record { extra = o .extra; is-next = o .is-next; others-match = bytes-written a b limit m old e ∙ o .others-match };
+            let o = rulers-mirror.mirror a b limit m .one-more-below (ruled a b limit m old e) f l in
+            record { extra = o .extra; is-next = o .is-next; others-match = bytes-written a b limit m old e ∙ o .others-match };
         one-more-above = λ e f l.
-        let o = rulers-mirror.mirror a b limit m .one-more-above (ruled a b limit m old e) f l in
-        record { extra = o .extra; is-next = o .is-next; others-match = back-written e ∙ o .others-match };
+            let o = rulers-mirror.mirror a b limit m .one-more-above (ruled a b limit m old e) f l in
+            record { extra = o .extra; is-next = o .is-next; others-match = back-written e ∙ o .others-match };
       }
 
 -- ---- marks
@@ -129,11 +129,11 @@ module _ (a b : ℤ) (m : ℕ) (old old' : List ℤ) (alike : BothLong (length (
         verdicts = same-step;
         match-exactly = λ e. rw (marks-back e, marks-written a b m old e) (marks-mirror.mirror a b m .match-exactly (served a b m old e));
         one-more-below = λ e f l.
-        let o = marks-mirror.mirror a b m .one-more-below (served a b m old e) f l in
-        record { extra = o .extra; is-next = o .is-next; others-match = rw (marks-back e, marks-written a b m old e) (o .others-match) };
+            let o = marks-mirror.mirror a b m .one-more-below (served a b m old e) f l in
+            record { extra = o .extra; is-next = o .is-next; others-match = rw (marks-back e, marks-written a b m old e) (o .others-match) };
         one-more-above = λ e f l.
-        let o = marks-mirror.mirror a b m .one-more-above (served a b m old e) f l in
-        record { extra = o .extra; is-next = rw (marks-mirror.mirror a b m .same-step) (o .is-next); others-match = rw (marks-back e, marks-written a b m old e) (o .others-match) };
+            let o = marks-mirror.mirror a b m .one-more-above (served a b m old e) f l in
+            record { extra = o .extra; is-next = rw (marks-mirror.mirror a b m .same-step) (o .is-next); others-match = rw (marks-back e, marks-written a b m old e) (o .others-match) };
       }
 
 -- ---- stepped axes: over either kind, from what is known of its list, its marks and its calls
@@ -214,18 +214,18 @@ stepped-axis : {A : Type 0} (kind : Kind A) (opposite : A → A) (Turned : List 
 stepped-axis {A = A} kind opposite Turned a b d k =
     record {
       lists = λ old old' h.
-      let v = k .values old old' (alike-long _ _ old old' (k .long _ _ (k .lists)) h) in
-      record { verdicts = v; entries = list-entries kind opposite Turned (k .nothing) a b d old old' (k .lists) v };
+          let v = k .values old old' (alike-long _ _ old old' (k .long _ _ (k .lists)) h) in
+          record { verdicts = v; entries = list-entries kind opposite Turned (k .nothing) a b d old old' (k .lists) v };
       step-marks = λ m old old' h.
-      let v = k .key-points m old old' (alike m old old' h) in
-      record { verdicts = v; entries = mark-entries kind opposite Turned (k .nothing) a b d m old old' (k .marks m) v };
+          let v = k .key-points m old old' (alike m old old' h) in
+          record { verdicts = v; entries = mark-entries kind opposite Turned (k .nothing) a b d m old old' (k .marks m) v };
       places = k .places;
       searches = k .searches;
       segment-indices = k .segments .indices;
       segment-places = k .segments .places;
       segment-marks = λ m old old' h.
-      let v = k .segments .key-points m old old' (alike m old old' h) in
-      record { verdicts = v; entries = segment-entries kind opposite Turned (k .nothing) a b d m old old' (k .marks m) v };
+          let v = k .segments .key-points m old old' (alike m old old' h) in
+          record { verdicts = v; entries = segment-entries kind opposite Turned (k .nothing) a b d m old old' (k .marks m) v };
     }
   where
     alike : (m : ℕ) (old old' : List A) → BothLong (length (stepMarks kind a b d m)) old (length (stepMarks kind (opposite a) (opposite b) (opposite d) m)) old'

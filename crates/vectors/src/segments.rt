@@ -32,7 +32,7 @@ pub struct Found {
     pub number: u64,
 }
 
-fn found(kind: u64, number: u64) -> Found {
+fn answered(kind: u64, number: u64) -> Found {
     Found {
         code: 0,
         kind,
@@ -59,9 +59,9 @@ fn refused(r: Refusal) -> Found {
 
 fn of_whole(s: SegmentValuei32) -> Found {
     match s {
-        SegmentValuei32::Exact(v) => found(0, bits(v)),
-        SegmentValuei32::CenterOf(v) => found(1, bits(v)),
-        SegmentValuei32::Last => found(2, 0),
+        SegmentValuei32::Exact(v) => answered(0, bits(v)),
+        SegmentValuei32::CenterOf(v) => answered(1, bits(v)),
+        SegmentValuei32::Last => answered(2, 0),
     }
 }
 
@@ -75,9 +75,9 @@ fn of_segment(x: Segmenti32) -> Found {
 
 fn of_real(s: SegmentValuef64) -> Found {
     match s {
-        SegmentValuef64::Exact(v) => found(0, pattern(v)),
-        SegmentValuef64::CenterOf(v) => found(1, pattern(v)),
-        SegmentValuef64::Last => found(2, 0),
+        SegmentValuef64::Exact(v) => answered(0, pattern(v)),
+        SegmentValuef64::CenterOf(v) => answered(1, pattern(v)),
+        SegmentValuef64::Last => answered(2, 0),
     }
 }
 
