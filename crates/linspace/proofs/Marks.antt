@@ -17,7 +17,7 @@ use Rattle.numeric.specs.declared.KeyPoints.{KeyPoints}
 use Rattle.numeric.specs.Marks.{low, high, distance, chosen, stepAt, firstIndex, lastIndex, howMany, ceilDiv, listOf, multiple, multiples, noStepFor, stepFor, marksFor}
 use Rattle.numeric.specs.Calls.{wholePlan, planOf}
 use Rattle.numeric.proofs.Lists.{length-of, list-ext, map-list, entry}
-use Rattle.numeric.proofs.Steps.{step-pos}
+use Rattle.numeric.proofs.Steps.{step-pos, step-top}
 use Rattle.numeric.proofs.Reflect.{many-pos}
 use Rattle.numeric.proofs.NoStep.{none-served}
 use Rattle.numeric.proofs.Plans.{planned-good, index-marks-are}
@@ -73,6 +73,22 @@ mark-inside h m {p} e k =
     let hi = high (pos 0) (pos h) in
     let s = stepAt (chosen (distance lo hi) m) in
     subst (λ (q : KeyPoints). k < q .count → natAbs (q .first) + k * natAbs (q .step) ≤ h) (good .plan) (inside lo hi s h k (low-zero h) (high-zero h) (step-pos (chosen (distance lo hi) m) (good .in-table)))
+
+from-zero : (lo : ℤ) (s : ℕ) → lo ≡ pos 0 → 0 < s → natAbs (firstIndex lo s *ℤ pos s) ≡ 0
+from-zero lo s e some = rw e (ap (λ (q : ℕ). q * s) (div-eq-of-lt (omega (arith, some))) ∙ zero-mul s)
+
+pub mark-from-zero : (h m : ℕ) {p : KeyPoints} → wholePlan (pos 0) (pos h) m ≡ given p → natAbs (p .first) ≡ 0
+unfolding stepFor
+mark-from-zero h m e =
+    let good = planned-good (pos 0) (pos h) m e in
+    let k = chosen (distance (low (pos 0) (pos h)) (high (pos 0) (pos h))) m in
+    subst (λ (q : KeyPoints). natAbs (q .first) ≡ 0) (good .plan) (from-zero (low (pos 0) (pos h)) (stepAt k) (low-zero h) (step-pos k (good .in-table)))
+
+pub step-small : (h m : ℕ) {p : KeyPoints} → wholePlan (pos 0) (pos h) m ≡ given p → natAbs (p .step) ≤ 1000000000
+unfolding stepFor
+step-small h m e =
+    let good = planned-good (pos 0) (pos h) m e in
+    subst (λ (q : KeyPoints). natAbs (q .step) ≤ 1000000000) (good .plan) (step-top (chosen (distance (low (pos 0) (pos h)) (high (pos 0) (pos h))) m) (good .in-table))
 
 -- ---- the entries at the marks
 module _ {A : Type 0} (x : A) (l : List A) (m : ℕ) where
