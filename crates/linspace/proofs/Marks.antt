@@ -35,13 +35,10 @@ apart : (h : ℕ) → distance (low (pos 0) (pos h)) (high (pos 0) (pos h)) ≡ 
 apart h = rw (low-zero h, high-zero h) (omega arith)
 
 -- it has a plan, unless m is 0
-pub plan-given : (h m : ℕ) → h ≤ 1000000000 → 0 < m → {r : ℕ} → wholePlan (pos 0) (pos h) m ≡ refused r → ⊥
+pub plan-is : (h m : ℕ) → h ≤ 1000000000 → 0 < m → wholePlan (pos 0) (pos h) m ≡ given (planOf (pos 0) (pos h) m)
 unfolding wholePlan noStepFor
-plan-given h m near some {r} e = never (sym (rw (le-leb h 1000000000 near, served) refl) ∙ e)
+plan-is h m near some = rw (le-leb h 1000000000 near, served) refl
   where
-    never : given (planOf (pos 0) (pos h) m) ≡ refused r → ⊥
-    never e = let z : _≡_ {A = ℕ} 0 1 = cc in omega (arith, z)
-
     d : ℕ
     d = distance (low (pos 0) (pos h)) (high (pos 0) (pos h))
 
@@ -55,6 +52,12 @@ plan-given h m near some {r} e = never (sym (rw (le-leb h 1000000000 near, serve
         go : Dec (chosen d m < 28) → chosen d m < 28
         go (yes l) = l
         go (no g) = absurd (neither (none-served d m (omega (arith, apart h, near)) (omega (arith, g))))
+
+pub plan-given : (h m : ℕ) → h ≤ 1000000000 → 0 < m → {r : ℕ} → wholePlan (pos 0) (pos h) m ≡ refused r → ⊥
+plan-given h m near some {r} e = never (sym (plan-is h m near some) ∙ e)
+  where
+    never : given (planOf (pos 0) (pos h) m) ≡ refused r → ⊥
+    never e = let z : _≡_ {A = ℕ} 0 1 = cc in omega (arith, z)
 
 -- and every mark lies on it
 inside : (lo hi : ℤ) (s h k : ℕ) → lo ≡ pos 0 → hi ≡ pos h → 0 < s → k < length (multiples (firstIndex lo s) (lastIndex hi s) s) → natAbs (firstIndex lo s *ℤ pos s) + k * s ≤ h
@@ -90,6 +93,23 @@ step-small h m e =
     let good = planned-good (pos 0) (pos h) m e in
     subst (λ (q : KeyPoints). natAbs (q .step) ≤ 1000000000) (good .plan) (step-top (chosen (distance (low (pos 0) (pos h)) (high (pos 0) (pos h))) m) (good .in-table))
 
+-- and one at 0 is among them
+begun : (lo hi : ℤ) (s h : ℕ) → lo ≡ pos 0 → hi ≡ pos h → 0 < s → 0 < length (multiples (firstIndex lo s) (lastIndex hi s) s)
+begun lo hi s h el eh some =
+    rw (el, eh)
+    (let c = ceilDiv 0 s in
+    let first : c ≡ 0 = div-eq-of-lt (omega (arith, some)) in
+    omega (arith, length-of (multiple (pos c) s) (howMany (pos c) (pos (h / s))), many-pos c (h / s), first))
+
+mark-first : (h m : ℕ) {p : KeyPoints} → wholePlan (pos 0) (pos h) m ≡ given p → 0 < p .count
+unfolding stepFor marksFor
+mark-first h m {p} e =
+    let good = planned-good (pos 0) (pos h) m e in
+    let lo = low (pos 0) (pos h) in
+    let hi = high (pos 0) (pos h) in
+    let s = stepAt (chosen (distance lo hi) m) in
+    subst (λ (q : KeyPoints). 0 < q .count) (good .plan) (begun lo hi s h (low-zero h) (high-zero h) (step-pos (chosen (distance lo hi) m) (good .in-table)))
+
 -- ---- the entries at the marks
 module _ {A : Type 0} (x : A) (l : List A) (m : ℕ) where
   pub marks-none : length l ≡ 0 → marksOf x l m ≡ []
@@ -103,6 +123,12 @@ module _ {A : Type 0} (x : A) (l : List A) (m : ℕ) where
       rw (e, lt-ltb 0 n (omega (arith, some)))
       (ap (map (λ k. getD l k x)) (index-marks-are 0 (n - 1) m [] plan)
       ∙ map-list (λ k. getD l k x) (λ k. natAbs (p .first) + k * natAbs (p .step)) (p .count))
+
+  pub marks-some : (n : ℕ) → length l ≡ n → (n ≡ 0 → ⊥) → n ≤ 1000000000 → 0 < m → 0 < length (marksOf x l m)
+  marks-some n e some near h =
+      let plan = plan-is (n - 1) m (omega (arith, near)) h in
+      let p = planOf (pos 0) (pos (n - 1)) m in
+      omega (arith, ap length (marks-are n e some plan), length-of (λ k. getD l (natAbs (p .first) + k * natAbs (p .step)) x) (p .count), mark-first (n - 1) m plan)
 
 -- of a list by index
 pub marks-list : {A : Type 0} (x : A) (f : ℕ → A) (n m : ℕ) → (n ≡ 0 → ⊥) → {p : KeyPoints} → wholePlan (pos 0) (pos (n - 1)) m ≡ given p

@@ -22,7 +22,7 @@ use Rattle.search.specs.declared.RoundingMethod.{RoundingMethod}
 use Rattle.linspace.specs.List.{Kind, whole, real, stepped, against, tooLong, axisAdmitted, most}
 use Rattle.linspace.specs.Calls.{nth, hasEntries, stepSize, stepFromIndex, stepIndexOf, stepMarks, stepKeyPoints}
 use Rattle.linspace.proofs.Walks.{nth-past}
-use Rattle.linspace.proofs.Marks.{marks-none}
+use Rattle.linspace.proofs.Marks.{marks-none, marks-some, some-marks}
 use Rattle.linspace.proofs.WholeRules.{ends-place}
 use Rattle.segmented.specs.Values.{Segment, exact, centerOf, last}
 use Rattle.segmented.specs.Segments.{Axis, Finder, half, margin, narrowed, start, entryAfter, successor, middle, placed, afterBeyond, tooFar, fitIn, unsoughtPlace, segmentPlace, segmentSize, indexIn, unsoughtIn, segmentIndexOf, exactly, segmentAt, segmentFromIndex, segmentOf, segmentReading, segmentKeyPoints}
@@ -404,27 +404,56 @@ module _ {A : Type 0} (kind : Kind A) (a b d : A) where
         go true false false false true h r = rw (short-some h) refl
         go true false false false false h r = absurd (not-both r)
 
-    pub points-is : {k : ℕ} → Stands steps k → stepKeyPoints kind a b d m old ≡ segmentMarks
-    unfolding stepKeyPoints segmentKeyPoints
-    points-is s = rw (s .admitted, s .onward, s .short, some-entries steps s) refl
+    -- the marks were written: there are none exactly if there are no entries
+    module _ {k : ℕ} {new : List A} (e : stepKeyPoints kind a b d m old ≡ (given k, new)) where
+      record Passed : Type 0 where
+        admitted : axisAdmitted kind a b d ≡ true
+        served : (eqb m 0 && hasEntries (stepped kind a b d)) ≡ false
+        onward : against kind a b d ≡ false
+        short : tooLong kind a b d ≡ false
+        room : ltb (length old) (length marked) ≡ false
+        told : written {A = ℕ} (given (length marked)) marked old ≡ (given k, new)
 
-    pub points-stopped : {n k : ℕ} {new : List A} → stepKeyPoints kind a b d m old ≡ (given k, new) → countAnswer steps ≡ refused n → (refused n, new) ≡ segmentMarks
-    unfolding stepKeyPoints segmentKeyPoints countAnswer
-    points-stopped {n} {k} {new} e =
-        go (axisAdmitted kind a b d) (eqb m 0 && hasEntries (stepped kind a b d)) (against kind a b d) (tooLong kind a b d) (ltb (length old) (length marked)) (eqb (length (stepped kind a b d)) 0) refl e
-      where
-        go : (t y u z f o : Bool) → eqb (length (stepped kind a b d)) 0 ≡ o → written (below t y u z f) marked old ≡ (given k, new)
-            → lowest (1 when not t ∷ 4 when (not (u || z) && (o || false)) ∷ 6 when u ∷ 7 when z ∷ []) (given (length (stepped kind a b d))) ≡ refused n
-            → (refused n, new) ≡ written (by t y u z f o) marked old
-        go false y u z f o h p c = absurd (not-both (sym (ap (λ q. q .0) p)))
-        go true true u z f o h p c = absurd (not-both (sym (ap (λ q. q .0) p)))
-        go true false true z f o h p c = absurd (not-both (sym (ap (λ q. q .0) p)))
-        go true false false true f o h p c = absurd (not-both (sym (ap (λ q. q .0) p)))
-        go true false false false true o h p c = absurd (not-both (sym (ap (λ q. q .0) p)))
-        go true false false false false false h p c = absurd (not-both c)
-        go true false false false false true h p c =
-            let kept : new ≡ old = sym (ap (λ q. q .1) p) ∙ rw (no-marks (eqb-true (length (stepped kind a b d)) 0 h)) refl in
-            ap (λ (l : List A). (refused n, l)) kept ∙ ap (λ (r : Answer ℕ). (r, old)) (sym c)
+      passed : Passed
+      unfolding stepKeyPoints
+      passed = go (axisAdmitted kind a b d) refl (eqb m 0 && hasEntries (stepped kind a b d)) refl (against kind a b d) refl (tooLong kind a b d) refl (ltb (length old) (length marked)) refl e
+        where
+          go : (t : Bool) → axisAdmitted kind a b d ≡ t → (y : Bool) → (eqb m 0 && hasEntries (stepped kind a b d)) ≡ y → (u : Bool) → against kind a b d ≡ u → (z : Bool) → tooLong kind a b d ≡ z → (f : Bool) → ltb (length old) (length marked) ≡ f
+              → written (below t y u z f) marked old ≡ (given k, new) → Passed
+          go false ht y hy u hu z hz f hf p = absurd (not-both (sym (ap (λ q. q .0) p)))
+          go true ht true hy u hu z hz f hf p = absurd (not-both (sym (ap (λ q. q .0) p)))
+          go true ht false hy true hu z hz f hf p = absurd (not-both (sym (ap (λ q. q .0) p)))
+          go true ht false hy false hu true hz f hf p = absurd (not-both (sym (ap (λ q. q .0) p)))
+          go true ht false hy false hu false hz true hf p = absurd (not-both (sym (ap (λ q. q .0) p)))
+          go true ht false hy false hu false hz false hf p = record { admitted = ht; served = hy; onward = hu; short = hz; room = hf; told = p }
+
+      marked-size : length marked ≡ k
+      marked-size = given-is (ap (λ q. q .0) (passed .told))
+
+      no-entries : k ≡ 0 → length (stepped kind a b d) ≡ 0
+      no-entries z = go (eqb (length (stepped kind a b d)) 0) refl
+        where
+          go : (o : Bool) → eqb (length (stepped kind a b d)) 0 ≡ o → length (stepped kind a b d) ≡ 0
+          go true h = eqb-true (length (stepped kind a b d)) 0 h
+          go false h =
+              let n = length (stepped kind a b d) in
+              let some = eqb-false n 0 h in
+              let few = ltb-false most n (passed .short) in
+              let bound = some-marks (stepped kind a b d) m n (passed .served) refl (omega (arith, some)) in
+              absurd (omega (arith, z, marked-size, marks-some (kind .nil) (stepped kind a b d) m n refl some (omega (arith, few)) bound))
+
+      pub points-none : k ≡ 0 → (refused 4, new) ≡ segmentMarks
+      unfolding segmentKeyPoints
+      points-none z =
+          let none-there = no-entries z in
+          let kept : new ≡ old = sym (ap (λ q. q .1) (passed .told)) ∙ rw (no-marks none-there) refl in
+          rw (passed .admitted, passed .served, passed .onward, passed .short, eq-eqb (length (stepped kind a b d)) 0 none-there) (ap (λ (l : List A). (refused 4, l)) kept)
+
+      pub points-some : (k ≡ 0 → ⊥) → (given k, new) ≡ segmentMarks
+      unfolding segmentKeyPoints
+      points-some some =
+          sym (passed .told)
+          ∙ rw (passed .admitted, passed .served, passed .onward, passed .short, passed .room, ne-eqb (length (stepped kind a b d)) 0 (λ h. some (sym marked-size ∙ ap length (no-marks h)))) refl
 
 -- ---- every real is admitted
 pub every-real : (a b d : Float) (s : Segment Float) → (axisAdmitted real a b d && fitIn (steppedAxis real a b d) s) ≡ true

@@ -240,18 +240,20 @@ impl SegmentedLinspacei32 {
         }
     }
 
-    // The marks of the axis, each standing for the middle of its segment, written to the start of out: m bounds their number. An axis
-    // without entries has no marks, so that nothing is written there.
+    // The marks of the axis, each standing for the middle of its segment, written to the start of out: m bounds their number. An axis has
+    // marks exactly if it has entries, so that its list need not be walked again to tell, and without entries nothing is written.
     pub fn key_points(self, m: u32, out: &mut [i32]) -> Listed
         ensures { λ r. ⌜ (tellListed r, now (out .exit)) ≡ segmentKeyPoints (steppedAxis whole (self .0 .inner .0) (self .0 .inner .1) (self .0 .step)) (length (stepMarks whole (self .0 .inner .0) (self .0 .inner .1) (self .0 .step) m)) m (now (out .entry)) ⌝ }
     {
         let axis = self.0;
         match axis.key_points(m, out) {
             Listed::Refused(r) => Listed::Refused(r),
-            Listed::Written(size) => match segments(axis) {
-                Count::Refused(r) => Listed::Refused(r),
-                Count::Of(_) => Listed::Written(size),
-            },
+            Listed::Written(size) => {
+                if size == 0 {
+                    return Listed::Refused(Refusal::NoSegments);
+                }
+                Listed::Written(size)
+            }
         }
     }
 }
