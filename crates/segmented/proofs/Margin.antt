@@ -177,11 +177,6 @@ module _ (n : ℕ) (limit : Limit) (admitted : limitAdmitted limit ≡ true) whe
   pub length-small : natAbs (limit .1 -ℤ limit .0) ≤ 2000000
   length-small = let h = near-limits limit admitted in omega (arith, h .0, h .1, minus-far (limit .1) (limit .0))
 
-  pub margin-small : 1 ≤ n → n ≤ 16777216 → natAbs (margin n limit) ≤ 2000000
-  margin-small some few =
-      let h = length-small in
-      rw (margin-is n limit) (le-trans (share-small n some few (limit .1 -ℤ limit .0) (omega arith)) h)
-
   pub narrowed-admitted : 1 ≤ n → n ≤ 16777216 → limitAdmitted (narrowed n limit) ≡ true
   narrowed-admitted some few =
       let h = near-limits limit admitted in
@@ -189,6 +184,18 @@ module _ (n : ℕ) (limit : Limit) (admitted : limitAdmitted limit ≡ true) whe
       let near : natAbs (limit .1 -ℤ margin n limit) ≤ 1000000 =
       rw (margin-is n limit) (between n some few (limit .0) (limit .1) (limit .1 -ℤ limit .0) 1000000 refl (omega arith) (h .0) (h .1)) in
       rw (le-leb (natAbs (limit .0)) 1000000 (h .0), le-leb (natAbs (limit .1 -ℤ margin n limit)) 1000000 near)
+
+-- ---- of limits that were narrowed
+module _ (n : ℕ) (limit : Limit) {within : Limit} (e : within ≡ narrowed n limit) where
+  -- they tell the margin
+  pub moved-by : limit .1 -ℤ within .1 ≡ margin n limit
+  moved-by =
+      let q = limit .1 in
+      let k = margin n limit in
+      ap (λ (w : Limit). q -ℤ w .1) e ∙ ap (λ z. z -ℤ (q -ℤ k)) (sym (-ℤ-+ℤ-cancel q k) ∙ +ℤ-comm (q -ℤ k) k) ∙ +ℤ-negℤ-cancel k (q -ℤ k)
+
+  pub within-admitted : limitAdmitted limit ≡ true → 1 ≤ n → n ≤ 16777216 → limitAdmitted within ≡ true
+  within-admitted h some few = ap limitAdmitted e ∙ narrowed-admitted n limit h some few
 
 -- ---- what fits an i32: the sum of two places, and half of one
 pub sum-near : (x y : ℤ) → natAbs x ≤ 1_001_000_000 → natAbs y ≤ 1_001_000_000 → natAbs (x +ℤ y) ≤ 2_002_000_000

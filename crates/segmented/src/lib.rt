@@ -8,7 +8,7 @@ ghost use mathlib.Core.Path.{_≡_};
 ghost use mathlib.Core.Bool.{true};
 ghost use Prim.Native.Nat.{_≤_};
 ghost use Rattle.ranged1d.specs.Admitted.{limitAdmitted};
-ghost use lib.IntN.{natAbs, _+ℤ_};
+ghost use lib.IntN.{natAbs, _+ℤ_, _-ℤ_};
 ghost use Rattle.segmented.specs.Segments.{half, shared, margin, narrowed};
 use linspace::Linspacef64;
 use linspace::Linspacei32;
@@ -90,10 +90,12 @@ fn between(left: i32, right: i32) -> i32
     (left + right) / 2
 }
 
-// Half the margin behind a place.
-fn beside(left: i32, n: u32, limit: Limit) -> i32
-    requires { ⌜ natAbs left ≤ 1001000000 ⌝ ∗ ⌜ limitAdmitted limit ≡ true ⌝ ∗ ⌜ 1 ≤ n ⌝ ∗ ⌜ n ≤ 16777216 ⌝ }
-    ensures { λ r. ⌜ r ≡ left +ℤ half (margin n limit) ⌝ }
+// Half the margin behind a place: the margin is what the second limit was moved in by.
+fn beside(left: i32, limit: Limit, within: Limit) -> i32
+    requires { ⌜ natAbs left ≤ 1001000000 ⌝ ∗ ⌜ limitAdmitted limit ≡ true ⌝ ∗ ⌜ limitAdmitted within ≡ true ⌝ }
+    ensures { λ r. ⌜ r ≡ left +ℤ half (limit .1 -ℤ within .1) ⌝ }
 {
-    left + margin_of(n, limit) / 2
+    let q = limit.1;
+    let e = within.1;
+    left + (q - e) / 2
 }

@@ -10,9 +10,9 @@ ghost use Rattle.real.specs.Reading.{tellReading};
 ghost use Rattle.linspace.specs.List.{real};
 ghost use Rattle.linspace.specs.Calls.{tellListed, stepMarks};
 ghost use Rattle.segmented.specs.Values.{realSegment, tellRealSegment, exact};
-ghost use Rattle.segmented.specs.Segments.{start, segmentPlace, segmentSize, segmentIndexOf, segmentAt, segmentFromIndex, segmentReading, segmentKeyPoints};
+ghost use Rattle.segmented.specs.Segments.{narrowed, start, segmentPlace, segmentSize, segmentIndexOf, segmentAt, segmentFromIndex, segmentReading, segmentKeyPoints};
 ghost use Rattle.segmented.specs.Axes.{steppedAxis, steppedFinder};
-ghost use Rattle.segmented.specs.Steps.{spotAnswer, countAnswer, Stands, nextAnswer, centerAnswer, placedAnswer};
+ghost use Rattle.segmented.specs.Steps.{countAnswer, Stands, nextAnswer, centerAnswer, placedAnswer};
 use crate::SegmentValuef64;
 use crate::SegmentedLinspacef64;
 use crate::Segmentf64;
@@ -62,16 +62,7 @@ fn next(axis: Linspacef64, n: u64, method: RoundingMethod, v: f64) -> RealReadin
     }
 }
 
-// The place where the segment of v begins.
-fn begins(axis: Linspacef64, n: u64, v: f64, limit: Limit) -> Place
-    requires { ⌜ Stands (steppedAxis real (axis .inner .0) (axis .inner .1) (axis .step)) n ⌝ }
-    requires { ⌜ limitAdmitted limit ≡ true ⌝ }
-    ensures { λ r. ⌜ tellPlace r ≡ spotAnswer (start (steppedAxis real (axis .inner .0) (axis .inner .1) (axis .step)) v limit) ⌝ }
-{
-    axis.inner.map(v, narrow(n as u32, limit))
-}
-
-// The middle of the segment of v, which begins at `left`.
+// The middle of the segment of v, which begins at `left`. Entries are placed within the narrowed limits.
 fn center(
     axis: Linspacef64,
     n: u64,
@@ -79,16 +70,18 @@ fn center(
     v: f64,
     left: i32,
     limit: Limit,
+    within: Limit,
 ) -> Place
     requires { ⌜ Stands (steppedAxis real (axis .inner .0) (axis .inner .1) (axis .step)) n ⌝ }
     requires { ⌜ limitAdmitted limit ≡ true ⌝ }
+    requires { ⌜ within ≡ narrowed n limit ⌝ }
     requires { ⌜ start (steppedAxis real (axis .inner .0) (axis .inner .1) (axis .step)) v limit ≡ Number left ⌝ }
     ensures { λ r. ⌜ tellPlace r ≡ centerAnswer (steppedAxis real (axis .inner .0) (axis .inner .1) (axis .step)) (steppedFinder real (axis .inner .0) (axis .inner .1) (axis .step) method) v limit ⌝ }
 {
     match next(axis, n, method, v) {
         RealReading::Refused(r) => Place::Refused(r),
-        RealReading::Nothing => Place::At(beside(left, n as u32, limit)),
-        RealReading::At(w) => match begins(axis, n, w, limit) {
+        RealReading::Nothing => Place::At(beside(left, limit, within)),
+        RealReading::At(w) => match axis.inner.map(w, within) {
             Place::Refused(r) => Place::Refused(r),
             Place::At(right) => Place::At(between(left, right)),
         },
@@ -107,11 +100,12 @@ fn place_of(
     requires { ⌜ limitAdmitted limit ≡ true ⌝ }
     ensures { λ r. ⌜ tellPlace r ≡ placedAnswer (steppedAxis real (axis .inner .0) (axis .inner .1) (axis .step)) (steppedFinder real (axis .inner .0) (axis .inner .1) (axis .step) method) (realSegment value) limit ⌝ }
 {
+    let within = narrow(n as u32, limit);
     match value {
-        SegmentValuef64::Exact(v) => begins(axis, n, v, limit),
-        SegmentValuef64::CenterOf(v) => match begins(axis, n, v, limit) {
+        SegmentValuef64::Exact(v) => axis.inner.map(v, within),
+        SegmentValuef64::CenterOf(v) => match axis.inner.map(v, within) {
             Place::Refused(r) => Place::Refused(r),
-            Place::At(left) => center(axis, n, method, v, left, limit),
+            Place::At(left) => center(axis, n, method, v, left, limit, within),
         },
         SegmentValuef64::Last => Place::At(limit.1),
     }

@@ -9,9 +9,9 @@ ghost use Rattle.real.specs.Place.{tellPlace};
 ghost use Rattle.linspace.specs.List.{whole, axisAdmitted};
 ghost use Rattle.linspace.specs.Calls.{tellListed, stepMarks};
 ghost use Rattle.segmented.specs.Values.{wholeSegment, tellSegment, exact};
-ghost use Rattle.segmented.specs.Segments.{start, fitIn, segmentPlace, segmentSize, segmentIndexOf, segmentAt, segmentFromIndex, segmentReading, segmentKeyPoints};
+ghost use Rattle.segmented.specs.Segments.{narrowed, start, fitIn, segmentPlace, segmentSize, segmentIndexOf, segmentAt, segmentFromIndex, segmentReading, segmentKeyPoints};
 ghost use Rattle.segmented.specs.Axes.{steppedAxis, steppedFinder};
-ghost use Rattle.segmented.specs.Steps.{spotAnswer, countAnswer, Stands, nextAnswer, centerAnswer, placedAnswer};
+ghost use Rattle.segmented.specs.Steps.{countAnswer, Stands, nextAnswer, centerAnswer, placedAnswer};
 use crate::SegmentValuei32;
 use crate::SegmentedLinspacei32;
 use crate::Segmenti32;
@@ -76,17 +76,7 @@ fn next(axis: Linspacei32, n: u64, method: RoundingMethod, v: i32) -> Value
     }
 }
 
-// The place where the segment of v begins.
-fn begins(axis: Linspacei32, n: u64, v: i32, limit: Limit) -> Place
-    requires { ⌜ Stands (steppedAxis whole (axis .inner .0) (axis .inner .1) (axis .step)) n ⌝ }
-    requires { ⌜ wholeAdmitted v ≡ true ⌝ }
-    requires { ⌜ limitAdmitted limit ≡ true ⌝ }
-    ensures { λ r. ⌜ tellPlace r ≡ spotAnswer (start (steppedAxis whole (axis .inner .0) (axis .inner .1) (axis .step)) v limit) ⌝ }
-{
-    axis.inner.map(v, narrow(n as u32, limit))
-}
-
-// The middle of the segment of v, which begins at `left`.
+// The middle of the segment of v, which begins at `left`. Entries are placed within the narrowed limits.
 fn center(
     axis: Linspacei32,
     n: u64,
@@ -94,17 +84,19 @@ fn center(
     v: i32,
     left: i32,
     limit: Limit,
+    within: Limit,
 ) -> Place
     requires { ⌜ Stands (steppedAxis whole (axis .inner .0) (axis .inner .1) (axis .step)) n ⌝ }
     requires { ⌜ wholeAdmitted v ≡ true ⌝ }
     requires { ⌜ limitAdmitted limit ≡ true ⌝ }
+    requires { ⌜ within ≡ narrowed n limit ⌝ }
     requires { ⌜ start (steppedAxis whole (axis .inner .0) (axis .inner .1) (axis .step)) v limit ≡ Number left ⌝ }
     ensures { λ r. ⌜ tellPlace r ≡ centerAnswer (steppedAxis whole (axis .inner .0) (axis .inner .1) (axis .step)) (steppedFinder whole (axis .inner .0) (axis .inner .1) (axis .step) method) v limit ⌝ }
 {
     match next(axis, n, method, v) {
         Value::Refused(r) => Place::Refused(r),
-        Value::Nothing => Place::At(beside(left, n as u32, limit)),
-        Value::At(w) => match begins(axis, n, w, limit) {
+        Value::Nothing => Place::At(beside(left, limit, within)),
+        Value::At(w) => match axis.inner.map(w, within) {
             Place::Refused(r) => Place::Refused(r),
             Place::At(right) => Place::At(between(left, right)),
         },
@@ -124,11 +116,12 @@ fn place_of(
     requires { ⌜ limitAdmitted limit ≡ true ⌝ }
     ensures { λ r. ⌜ tellPlace r ≡ placedAnswer (steppedAxis whole (axis .inner .0) (axis .inner .1) (axis .step)) (steppedFinder whole (axis .inner .0) (axis .inner .1) (axis .step) method) (wholeSegment value) limit ⌝ }
 {
+    let within = narrow(n as u32, limit);
     match value {
-        SegmentValuei32::Exact(v) => begins(axis, n, v, limit),
-        SegmentValuei32::CenterOf(v) => match begins(axis, n, v, limit) {
+        SegmentValuei32::Exact(v) => axis.inner.map(v, within),
+        SegmentValuei32::CenterOf(v) => match axis.inner.map(v, within) {
             Place::Refused(r) => Place::Refused(r),
-            Place::At(left) => center(axis, n, method, v, left, limit),
+            Place::At(left) => center(axis, n, method, v, left, limit, within),
         },
         SegmentValuei32::Last => Place::At(limit.1),
     }

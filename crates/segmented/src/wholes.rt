@@ -10,9 +10,9 @@ ghost use Rattle.numeric.specs.Marks.{marks, stepOf};
 ghost use Rattle.numeric.specs.Whole.{tellCount, tellIndex, tellValue, endsAdmitted};
 ghost use Rattle.real.specs.Place.{tellPlace};
 ghost use Rattle.segmented.specs.Values.{wholeSegment, tellSegment, exact};
-ghost use Rattle.segmented.specs.Segments.{start, fitIn, segmentPlace, segmentSize, segmentIndexOf, segmentAt, segmentFromIndex, segmentReading, segmentKeyPoints};
+ghost use Rattle.segmented.specs.Segments.{narrowed, start, fitIn, segmentPlace, segmentSize, segmentIndexOf, segmentAt, segmentFromIndex, segmentReading, segmentKeyPoints};
 ghost use Rattle.segmented.specs.Axes.{wholeAxis, wholeFinder};
-ghost use Rattle.segmented.specs.Steps.{spotAnswer, countAnswer, Stands, nextAnswer, centerAnswer, placedAnswer};
+ghost use Rattle.segmented.specs.Steps.{countAnswer, Stands, nextAnswer, centerAnswer, placedAnswer};
 use crate::SegmentValuei32;
 use crate::SegmentedCoordi32;
 use crate::Segmenti32;
@@ -79,28 +79,19 @@ fn next(axis: RangedCoordi32, n: u64, v: i32) -> Value
     Value::Nothing
 }
 
-// The place where the segment of v begins.
-fn begins(axis: RangedCoordi32, n: u64, v: i32, limit: Limit) -> Place
+// The middle of the segment of v, which begins at `left`. Entries are placed within the narrowed limits.
+fn center(axis: RangedCoordi32, n: u64, v: i32, left: i32, limit: Limit, within: Limit) -> Place
     requires { ⌜ Stands (wholeAxis (axis .0) (axis .1)) n ⌝ }
     requires { ⌜ wholeAdmitted v ≡ true ⌝ }
     requires { ⌜ limitAdmitted limit ≡ true ⌝ }
-    ensures { λ r. ⌜ tellPlace r ≡ spotAnswer (start (wholeAxis (axis .0) (axis .1)) v limit) ⌝ }
-{
-    axis.map(v, narrow(n as u32, limit))
-}
-
-// The middle of the segment of v, which begins at `left`.
-fn center(axis: RangedCoordi32, n: u64, v: i32, left: i32, limit: Limit) -> Place
-    requires { ⌜ Stands (wholeAxis (axis .0) (axis .1)) n ⌝ }
-    requires { ⌜ wholeAdmitted v ≡ true ⌝ }
-    requires { ⌜ limitAdmitted limit ≡ true ⌝ }
+    requires { ⌜ within ≡ narrowed n limit ⌝ }
     requires { ⌜ start (wholeAxis (axis .0) (axis .1)) v limit ≡ Number left ⌝ }
     ensures { λ r. ⌜ tellPlace r ≡ centerAnswer (wholeAxis (axis .0) (axis .1)) (wholeFinder (axis .0)) v limit ⌝ }
 {
     match next(axis, n, v) {
         Value::Refused(r) => Place::Refused(r),
-        Value::Nothing => Place::At(beside(left, n as u32, limit)),
-        Value::At(w) => match begins(axis, n, w, limit) {
+        Value::Nothing => Place::At(beside(left, limit, within)),
+        Value::At(w) => match axis.map(w, within) {
             Place::Refused(r) => Place::Refused(r),
             Place::At(right) => Place::At(between(left, right)),
         },
@@ -114,11 +105,12 @@ fn place_of(axis: RangedCoordi32, n: u64, value: SegmentValuei32, limit: Limit) 
     requires { ⌜ limitAdmitted limit ≡ true ⌝ }
     ensures { λ r. ⌜ tellPlace r ≡ placedAnswer (wholeAxis (axis .0) (axis .1)) (wholeFinder (axis .0)) (wholeSegment value) limit ⌝ }
 {
+    let within = narrow(n as u32, limit);
     match value {
-        SegmentValuei32::Exact(v) => begins(axis, n, v, limit),
-        SegmentValuei32::CenterOf(v) => match begins(axis, n, v, limit) {
+        SegmentValuei32::Exact(v) => axis.map(v, within),
+        SegmentValuei32::CenterOf(v) => match axis.map(v, within) {
             Place::Refused(r) => Place::Refused(r),
-            Place::At(left) => center(axis, n, v, left, limit),
+            Place::At(left) => center(axis, n, v, left, limit, within),
         },
         SegmentValuei32::Last => Place::At(limit.1),
     }

@@ -8,16 +8,17 @@ use mir.Val.{toZ, ofZ}
 use mir.Facts.{toZ-ofZ}
 use Rattle.ranged1d.specs.Answer.{given}
 use Rattle.rounding.specs.declared.Whole.the-variants.{Number}
-use Rattle.real.specs.Place.{tellPlace}
+use Rattle.real.specs.Place.{tellPlace, realPlace}
 use Rattle.real.specs.declared.Place.{Place}
 use Rattle.real.specs.Reading.{tellReading}
 use Rattle.real.specs.declared.RealReading.{RealReading}
 use Rattle.linspace.specs.List.{real}
+use Rattle.segmented.proofs.Margin.{moved-by, within-admitted}
 use Rattle.segmented.proofs.Entries.{start-near}
 use Rattle.segmented.specs.Segments.{Axis, Finder, half, margin, start}
 use Rattle.segmented.specs.Axes.{steppedAxis, steppedFinder}
 use Rattle.segmented.specs.Steps.{spotAnswer, nextAnswer}
-use Rattle.segmented.proofs.Rules.{spot-number, center-refused, center-alone, center-far, center-between}
+use Rattle.segmented.proofs.Rules.{real-begins, spot-number, center-refused, center-alone, center-far, center-between}
 use borrow.Author.Needs.{needs}
 use Rattle.segmented.proofs.reals.center.Statement.{statement}
 use Rattle.segmented.proofs.reals.center.Tie as tie
@@ -42,10 +43,13 @@ module _ (s : tie.Start) where
   left-is = toZ-ofZ (s .fits .left)
 
   begun : start axis (s .args .v) (s .args .limit) ≡ Number (s .args .left)
-  begun = s .pre .1 .1
+  begun = s .pre .1 .1 .1
 
   near : (v : Float) {z : ℤ} → start axis v (s .args .limit) ≡ Number z → natAbs z ≤ 1_001_000_000
   near v e = start-near axis a b (λ x. x) (λ v limit. refl) (s .pre .0) (s .args .limit) (s .pre .1 .0) v e
+
+  placed : (v : Float) → realPlace a b v (s .args .within) ≡ spotAnswer (start axis v (s .args .limit))
+  placed v = real-begins a b d (s .pre .0) v (s .args .limit) (s .pre .1 .0) (s .pre .1 .1 .0)
 
 told : (c : tie.After-next) {r : RealReading} → c .next .result ≡ r → let s = c .before in nextAnswer (axis s) (find s) (s .args .v) ≡ tellReading r
 told c e = sym ((c .next .ensures)) ∙ ap tellReading e
@@ -59,19 +63,16 @@ enum-known-r c = search needs
 enum-told : tie.Need-enum-told
 enum-told c = search needs
 
-cast-beside : tie.Need-cast-beside
-cast-beside c = search needs
-
 beside-requires : tie.Need-beside-requires
 beside-requires c κs =
     let s = c .before .before .before in
-    rw (left-is s) (near s (s .args .v) (begun s), (s .pre .1 .0, (s .pre .0 .some, s .pre .0 .most)))
+    rw (left-is s) (near s (s .args .v) (begun s), (s .pre .1 .0, within-admitted (s .args .n) (s .args .limit) (s .pre .1 .1 .0) (s .pre .1 .0) (s .pre .0 .some) (s .pre .0 .most)))
 
 enum-known-w : tie.Need-enum-known-w
 enum-known-w c = search needs
 
-begins-requires : tie.Need-begins-requires
-begins-requires c κs = let s = c .before .before .before .before in (s .pre .0, s .pre .1 .0)
+map-requires : tie.Need-map-requires
+map-requires c κs = search needs
 
 enum-known-r-2 : tie.Need-enum-known-r-2
 enum-known-r-2 c = search needs
@@ -80,7 +81,7 @@ enum-known-right : tie.Need-enum-known-right
 enum-known-right c = search needs
 
 -- ---- the successor's place
-module _ (c : tie.After-begins) where
+module _ (c : tie.After-map) where
   abbrev W : tie.After-w
   W = c .before .before
 
@@ -93,11 +94,11 @@ module _ (c : tie.After-begins) where
   follows : nextAnswer (axis S) (find S) (S .args .v) ≡ given w
   follows = told (W .before .before) (W .w .given .1)
 
-  place-told : {r : Place} → c .begins .result ≡ r → spotAnswer (start (axis S) w (S .args .limit)) ≡ tellPlace r
-  place-told e = sym ((c .begins .ensures)) ∙ ap tellPlace e
+  place-told : {r : Place} → c .map .result ≡ r → spotAnswer (start (axis S) w (S .args .limit)) ≡ tellPlace r
+  place-told e = sym (c .map .ensures ∙ placed S w) ∙ ap tellPlace e
 
 module _ (c : tie.After-known-told4) where
-  abbrev at : tie.After-begins
+  abbrev at : tie.After-map
   at = c .before .before .before
 
   abbrev right : ℤ
@@ -122,8 +123,9 @@ returns-2 : tie.Need-returns-2
 returns-2 c =
     let n = c .before .before .before in
     let s = n .before in
+    let size = moved-by (s .args .n) (s .args .limit) (s .pre .1 .1 .0) ∙ ap (λ (n : ℕ). margin n (s .args .limit)) (sym (s .pre .0 .count)) in
     rw (toZ-ofZ {w = w32} (record { sfits = c .beside .ok }))
-    (ap given (rw (left-is s) at (c .beside .ensures) ∙ ap (λ (n : ℕ). s .args .left +ℤ half (margin n (s .args .limit))) (sym (s .pre .0 .count)))
+    (ap given (rw (left-is s) at (c .beside .ensures) ∙ ap (λ (z : ℤ). s .args .left +ℤ half z) size)
     ∙ center-alone (axis s) (find s) (s .args .limit) (s .args .v) (begun s) (told n (c .before .enum-told .given .1)))
 
 returns-3 : tie.Need-returns-3
@@ -147,10 +149,9 @@ center-spec =
     next-requires
     enum-known-r
     enum-told
-    cast-beside
     beside-requires
     enum-known-w
-    begins-requires
+    map-requires
     enum-known-r-2
     enum-known-right
     between-requires

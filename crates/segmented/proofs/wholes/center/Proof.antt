@@ -7,13 +7,16 @@ use mir.Syntax.{w32}
 use mir.Val.{toZ, ofZ}
 use mir.Facts.{toZ-ofZ}
 use Rattle.ranged1d.specs.Answer.{given}
+use Rattle.ranged1d.specs.Admitted.{wholeAdmitted}
+use mathlib.Core.Bool.{true}
 use Rattle.rounding.specs.declared.Whole.the-variants.{Number}
-use Rattle.real.specs.Place.{tellPlace}
+use Rattle.real.specs.Place.{tellPlace, wholePlace}
 use Rattle.real.specs.declared.Place.{Place}
 use Rattle.numeric.specs.Whole.{tellValue}
 use Rattle.numeric.specs.declared.whole.Value.{Value}
+use Rattle.segmented.proofs.Margin.{moved-by, within-admitted}
 use Rattle.segmented.proofs.Entries.{start-near}
-use Rattle.segmented.proofs.WholeRules.{next-admitted}
+use Rattle.segmented.proofs.WholeRules.{begins-is, next-admitted}
 use Rattle.segmented.specs.Segments.{Axis, Finder, half, margin, start}
 use Rattle.segmented.specs.Axes.{wholeAxis, wholeFinder}
 use Rattle.segmented.specs.Steps.{spotAnswer, nextAnswer}
@@ -39,10 +42,13 @@ module _ (s : tie.Start) where
   left-is = toZ-ofZ (s .fits .left)
 
   begun : start axis (s .args .v) (s .args .limit) ≡ Number (s .args .left)
-  begun = s .pre .1 .1 .1
+  begun = s .pre .1 .1 .1 .1
 
   near : (v : ℤ) {z : ℤ} → start axis v (s .args .limit) ≡ Number z → natAbs z ≤ 1_001_000_000
   near v e = start-near axis (ofInt binary64 a) (ofInt binary64 b) (ofInt binary64) (λ v limit. refl) (s .pre .0) (s .args .limit) (s .pre .1 .1 .0) v e
+
+  placed : (v : ℤ) → wholeAdmitted v ≡ true → wholePlace a b v (s .args .within) ≡ spotAnswer (start axis v (s .args .limit))
+  placed v h = begins-is a b (s .pre .0) v h (s .args .limit) (s .pre .1 .1 .0) (s .pre .1 .1 .1 .0)
 
 told : (c : tie.After-next) {r : Value} → c .next .result ≡ r → let s = c .before in nextAnswer (axis s) (find s) (s .args .v) ≡ tellValue r
 told c e = sym (rw (toZ-ofZ (c .before .fits .v)) at (c .next .ensures)) ∙ ap tellValue e
@@ -56,23 +62,16 @@ enum-known-r c = search needs
 enum-told : tie.Need-enum-told
 enum-told c = search needs
 
-cast-beside : tie.Need-cast-beside
-cast-beside c = search needs
-
 beside-requires : tie.Need-beside-requires
 beside-requires c κs =
     let s = c .before .before .before in
-    rw (left-is s) (near s (s .args .v) (begun s), (s .pre .1 .1 .0, (s .pre .0 .some, s .pre .0 .most)))
+    rw (left-is s) (near s (s .args .v) (begun s), (s .pre .1 .1 .0, within-admitted (s .args .n) (s .args .limit) (s .pre .1 .1 .1 .0) (s .pre .1 .1 .0) (s .pre .0 .some) (s .pre .0 .most)))
 
 enum-known-w : tie.Need-enum-known-w
 enum-known-w c = search needs
 
-begins-requires : tie.Need-begins-requires
-begins-requires c κs =
-    let w = c .before in
-    let s = w .before .before .before in
-    rw (toZ-ofZ (record { sfits = c .known-told2 .given .0 .1 }))
-    (s .pre .0, (next-admitted (a s) (b s) (s .pre .0) (s .args .v) (told (w .before .before) (w .w .given .1)), s .pre .1 .1 .0))
+map-requires : tie.Need-map-requires
+map-requires c κs = search needs
 
 enum-known-r-2 : tie.Need-enum-known-r-2
 enum-known-r-2 c = search needs
@@ -81,7 +80,7 @@ enum-known-right : tie.Need-enum-known-right
 enum-known-right c = search needs
 
 -- ---- the successor's place
-module _ (c : tie.After-begins) where
+module _ (c : tie.After-map) where
   abbrev W : tie.After-w
   W = c .before .before
 
@@ -94,11 +93,11 @@ module _ (c : tie.After-begins) where
   follows : nextAnswer (axis S) (find S) (S .args .v) ≡ given w
   follows = told (W .before .before) (W .w .given .1)
 
-  place-told : {r : Place} → c .begins .result ≡ r → spotAnswer (start (axis S) w (S .args .limit)) ≡ tellPlace r
-  place-told e = sym (rw (toZ-ofZ (record { sfits = c .before .known-told2 .given .0 .1 })) at (c .begins .ensures)) ∙ ap tellPlace e
+  place-told : {r : Place} → c .map .result ≡ r → spotAnswer (start (axis S) w (S .args .limit)) ≡ tellPlace r
+  place-told e = sym (rw (toZ-ofZ (record { sfits = c .before .known-told2 .given .0 .1 })) at (c .map .ensures) ∙ placed S w (next-admitted (a S) (b S) (S .pre .0) (S .args .v) follows)) ∙ ap tellPlace e
 
 module _ (c : tie.After-known-told4) where
-  abbrev at : tie.After-begins
+  abbrev at : tie.After-map
   at = c .before .before .before
 
   abbrev right : ℤ
@@ -123,8 +122,9 @@ returns-2 : tie.Need-returns-2
 returns-2 c =
     let n = c .before .before .before in
     let s = n .before in
+    let size = moved-by (s .args .n) (s .args .limit) (s .pre .1 .1 .1 .0) ∙ ap (λ (n : ℕ). margin n (s .args .limit)) (sym (s .pre .0 .count)) in
     rw (toZ-ofZ {w = w32} (record { sfits = c .beside .ok }))
-    (ap given (rw (left-is s) at (c .beside .ensures) ∙ ap (λ (n : ℕ). s .args .left +ℤ half (margin n (s .args .limit))) (sym (s .pre .0 .count)))
+    (ap given (rw (left-is s) at (c .beside .ensures) ∙ ap (λ (z : ℤ). s .args .left +ℤ half z) size)
     ∙ center-alone (axis s) (find s) (s .args .limit) (s .args .v) (begun s) (told n (c .before .enum-told .given .1)))
 
 returns-3 : tie.Need-returns-3
@@ -148,10 +148,9 @@ center-spec =
     next-requires
     enum-known-r
     enum-told
-    cast-beside
     beside-requires
     enum-known-w
-    begins-requires
+    map-requires
     enum-known-r-2
     enum-known-right
     between-requires

@@ -1,6 +1,7 @@
 -- `segmented::wholes::place_of` meets its contract. Assumes nothing.
 use mathlib.Core.Path.{_≡_, sym, ap, _∙_}
 use mathlib.Core.Bool.{true}
+use native.Mathlib.Omega.{arith}
 use lib.IntN.{ℤ}
 use mir.Syntax.{w32}
 use mir.Val.{toZ, ofZ}
@@ -8,7 +9,7 @@ use mir.Facts.{toZ-ofZ}
 use Rattle.ranged1d.specs.Answer.{Answer}
 use Rattle.ranged1d.specs.Admitted.{wholeAdmitted}
 use Rattle.rounding.specs.declared.Whole.the-variants.{Number}
-use Rattle.real.specs.Place.{tellPlace}
+use Rattle.real.specs.Place.{tellPlace, wholePlace}
 use Rattle.real.specs.declared.Place.{Place}
 use Rattle.segmented.specs.Segments.{Axis, Finder}
 use Rattle.segmented.specs.Axes.{wholeAxis, wholeFinder}
@@ -16,6 +17,7 @@ use Rattle.segmented.specs.declared.SegmentValuei32.{SegmentValuei32}
 use Rattle.segmented.specs.Values.{wholeSegment}
 use Rattle.segmented.specs.Segments.{start, fitIn}
 use Rattle.segmented.specs.Steps.{spotAnswer, placedAnswer}
+use Rattle.segmented.proofs.WholeRules.{begins-is}
 use Rattle.segmented.proofs.Rules.{spot-number, placed-exact, placed-last, placed-far, placed-center}
 use borrow.Author.Needs.{needs}
 use Rattle.segmented.proofs.wholes.place_of.Statement.{statement}
@@ -40,27 +42,34 @@ module _ (s : tie.Start) where
   carried : {value : SegmentValuei32} → s .args .value ≡ value → fitIn axis (wholeSegment value) ≡ true
   carried e = sym (ap (λ (value : SegmentValuei32). fitIn axis (wholeSegment value)) e) ∙ s .pre .1 .0
 
-told : (c : tie.After-begins2) {r : Place} → c .begins2 .result ≡ r
-    → let v = c .before .before in let s = v .before .before in spotAnswer (start (axis s) (v .value2 .given .0 .0) (s .args .limit)) ≡ tellPlace r
-told c e = sym (rw (toZ-ofZ (record { sfits = c .before .known-told2 .given .0 .1 })) at (c .begins2 .ensures)) ∙ ap tellPlace e
+-- a place within the narrowed limits
+begun : (c : tie.After-narrow) → let s = c .before in (v : ℤ) → wholeAdmitted v ≡ true → wholePlace (a s) (b s) v (c .narrow .result) ≡ spotAnswer (start (axis s) v (s .args .limit))
+begun c v h = let s = c .before in begins-is (a s) (b s) (s .pre .0) v h (s .args .limit) (s .pre .1 .1) (c .narrow .ensures)
+
+told : (c : tie.After-map2) {r : Place} → c .map2 .result ≡ r
+    → let v = c .before .before in let s = v .before .before .before in spotAnswer (start (axis s) (v .value2 .given .0 .0) (s .args .limit)) ≡ tellPlace r
+told c e =
+    let v = c .before .before in
+    let s = v .before .before .before in
+    sym (rw (toZ-ofZ (record { sfits = c .before .known-told2 .given .0 .1 })) at (c .map2 .ensures) ∙ begun (v .before .before) (v .value2 .given .0 .0) (carried s (v .value2 .given .1))) ∙ ap tellPlace e
+
+cast-narrow : tie.Need-cast-narrow
+cast-narrow c = omega (arith, c .pre .0 .most)
+
+narrow-requires : tie.Need-narrow-requires
+narrow-requires c κs = (c .pre .1 .1, (c .pre .0 .some, c .pre .0 .most))
 
 enum-known-value : tie.Need-enum-known-value
 enum-known-value c = search needs
 
-begins-requires : tie.Need-begins-requires
-begins-requires c κs =
-    let v = c .before in
-    let s = v .before .before in
-    rw (toZ-ofZ (record { sfits = c .known-told .given .0 .1 })) (s .pre .0, (carried s (v .value .given .1), s .pre .1 .1))
+map-requires : tie.Need-map-requires
+map-requires c κs = search needs
 
 enum-known-value-2 : tie.Need-enum-known-value-2
 enum-known-value-2 c = search needs
 
-begins-requires-2 : tie.Need-begins-requires-2
-begins-requires-2 c κs =
-    let v = c .before in
-    let s = v .before .before in
-    rw (toZ-ofZ (record { sfits = c .known-told2 .given .0 .1 })) (s .pre .0, (carried s (v .value2 .given .1), s .pre .1 .1))
+map-requires-2 : tie.Need-map-requires-2
+map-requires-2 c κs = search needs
 
 enum-known-r : tie.Need-enum-known-r
 enum-known-r c = search needs
@@ -73,12 +82,12 @@ center-requires c κs =
     let l = c .before in
     let at = l .before .before in
     let v = at .before .before in
-    let s = v .before .before in
+    let s = v .before .before .before in
     let w = v .value2 .given .0 .0 in
     let w-is : toZ w32 (ofZ w32 w) ≡ w = toZ-ofZ (record { sfits = at .before .known-told2 .given .0 .1 }) in
     let left-is : toZ w32 (ofZ w32 (l .left .given .0 .0)) ≡ l .left .given .0 .0 = toZ-ofZ (record { sfits = c .known-told4 .given .0 .1 }) in
-    let begun = spot-number (start (axis s) w (s .args .limit)) (told at (l .left .given .1)) ∙ ap Number (sym left-is) in
-    (s .pre .0, (ap wholeAdmitted w-is ∙ carried s (v .value2 .given .1), (s .pre .1 .1, ap (λ (z : ℤ). start (axis s) z (s .args .limit)) w-is ∙ begun)))
+    let starts = spot-number (start (axis s) w (s .args .limit)) (told at (l .left .given .1)) ∙ ap Number (sym left-is) in
+    (s .pre .0, (ap wholeAdmitted w-is ∙ carried s (v .value2 .given .1), (s .pre .1 .1, (v .before .before .narrow .ensures, ap (λ (z : ℤ). start (axis s) z (s .args .limit)) w-is ∙ starts))))
 
 enum-told : tie.Need-enum-told
 enum-told c = search needs
@@ -86,14 +95,14 @@ enum-told c = search needs
 returns : tie.Need-returns
 returns c =
     let v = c .before .before in
-    let s = v .before .before in
-    rw (toZ-ofZ (record { sfits = c .before .known-told .given .0 .1 })) at (c .begins .ensures) ∙ placed-exact (axis s) (find s) (s .args .limit) (v .value .given .0 .0) ∙ ap (rule s) (sym (v .value .given .1))
+    let s = v .before .before .before in
+    rw (toZ-ofZ (record { sfits = c .before .known-told .given .0 .1 })) at (c .map .ensures) ∙ begun (v .before .before) (v .value .given .0 .0) (carried s (v .value .given .1)) ∙ placed-exact (axis s) (find s) (s .args .limit) (v .value .given .0 .0) ∙ ap (rule s) (sym (v .value .given .1))
 
 returns-2 : tie.Need-returns-2
 returns-2 c =
     let at = c .before .before .before in
     let v = at .before .before in
-    let s = v .before .before in
+    let s = v .before .before .before in
     placed-far (axis s) (find s) (s .args .limit) (v .value2 .given .0 .0) (told at (c .before .r .given .1)) ∙ ap (rule s) (sym (v .value2 .given .1))
 
 returns-3 : tie.Need-returns-3
@@ -101,7 +110,7 @@ returns-3 c =
     let l = c .before .before in
     let at = l .before .before in
     let v = at .before .before in
-    let s = v .before .before in
+    let s = v .before .before .before in
     rw (toZ-ofZ (record { sfits = at .before .known-told2 .given .0 .1 })) at (c .center .ensures)
     ∙ placed-center (axis s) (find s) (s .args .limit) (v .value2 .given .0 .0) (spot-number (start (axis s) (v .value2 .given .0 .0) (s .args .limit)) (told at (l .left .given .1)))
     ∙ ap (rule s) (sym (v .value2 .given .1))
@@ -109,17 +118,19 @@ returns-3 c =
 returns-4 : tie.Need-returns-4
 returns-4 c =
     let e = c .before in
-    let s = e .before .before in
+    let s = e .before .before .before in
     rw (toZ-ofZ (record { sfits = c .struct-told .given .1 .0 .1 })) (placed-last (axis s) (find s) (s .args .limit) ∙ ap (rule s) (sym (e .enum-told .given .1)))
 
 pub place-of-spec : {M : Type 1} → statement M
 place-of-spec =
     tie.close
     (tie.spec
+    cast-narrow
+    narrow-requires
     enum-known-value
-    begins-requires
+    map-requires
     enum-known-value-2
-    begins-requires-2
+    map-requires-2
     enum-known-r
     enum-known-left
     center-requires
