@@ -26,11 +26,15 @@ fn put_mark(r: Request, p: KeyPoints, i: u32, out: &mut [u8], used: usize) -> us
     }
 }
 
+// All marks, up to the first that could not be written.
 fn put_marks(r: Request, p: KeyPoints, out: &mut [u8], used: usize) -> usize {
     let count = p.count;
     let mut n = used;
     let mut i = 0;
     while i < count {
+        if out.len() < n {
+            return n;
+        }
         n = put_mark(r, p, i, out, n);
         i += 1;
     }
@@ -96,11 +100,17 @@ fn take(read: &[u8], held: &mut [u8], out: &mut [u8], start: State) -> State {
     s
 }
 
-// Reads once, and answers the lines that ended. What is written goes out before the next read, which may wait.
+// Reads once, and answers the lines that ended. What is written goes out before the next read, which may wait. Where that fails there is
+// no more to do.
 fn turn(space: &mut [u8], held: &mut [u8], out: &mut [u8], n: usize) -> input::Turn {
     let got = io::count(libc::read(STDIN_FILENO, space), space);
     let s = take(&space[..got], held, out, State { used: 0, held: n });
-    output::send(out, s.used);
+    if !output::send(out, s.used) {
+        return input::Turn {
+            more: false,
+            held: 0,
+        };
+    }
     input::Turn {
         more: 0 < got,
         held: s.held,

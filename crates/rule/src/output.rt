@@ -3,29 +3,36 @@ ghost use Prim.Native.Nat.{_≤_};
 ghost use lib.ListN.{length};
 use libc::STDOUT_FILENO;
 
-// Writes what is used of out.
-pub(crate) fn send(out: &[u8], used: usize) {
+// Stands for how much is used once a write has failed: more than any buffer has. Nothing is written from then on.
+const FAILED: usize = 18446744073709551615;
+
+// Writes what is used of out; whether that was done.
+pub(crate) fn send(out: &[u8], used: usize) -> bool {
     if used <= out.len() {
-        io::write_all(STDOUT_FILENO, &out[0..used]);
+        return io::write_all(STDOUT_FILENO, &out[0..used]);
     }
+    false
 }
 
 // Where the next line goes: no line has more than 24 bytes. If there is no room, what is used is written first.
-fn place(out: &[u8], used: usize) -> usize
-    ensures { λ r. ⌜ r ≤ length (now (out .entry)) ⌝ }
-{
+fn place(out: &[u8], used: usize) -> usize {
     if used <= out.len() {
         if 24 <= out.len() - used {
             return used;
         }
     }
-    send(out, used);
-    0
+    if send(out, used) {
+        return 0;
+    }
+    FAILED
 }
 
 // The line of a mark.
 pub(crate) fn mark(v: i32, x: i32, out: &mut [u8], used: usize) -> usize {
     let at = place(out, used);
+    if out.len() < at {
+        return at;
+    }
     let n = line::put_mark(v, x, &mut out[at..]);
     if out.len() - at < n {
         return at;
@@ -36,6 +43,9 @@ pub(crate) fn mark(v: i32, x: i32, out: &mut [u8], used: usize) -> usize {
 // A text.
 pub(crate) fn text(s: &[u8], out: &mut [u8], used: usize) -> usize {
     let at = place(out, used);
+    if out.len() < at {
+        return at;
+    }
     if out.len() - at < s.len() {
         return at;
     }
