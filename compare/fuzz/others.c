@@ -1,0 +1,212 @@
+/* Trials of searches, rulers and labels. */
+#include <inttypes.h>
+#include <math.h>
+#include <stdio.h>
+#include <string.h>
+
+#include "calls.h"
+#include "culvraod.h"
+#include "draw.h"
+#include "model.h"
+#include "trial.h"
+
+static void search_whole(void)
+{
+    int32_t drawn[LONGEST_LIST], refused = 0;
+    double entries[LONGEST_LIST];
+    size_t len = draw_whole_list(drawn);
+    int32_t target = len > 0 && below(2) ? drawn[below(len)] : draw_whole("or target");
+    note_whole("target", target);
+    uint32_t method = draw_method();
+    const int32_t *list = lend_copy("list", drawn, len, sizeof *drawn);
+    uint64_t *k = RESULT(uint64_t);
+    int32_t code = CALLED(culv_search_whole(list, len, target, method, k));
+    for (size_t at = 0; at < len; at++) {
+        entries[at] = drawn[at];
+        refused = lower(refused, WHOLES(drawn[at]));
+    }
+    refused = lower(lower(refused, WHOLES(target)), method_refused(method));
+    settle(code, refused != 0 ? refused : model_search(entries, len, target, method));
+}
+
+static void search_real(void)
+{
+    double drawn[LONGEST_LIST];
+    size_t len = draw_real_list(drawn);
+    double target = len > 0 && below(2) ? drawn[below(len)] : draw_real("or target");
+    note_real("target", target);
+    uint32_t method = draw_method();
+    const double *list = lend_copy("list", drawn, len, sizeof *drawn);
+    uint64_t *k = RESULT(uint64_t);
+    int32_t code = CALLED(culv_search_real(list, len, target, method, k));
+    settle(code, method_refused(method) != 0 ? 1 : model_search(drawn, len, target, method));
+}
+
+/* ---- Rulers ---- */
+
+enum { MOST_MARKS = 400, LONGEST_RULER = 25 + 20 * MOST_MARKS };
+
+static struct draft draw_draft(void)
+{
+    struct draft draft;
+    draw_whole_ends(&draft.a, &draft.b);
+    draw_film(&draft.p, &draft.q);
+    draft.m = draw_limit_of_marks();
+    return draft;
+}
+
+static void ruler_write(void)
+{
+    static uint8_t written[LONGEST_RULER];
+    struct draft draft = draw_draft();
+    int32_t refused = draft_refused(draft);
+    uint64_t count = refused != 0 ? 0 : model_marks(draft.a, draft.b, draft.m).count;
+    size_t len = draw_length(25 + 20 * count, LONGEST_RULER);
+    size_t *bytes = RESULT(size_t), *marks = RESULT(size_t);
+    uint8_t *out = LIST(uint8_t, len);
+    int32_t code = CALLED(culv_ruler_write(draft.a, draft.b, draft.p, draft.q, draft.m, out, len, bytes, marks));
+    if (code == ANSWERED) {
+        counted(code, out, 1, bytes, 25 + 20 * count);
+        demand(*marks == count, "another count than the rule's");
+        demand(model_ruler(draft, written) == *bytes && memcmp(out, written, *bytes) == 0, "other bytes than the rule's");
+    }
+    settle(code, lower(refused, len < 25 + 20 * count ? 13 : ANSWERED));
+}
+
+/* Bytes without sense, behind a header with or without sense. */
+static size_t draw_bytes(uint8_t *out)
+{
+    size_t len = (size_t)(below(8) ? below(120) : below(LONGEST_RULER));
+    struct draft draft = draw_draft();
+    for (size_t at = 0; at < len; at++)
+        out[at] = (uint8_t)bits();
+    if (below(2) && len >= 25 && draft_refused(draft) == 0 && model_marks(draft.a, draft.b, draft.m).count < 50) {
+        size_t right = model_ruler(draft, out);
+        len = below(2) ? right : len;
+        if (right > 25)
+            out[25 + below(right - 25)] = (uint8_t)bits();
+    }
+    return len;
+}
+
+/* A byte changed, some cut off or added, or two records exchanged. */
+static size_t damage(uint8_t *ruler, size_t len)
+{
+    uint8_t record[20];
+    switch (below(4)) {
+    case 0: ruler[below(len)] ^= (uint8_t)(1 << below(8)); return len;
+    case 1: return below(len);
+    case 2: return len + below(40) + 1;
+    default:
+        if (len < 65)
+            return len;
+        memcpy(record, ruler + 25, 20);
+        memmove(ruler + 25, ruler + 45, 20);
+        memcpy(ruler + 45, record, 20);
+        return len;
+    }
+}
+
+/* A ruler, a damaged one, or other bytes. */
+static const uint8_t *draw_ruler(const char *name, size_t *len)
+{
+    static uint8_t drawn[LONGEST_RULER + 64];
+    struct draft draft = draw_draft();
+    bool fits = draft_refused(draft) == 0 && model_marks(draft.a, draft.b, draft.m).count <= MOST_MARKS;
+    if (!fits || below(8) == 0)
+        *len = draw_bytes(drawn);
+    else
+        *len = model_ruler(draft, drawn);
+    if (fits && below(4) == 0 && *len > 0)
+        *len = damage(drawn, *len);
+    return lend_copy(name, drawn, *len, 1);
+}
+
+/* Where there is a mark, or anywhere. */
+static int32_t draw_value(const uint8_t *ruler, size_t len)
+{
+    int32_t value = draw_whole("or value");
+    if (len >= 45 && below(4) != 0) {
+        const uint8_t *at = ruler + 25 + 20 * below((len - 25) / 20);
+        memcpy(&value, at + 1, sizeof value);
+    }
+    note_whole("value", value);
+    return value;
+}
+
+static void ruler_read(void)
+{
+    size_t len;
+    const uint8_t *bytes = draw_ruler("bytes", &len);
+    int32_t *a = RESULT(int32_t), *b = RESULT(int32_t), *p = RESULT(int32_t), *q = RESULT(int32_t);
+    int32_t *step = RESULT(int32_t);
+    uint32_t *m = RESULT(uint32_t);
+    size_t *marks = RESULT(size_t);
+    int32_t code = CALLED(culv_ruler_read(bytes, len, a, b, p, q, m, step, marks));
+    if (code == ANSWERED) {
+        struct draft draft = {*a, *b, *p, *q, *m}, held = draft_of(bytes);
+        demand(memcmp(&draft, &held, sizeof draft) == 0, "other numbers than those of the ruler");
+        demand(25 + 20 * *marks == len, "another count than that of the ruler");
+    }
+    settle(code, model_is_ruler(bytes, len) ? ANSWERED : 14);
+}
+
+static void ruler_label(void)
+{
+    size_t len;
+    const uint8_t *bytes = draw_ruler("bytes", &len);
+    int32_t value = draw_value(bytes, len);
+    size_t *start = RESULT(size_t), *part = RESULT(size_t), record = model_record(bytes, len, value);
+    int32_t code = CALLED(culv_ruler_label(bytes, len, value, start, part));
+    size_t wanted = record == 0 ? 0 : (size_t)snprintf(NULL, 0, "%" PRId32, value);
+    demand(*part == wanted && *start == (record == 0 ? 0 : record + 20 - wanted), "another part than the rule's");
+    settle(code, ANSWERED);
+}
+
+static void ruler_pair(void)
+{
+    size_t left_len, right_len;
+    const uint8_t *left = draw_ruler("left", &left_len), *right = draw_ruler("right", &right_len);
+    int32_t value = below(2) ? draw_value(left, left_len) : draw_value(right, right_len);
+    uint32_t *which = RESULT(uint32_t);
+    size_t *start = RESULT(size_t), *part = RESULT(size_t);
+    int32_t code = CALLED(culv_ruler_pair(left, left_len, right, right_len, value, which, start, part));
+    size_t record = value < 0 ? model_record(left, left_len, value) : model_record(right, right_len, value);
+    demand(*which == (value < 0 ? 0 : 1) && *start == record && *part == (record == 0 ? 0 : 20),
+           "another part than the rule's");
+    settle(code, ANSWERED);
+}
+
+/* ---- Labels ---- */
+
+/* How long the label is: what the call says itself, with bytes enough for every label. */
+static size_t label_length(double n, uint32_t max_decimal, uint32_t min_decimal)
+{
+    uint8_t out[38];
+    size_t written = 0;
+    culv_label(n, max_decimal, min_decimal, out, sizeof out, &written);
+    return written;
+}
+
+static void label(void)
+{
+    double n = draw_real("n");
+    uint32_t max_decimal = below(8) ? (uint32_t)below(12) : (uint32_t)draw_index();
+    uint32_t min_decimal = below(8) ? (uint32_t)below(22) : (uint32_t)draw_index();
+    note_natural("max_decimal", max_decimal);
+    note_natural("min_decimal", min_decimal);
+    size_t length = label_length(n, max_decimal, min_decimal), len = draw_length(length, 60);
+    size_t *written = RESULT(size_t);
+    uint8_t *out = LIST(uint8_t, len);
+    int32_t code = CALLED(culv_label(n, max_decimal, min_decimal, out, len, written));
+    int32_t wanted = lower(fabs(n) < 0x1p53 ? 0 : 11, max_decimal > 10 || min_decimal > 20 ? 12 : 0);
+    counted(code, out, 1, written, length);
+    settle(code, lower(wanted, len < length ? 13 : ANSWERED));
+}
+
+#define CALL(name) {"culv_" #name, name}
+
+const struct call OTHER_CALLS[OTHER_COUNT] = {
+    CALL(search_whole), CALL(search_real), CALL(ruler_write), CALL(ruler_read), CALL(ruler_label), CALL(ruler_pair),
+    CALL(label),
+};
