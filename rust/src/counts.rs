@@ -3,12 +3,15 @@
 use crate::refusal::{answered, answered_or_none, Refusal};
 use crate::RangedCoordi32;
 
-// The C functions, as include/culvraod.h declares and describes them.
+// As include/culvraod.h declares and describes them.
 extern "C" {
+    /// The C function behind [`RangedCoordi32::size`].
     pub fn culv_whole_size(a: i32, b: i32, n: *mut u64) -> i32;
 
+    /// The C function behind [`RangedCoordi32::index_of`].
     pub fn culv_whole_index_of(a: i32, b: i32, v: i32, k: *mut u64) -> i32;
 
+    /// The C function behind [`RangedCoordi32::from_index`].
     pub fn culv_whole_from_index(a: i32, b: i32, k: u64, v: *mut i32) -> i32;
 }
 

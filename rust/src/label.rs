@@ -4,8 +4,9 @@ use std::str;
 
 use crate::refusal::{answered, Refusal};
 
-// The C function, as include/culvraod.h declares and describes it.
+// As include/culvraod.h declares and describes it.
 extern "C" {
+    /// The C function behind [`FloatPrettyPrinter::print`].
     pub fn culv_label(
         n: f64,
         max_decimal: u32,

@@ -3,8 +3,9 @@
 use crate::refusal::{answered, answered_or_none, Refusal};
 use crate::{Limit, RangedCoordf64, RangedCoordi32, RoundingMethod};
 
-// The C functions, as include/culvraod.h declares and describes them.
+// As include/culvraod.h declares and describes them.
 extern "C" {
+    /// The C function behind [`Linspacei32::values`].
     pub fn culv_step_whole_values(
         a: i32,
         b: i32,
@@ -14,10 +15,13 @@ extern "C" {
         count: *mut usize,
     ) -> i32;
 
+    /// The C function behind [`Linspacei32::size`].
     pub fn culv_step_whole_size(a: i32, b: i32, d: i32, n: *mut u64) -> i32;
 
+    /// The C function behind [`Linspacei32::from_index`].
     pub fn culv_step_whole_from_index(a: i32, b: i32, d: i32, k: u64, v: *mut i32) -> i32;
 
+    /// The C function behind [`Linspacei32::index_of`].
     pub fn culv_step_whole_index_of(
         a: i32,
         b: i32,
@@ -27,6 +31,7 @@ extern "C" {
         k: *mut u64,
     ) -> i32;
 
+    /// The C function behind [`Linspacei32::map`].
     pub fn culv_step_whole_map(
         a: i32,
         b: i32,
@@ -37,6 +42,7 @@ extern "C" {
         pixel: *mut i32,
     ) -> i32;
 
+    /// The C function behind [`Linspacei32::unmap`].
     pub fn culv_step_whole_unmap(
         a: i32,
         b: i32,
@@ -47,6 +53,7 @@ extern "C" {
         v: *mut i32,
     ) -> i32;
 
+    /// The C function behind [`Linspacei32::key_points`].
     pub fn culv_step_whole_key_points(
         a: i32,
         b: i32,
@@ -57,6 +64,7 @@ extern "C" {
         count: *mut usize,
     ) -> i32;
 
+    /// The C function behind [`Linspacef64::values`].
     pub fn culv_step_real_values(
         a: f64,
         b: f64,
@@ -66,13 +74,17 @@ extern "C" {
         count: *mut usize,
     ) -> i32;
 
+    /// The C function behind [`Linspacef64::size`].
     pub fn culv_step_real_size(a: f64, b: f64, d: f64, n: *mut u64) -> i32;
 
+    /// The C function behind [`Linspacef64::from_index`].
     pub fn culv_step_real_from_index(a: f64, b: f64, d: f64, k: u64, v: *mut f64) -> i32;
 
+    /// The C function behind [`Linspacef64::index_of`].
     pub fn culv_step_real_index_of(a: f64, b: f64, d: f64, v: f64, method: u32, k: *mut u64)
         -> i32;
 
+    /// The C function behind [`Linspacef64::map`].
     pub fn culv_step_real_map(
         a: f64,
         b: f64,
@@ -83,9 +95,11 @@ extern "C" {
         pixel: *mut i32,
     ) -> i32;
 
+    /// The C function behind [`Linspacef64::unmap`].
     pub fn culv_step_real_unmap(a: f64, b: f64, d: f64, x: i32, p: i32, q: i32, v: *mut f64)
         -> i32;
 
+    /// The C function behind [`Linspacef64::key_points`].
     pub fn culv_step_real_key_points(
         a: f64,
         b: f64,

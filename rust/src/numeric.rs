@@ -5,8 +5,9 @@ use crate::refusal::{answered, Refusal};
 #[cfg(not(target_pointer_width = "64"))]
 compile_error!("culvraod needs a usize of 64 bits");
 
-// The C functions, as include/culvraod.h declares and describes them.
+// As include/culvraod.h declares and describes them.
 extern "C" {
+    /// The C function behind [`RangedCoordi32::key_points`].
     pub fn culv_whole_key_points(
         a: i32,
         b: i32,
@@ -17,6 +18,7 @@ extern "C" {
         count: *mut usize,
     ) -> i32;
 
+    /// The C function behind [`RangedCoordusize::key_points`].
     pub fn culv_index_key_points(
         a: u64,
         b: u64,

@@ -3,10 +3,12 @@
 use crate::refusal::{answered, Refusal};
 use crate::{Limit, RangedCoordf64, RangedCoordi32};
 
-// The C functions, as include/culvraod.h declares and describes them.
+// As include/culvraod.h declares and describes them.
 extern "C" {
+    /// The C function behind [`RangedCoordi32::map`].
     pub fn culv_whole_map(a: i32, b: i32, v: i32, p: i32, q: i32, pixel: *mut i32) -> i32;
 
+    /// The C function behind [`RangedCoordf64::map`].
     pub fn culv_real_map(a: f64, b: f64, v: f64, p: i32, q: i32, pixel: *mut i32) -> i32;
 }
 

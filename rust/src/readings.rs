@@ -3,10 +3,12 @@
 use crate::refusal::{answered_or_none, Refusal};
 use crate::{Limit, RangedCoordf64, RangedCoordi32};
 
-// The C functions, as include/culvraod.h declares and describes them.
+// As include/culvraod.h declares and describes them.
 extern "C" {
+    /// The C function behind [`RangedCoordi32::unmap`].
     pub fn culv_whole_unmap(a: i32, b: i32, x: i32, p: i32, q: i32, v: *mut i32) -> i32;
 
+    /// The C function behind [`RangedCoordf64::unmap`].
     pub fn culv_real_unmap(a: f64, b: f64, x: i32, p: i32, q: i32, v: *mut f64) -> i32;
 }
 

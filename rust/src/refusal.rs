@@ -1,6 +1,17 @@
 use std::fmt;
 
 /// Why a call stopped. Of several reasons it is the one with the lowest number.
+///
+/// The [crate's page](crate#refusals) has a table of the numbers and of when each is met.
+///
+/// ```
+/// use culvraod::{RangedCoordi32, Refusal};
+///
+/// let refused = RangedCoordi32(0, 1_000_000_001).size().unwrap_err();
+/// assert_eq!(refused, Refusal::WholeNotAdmitted);
+/// assert_eq!(refused.number(), 1);
+/// assert_eq!(Refusal::from_number(1), Some(refused));
+/// ```
 #[derive(Clone, Copy, Debug, PartialEq, Eq, Hash)]
 #[non_exhaustive]
 #[repr(i32)]

@@ -3,8 +3,9 @@
 use crate::refusal::{answered, Refusal};
 use crate::{Limit, RangedCoordi32};
 
-// The C functions, as include/culvraod.h declares and describes them.
+// As include/culvraod.h declares and describes them.
 extern "C" {
+    /// The C function behind [`write()`].
     pub fn culv_ruler_write(
         a: i32,
         b: i32,
@@ -17,6 +18,7 @@ extern "C" {
         marks: *mut usize,
     ) -> i32;
 
+    /// The C function behind [`read`].
     pub fn culv_ruler_read(
         bytes: *const u8,
         len: usize,
@@ -29,6 +31,7 @@ extern "C" {
         marks: *mut usize,
     ) -> i32;
 
+    /// The C function behind [`label_of`].
     pub fn culv_ruler_label(
         bytes: *const u8,
         len: usize,
@@ -37,6 +40,7 @@ extern "C" {
         part_len: *mut usize,
     ) -> i32;
 
+    /// The C function behind [`pair_record`].
     pub fn culv_ruler_pair(
         left: *const u8,
         left_len: usize,

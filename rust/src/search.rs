@@ -2,8 +2,9 @@
 
 use crate::refusal::{answered_or_none, Refusal};
 
-// The C functions, as include/culvraod.h declares and describes them.
+// As include/culvraod.h declares and describes them.
 extern "C" {
+    /// The C function behind [`search_whole`].
     pub fn culv_search_whole(
         list: *const i32,
         len: usize,
@@ -12,6 +13,7 @@ extern "C" {
         k: *mut u64,
     ) -> i32;
 
+    /// The C function behind [`search_real`].
     pub fn culv_search_real(
         list: *const f64,
         len: usize,

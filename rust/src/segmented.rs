@@ -5,10 +5,12 @@ use crate::refusal::{answered, answered_or_none, Refusal};
 use crate::{KeyPoints, Limit, Linspacef64, Linspacei32, RoundingMethod};
 use crate::{RangedCoordf64, RangedCoordi32};
 
-// The C functions, as include/culvraod.h declares and describes them.
+// As include/culvraod.h declares and describes them.
 extern "C" {
+    /// The C function behind [`SegmentedCoord::size`] over a whole axis.
     pub fn culv_seg_whole_size(a: i32, b: i32, n: *mut u64) -> i32;
 
+    /// The C function behind [`SegmentedCoord::map`] over a whole axis.
     pub fn culv_seg_whole_map(
         a: i32,
         b: i32,
@@ -19,10 +21,13 @@ extern "C" {
         pixel: *mut i32,
     ) -> i32;
 
+    /// The C function behind [`SegmentedCoord::index_of`] over a whole axis.
     pub fn culv_seg_whole_index_of(a: i32, b: i32, kind: u32, v: i32, k: *mut u64) -> i32;
 
+    /// The C function behind [`SegmentedCoord::from_index`] over a whole axis.
     pub fn culv_seg_whole_from_index(a: i32, b: i32, k: u64, kind: *mut u32, v: *mut i32) -> i32;
 
+    /// The C function behind [`SegmentedCoord::unmap`] over a whole axis.
     pub fn culv_seg_whole_unmap(
         a: i32,
         b: i32,
@@ -33,6 +38,7 @@ extern "C" {
         v: *mut i32,
     ) -> i32;
 
+    /// The C function behind [`SegmentedCoord::key_points`] over a whole axis.
     pub fn culv_seg_whole_key_points(
         a: i32,
         b: i32,
@@ -43,8 +49,10 @@ extern "C" {
         count: *mut usize,
     ) -> i32;
 
+    /// The C function behind [`SegmentedCoord::size`] over a stepped axis of whole numbers.
     pub fn culv_seg_step_whole_size(a: i32, b: i32, d: i32, n: *mut u64) -> i32;
 
+    /// The C function behind [`SegmentedCoord::map`] over a stepped axis of whole numbers.
     pub fn culv_seg_step_whole_map(
         a: i32,
         b: i32,
@@ -57,6 +65,7 @@ extern "C" {
         pixel: *mut i32,
     ) -> i32;
 
+    /// The C function behind [`SegmentedCoord::index_of`] over a stepped axis of whole numbers.
     pub fn culv_seg_step_whole_index_of(
         a: i32,
         b: i32,
@@ -67,6 +76,7 @@ extern "C" {
         k: *mut u64,
     ) -> i32;
 
+    /// The C function behind [`SegmentedCoord::from_index`] over a stepped axis of whole numbers.
     pub fn culv_seg_step_whole_from_index(
         a: i32,
         b: i32,
@@ -76,6 +86,7 @@ extern "C" {
         v: *mut i32,
     ) -> i32;
 
+    /// The C function behind [`SegmentedCoord::unmap`] over a stepped axis of whole numbers.
     pub fn culv_seg_step_whole_unmap(
         a: i32,
         b: i32,
@@ -87,6 +98,7 @@ extern "C" {
         v: *mut i32,
     ) -> i32;
 
+    /// The C function behind [`SegmentedCoord::key_points`] over a stepped axis of whole numbers.
     pub fn culv_seg_step_whole_key_points(
         a: i32,
         b: i32,
@@ -97,8 +109,10 @@ extern "C" {
         count: *mut usize,
     ) -> i32;
 
+    /// The C function behind [`SegmentedCoord::size`] over a stepped axis of reals.
     pub fn culv_seg_step_real_size(a: f64, b: f64, d: f64, n: *mut u64) -> i32;
 
+    /// The C function behind [`SegmentedCoord::map`] over a stepped axis of reals.
     pub fn culv_seg_step_real_map(
         a: f64,
         b: f64,
@@ -111,6 +125,7 @@ extern "C" {
         pixel: *mut i32,
     ) -> i32;
 
+    /// The C function behind [`SegmentedCoord::index_of`] over a stepped axis of reals.
     pub fn culv_seg_step_real_index_of(
         a: f64,
         b: f64,
@@ -121,6 +136,7 @@ extern "C" {
         k: *mut u64,
     ) -> i32;
 
+    /// The C function behind [`SegmentedCoord::from_index`] over a stepped axis of reals.
     pub fn culv_seg_step_real_from_index(
         a: f64,
         b: f64,
@@ -130,6 +146,7 @@ extern "C" {
         v: *mut f64,
     ) -> i32;
 
+    /// The C function behind [`SegmentedCoord::unmap`] over a stepped axis of reals.
     pub fn culv_seg_step_real_unmap(
         a: f64,
         b: f64,
@@ -141,6 +158,7 @@ extern "C" {
         v: *mut f64,
     ) -> i32;
 
+    /// The C function behind [`SegmentedCoord::key_points`] over a stepped axis of reals.
     pub fn culv_seg_step_real_key_points(
         a: f64,
         b: f64,
