@@ -6,28 +6,27 @@ use Prim.Native.Nat.{ℕ, zero, suc, _+_, _-_, _*_, _^_, _≤_, _<_}
 use native.Mathlib.Nat.{zero-mul, mul-pos, mul-suc, le-trans}
 use native.Mathlib.Omega.{arith}
 use lib.Dec.{T, eqb, eqb·suc-zero}
-use lib.IntN.{ℤ, pos, negsuc, natAbs, negℤ, _+ℤ_, _-ℤ_, negℤ-negℤ, negℤ-+ℤ, -ℤ-+ℤ-cancel, +ℤ-negℤ-cancel, +ℤ-comm, +ℤ-assoc}
+use lib.IntN.{ℤ, pos, negsuc, natAbs, negℤ, _+ℤ_, _-ℤ_, negℤ-negℤ, negℤ-+ℤ, -ℤ-+ℤ-cancel, +ℤ-negℤ-cancel, +ℤ-comm, +ℤ-assoc, +ℤ-idl}
 use lib.Ieee.{Format, prec, Float, nan, inf, fin, binary32, up, down, unlike, round, neg, div, ofInt, inFloat}
 use lib.Ieee.Fits.{down-pos, up-pos}
 use lib.Ieee.Exact.{HasValue}
 use lib.Ieee.Back.{round-whole}
 use mir.Syntax.{w32}
 use mir.Val.{SFits}
-use borrow.Author.Tests.{le-leb, lt-ltb}
+use borrow.Author.Tests.{le-leb, lt-ltb, ltb-true}
+use lib.Signed.{ltZ}
 use Rattle.ranged1d.specs.Admitted.{limitAdmitted}
 use Rattle.ranged1d.specs.declared.Limit.{Limit}
 use Rattle.ranged1d.proofs.Whole.{sub-cases, add-far, minus-far, neg-far, quot-far, fits32}
 use Rattle.rounding.specs.Integral.{halves, sized}
-use Rattle.rounding.specs.Within.{wholeOf, roundWithin}
-use Rattle.rounding.specs.declared.Whole.the-variants.{Number}
-use Rattle.rounding.proofs.Laws.{number-is}
+use Rattle.rounding.specs.Within.{wholeOf}
 use Rattle.rounding.proofs.Quotients.{sized-le}
 use Rattle.rounding.proofs.Signs.{round-neg, whole-neg}
 use Rattle.real.specs.Mirror.{mirrored}
 use Rattle.real.proofs.Cases.{near-limits}
 use Rattle.real.proofs.Readings.{length-neg}
 use Rattle.real.proofs.Signs.{zeroOf, zero-one, round-zero, int-neg}
-use Rattle.real.proofs.Sizes.{Small, Plus, plus-div, small-quotient, small-told}
+use Rattle.real.proofs.Sizes.{Small, Plus, plus-div, small-quotient}
 use Rattle.segmented.specs.Segments.{half, shared, margin, narrowed}
 
 -- l ÷ n in f32, and its nearest whole number
@@ -85,7 +84,7 @@ zero-share s (inf t) = zero-whole (unlike s t)
 zero-share s (fin t zero d) = refl
 zero-share s (fin t (suc n) d) = rw (eqb·suc-zero n) (ap (wholeOf halves) (round-zero binary32 (unlike s t) (0 * down d) (suc n * up d * 1) (mul-pos (mul-pos (omega arith) (up-pos d)) (omega arith)) (zero-mul (down d))) ∙ zero-whole (unlike s t))
 
-no-share : (n : ℕ) → shareOf n (pos 0) ≡ pos 0
+pub no-share : (n : ℕ) → shareOf n (pos 0) ≡ pos 0
 unfolding ofInt
 no-share n = ap (λ x. wholeOf halves (div binary32 x (ofInt binary32 (pos n)))) (zero-one binary32 false) ∙ zero-share false (ofInt binary32 (pos n))
 
@@ -100,6 +99,16 @@ share-neg n (pos zero) = no-share n ∙ sym (ap negℤ (no-share n))
 share-neg n (pos (suc k)) = turned n (pos (suc k)) (λ e. omega (arith, ap natAbs e))
 share-neg n (negsuc k) = turned n (negsuc k) (λ e. omega (arith, ap natAbs e))
 
+-- by the size of l and its sign
+pub shared-below : (n : ℕ) (l : ℤ) {k : ℕ} → pos k ≡ shared n (pos (natAbs l)) → ltZ l (pos 0) ≡ true → pos 0 -ℤ pos k ≡ shared n l
+unfolding shared
+shared-below n (pos j) e h = absurd (omega (arith, ltb-true j 0 h))
+shared-below n (negsuc j) {k} e h = +ℤ-idl (negℤ (pos k)) ∙ ap negℤ e ∙ sym (share-neg n (pos (suc j)))
+
+pub shared-above : (n : ℕ) (l : ℤ) {k : ℕ} → pos k ≡ shared n (pos (natAbs l)) → ltZ l (pos 0) ≡ false → pos k ≡ shared n l
+shared-above n (pos j) e h = e
+shared-above n (negsuc j) e h = absurd (true≢false h)
+
 pub margin-neg : (n : ℕ) (limit : Limit) → margin n (mirrored limit) ≡ negℤ (margin n limit)
 margin-neg n limit =
     margin-is n (mirrored limit) ∙ ap (shareOf n) (length-neg (limit .0) (limit .1)) ∙ share-neg n (limit .1 -ℤ limit .0) ∙ ap negℤ (sym (margin-is n limit))
@@ -110,11 +119,11 @@ unfolding wholeOf
 told C (fin true m e) s v = absurd (true≢false s)
 told C (fin false m e) s v = (sized halves false (m * up e) (down e), refl, sized-le halves false (m * up e) (down e) C (down-pos e) v)
 
-int-plus : (k : ℕ) → k ≤ 16777216 → HasValue (ofInt binary32 (pos k)) false k 1
+pub int-plus : (k : ℕ) → k ≤ 16777216 → HasValue (ofInt binary32 (pos k)) false k 1
 unfolding ofInt
 int-plus k h = round-whole binary32 false k h
 
-share-least : (k n : ℕ) → 1 ≤ n → k ≤ k * n
+pub share-least : (k n : ℕ) → 1 ≤ n → k ≤ k * n
 share-least k (suc n) h = omega (arith, mul-suc k n)
 
 -- a number between p and q is no farther than they are
@@ -153,14 +162,6 @@ module _ (n : ℕ) (some : 1 ≤ n) (few : n ≤ 16777216) where
   share-small : (l : ℤ) → natAbs l ≤ 16777216 → natAbs (shareOf n l) ≤ natAbs l
   share-small (pos k) h = let s = share-pos k h in rw (s .1) (s .2)
   share-small (negsuc k) h = let s = share-pos (suc k) h in rw (share-neg n (pos (suc k)), s .1, neg-far (pos (s .0))) (s .2)
-
-  -- what the code's rounding within 2,000,000 gives
-  pub share-told : (l : ℤ) → natAbs l ≤ 2000000 → roundWithin 2000000 (quotient n l) ≡ Number (shared n l)
-  unfolding shared
-  share-told l h =
-      let t = small-told halves 2000000 (natAbs l) (quotient n l) h
-      (small-quotient binary32 (natAbs l) (omega arith) l (pos n) (omega arith) few some (share-least (natAbs l) n some)) in
-      t .1 ∙ ap Number (sym (number-is halves 2000000 (quotient n l) (t .0) (t .1)))
 
   pub shared-small : (l : ℤ) → natAbs l ≤ 2000000 → natAbs (shared n l) ≤ 2000000
   unfolding shared

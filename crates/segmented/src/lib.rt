@@ -8,14 +8,13 @@ ghost use mathlib.Core.Path.{_≡_};
 ghost use mathlib.Core.Bool.{true};
 ghost use Prim.Native.Nat.{_≤_};
 ghost use Rattle.ranged1d.specs.Admitted.{limitAdmitted};
-ghost use lib.IntN.{natAbs, _+ℤ_, _-ℤ_};
+ghost use lib.IntN.{pos, natAbs, _+ℤ_, _-ℤ_};
 ghost use Rattle.segmented.specs.Segments.{half, shared, margin, narrowed};
 use linspace::Linspacef64;
 use linspace::Linspacei32;
 use numeric::RangedCoordi32;
 use ranged1d::Limit;
 use ranged1d::Refusal;
-use rounding::Whole;
 
 // A value of a segmented axis of whole numbers: where an entry's segment begins, its middle, and what stands behind all.
 pub enum SegmentValuei32 {
@@ -50,15 +49,26 @@ pub struct SegmentedLinspacei32(pub Linspacei32);
 
 pub struct SegmentedLinspacef64(pub Linspacef64);
 
-// A length l of a film, shared among n. Both are exact as f32, so that their quotient is rounded once.
+// A length l of a film, shared among n, l being no less than 0. Twice l and n are exact as f32, so that their quotient is rounded once, to twice
+// what l ÷ n is rounded to. Cut, it counts halves, and a half over goes up.
+fn share_up(n: u32, l: u32) -> u32
+    requires { ⌜ l ≤ 2000000 ⌝ ∗ ⌜ 1 ≤ n ⌝ ∗ ⌜ n ≤ 16777216 ⌝ }
+    ensures { λ r. ⌜ pos r ≡ shared n (pos l) ⌝ }
+{
+    let halves = std::num::truncating_f32_to_u64(((l + l) as f32) / (n as f32));
+    ((halves + 1) / 2) as u32
+}
+
+// The same of any l: a half goes away from zero.
 fn share(n: u32, l: i32) -> i32
     requires { ⌜ natAbs l ≤ 2000000 ⌝ ∗ ⌜ 1 ≤ n ⌝ ∗ ⌜ n ≤ 16777216 ⌝ }
     ensures { λ r. ⌜ r ≡ shared n l ⌝ }
 {
-    match rounding::round_within((l as f32) / (n as f32), 2000000) {
-        Whole::Number(z) => z as i32,
-        Whole::Beyond => 0,
+    let size = share_up(n, ranged1d::unsigned_abs(l)) as i32;
+    if l < 0 {
+        return 0 - size;
     }
+    size
 }
 
 // The margin of a segment, one of n between admitted limits.
