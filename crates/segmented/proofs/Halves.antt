@@ -8,8 +8,8 @@ use borrow.Author.Tests.{leb-true, ne-eqb}
 use lib.Dec.{T, lt→ltb}
 use lib.IntN.{ℤ, pos}
 use lib.Pow.{pow-pos}
-use lib.Ieee.{Format, prec, low, Float, nan, inf, fin, binary32, up, down, round, lt, div, ofInt, toUnsigned}
-use lib.Ieee.Fits.{down-pos, up-pos}
+use lib.Ieee.{Format, prec, low, Float, fin, binary32, up, down, round, lt, div, ofInt, toUnsigned}
+use lib.Ieee.Fits.{down-pos}
 use lib.Ieee.Exact.{HasValue}
 use lib.Ieee.Nearest.{div-same}
 use lib.Ieee.Scale.{grid, finite, round-same, round-val, round-under, grid-scale, normal-of-fraction}
