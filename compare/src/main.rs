@@ -20,6 +20,7 @@ mod number;
 mod program;
 mod random;
 mod reference;
+mod written;
 
 #[cfg(feature = "library")]
 mod beside;

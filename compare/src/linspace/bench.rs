@@ -5,7 +5,7 @@ use std::hint::black_box;
 
 use super::calls::{FromIndex, IndexOf, Map, Size, Unmap};
 use super::library::Library;
-use super::lists::Listing;
+use super::listing::Listing;
 use super::{rule, Steps};
 use crate::beside;
 use crate::timing::report;

@@ -18,6 +18,8 @@ use crate::cases::{ordinary, SMALL, SMALL_REALS};
 pub trait Numbers: Kind + Lists {
     /// The rows of the scope document's table.
     const SIZES: &'static [Size<Self>];
+    /// Axes whose lists show what a list can be.
+    const LISTS: &'static [Steps<Self>];
     const INDICES: &'static [IndexOf<Self>];
     /// How many lines the calls have that take neither a value nor limits.
     const LINES: [usize; 2];
@@ -48,6 +50,31 @@ const WHOLE: i32 = 1_000_000_000;
 
 impl Numbers for i32 {
     const SIZES: &'static [Size<i32>] = &[Size(steps(0, 10, 5)), Size(steps(0, 10, 10))];
+    const LISTS: &'static [Steps<i32>] = &[
+        steps(0, 10, 5),
+        steps(0, 10, 10),
+        steps(0, 10, 11),
+        steps(0, 10, 9),
+        steps(0, 10, 1),
+        steps(0, 40, 1),
+        steps(-7, 9, 3),
+        steps(10, 0, -3),
+        steps(10, 0, -10),
+        steps(9, -30, -1),
+        steps(0, 10, -5),
+        steps(0, 10, 0),
+        steps(10, 0, 5),
+        steps(5, 5, 0),
+        steps(5, 5, 1),
+        steps(5, 5, -1),
+        steps(-WHOLE, WHOLE, WHOLE),
+        steps(WHOLE, -WHOLE, -300_000_000),
+        steps(0, 65_536, 1),
+        steps(0, 65_537, 1),
+        steps(-WHOLE, WHOLE, 1),
+        steps(WHOLE + 1, 0, -1),
+        steps(0, 10, WHOLE + 1),
+    ];
     const INDICES: &'static [IndexOf<i32>] =
         &[nearest(steps(0, 10, 4), 2), nearest(steps(8, -1, -4), 2)];
     const LINES: [usize; 2] = [85, 15];
@@ -83,6 +110,36 @@ impl Numbers for i32 {
 impl Numbers for f64 {
     const SIZES: &'static [Size<f64>] =
         &[Size(steps(0.0, 10.0, 5.0)), Size(steps(0.0, 10.0, 10.0))];
+    const LISTS: &'static [Steps<f64>] = &[
+        steps(0.0, 10.0, 5.0),
+        steps(0.0, 10.0, 10.0),
+        steps(0.0, 10.0, 11.0),
+        steps(0.0, 1.0, 0.1),
+        steps(1.0, 0.0, -0.1),
+        steps(-1.0, 1.0, 0.1),
+        steps(0.0, 0.3, 0.1),
+        steps(-0.0, 1.0, 0.25),
+        steps(-0.0, -1.0, -0.25),
+        steps(0.0, -0.0, 1.0),
+        steps(5.0, 5.0, 0.0),
+        steps(0.0, 1.0, -0.1),
+        steps(0.0, 1.0, -0.0),
+        steps(1.0, 0.0, 0.1),
+        steps(f64::NAN, 1.0, 0.1),
+        steps(0.0, f64::NAN, 0.1),
+        steps(0.0, 1.0, f64::NAN),
+        steps(0.0, f64::INFINITY, 1.0),
+        steps(0.0, f64::INFINITY, 1e308),
+        steps(0.0, f64::INFINITY, f64::INFINITY),
+        steps(0.0, f64::NEG_INFINITY, -1e308),
+        steps(f64::NEG_INFINITY, 0.0, 1.0),
+        steps(f64::INFINITY, 0.0, f64::NEG_INFINITY),
+        steps(1e16, 2e16, 1.0),
+        steps(1.0, 2.0, f64::EPSILON / 2.0),
+        steps(1.0, 1.0 + 9.0 * f64::EPSILON, f64::EPSILON * 0.75),
+        steps(0.0, 4e-323, 5e-324),
+        steps(0.0, 65_536.0, 1.0),
+    ];
     const INDICES: &'static [IndexOf<f64>] = &[
         nearest(steps(0.0, 10.0, 4.0), 2.0),
         nearest(steps(8.0, -1.0, -4.0), 2.0),
@@ -187,7 +244,6 @@ pub fn value<N: Numbers>(random: &mut Random, Drawn { axis, n }: Drawn<N>) -> N 
 }
 
 /// A mark limit, often about the number of entries.
-#[cfg(feature = "library")]
 pub fn mark_limit(random: &mut Random, n: u64) -> u32 {
     match random.below(8) {
         0 => random.pick(&[0, 1, 100_000, u32::MAX]),

@@ -15,11 +15,14 @@ pub struct Words {
     pub index: &'static str,
     pub map: &'static str,
     pub unmap: &'static str,
+    pub marks: &'static str,
 }
 
 pub trait Kind: Entry {
     type Axis: Ranged<ValueType = Self>;
     const WORDS: Words;
+    /// The word for the call that writes all entries, which segments have not.
+    const LIST: &'static str;
 
     /// plotters' axis, which makes its list at once.
     fn plotters(axis: Steps<Self>) -> Linspace<Self::Axis, Self, Exact<Self>>;
@@ -36,7 +39,9 @@ impl Kind for i32 {
         index: "wstepidx",
         map: "wstepmap",
         unmap: "wstepread",
+        marks: "wstepmarks",
     };
+    const LIST: &'static str = "wsteplist";
 
     fn plotters(axis: Steps<i32>) -> Linspace<RangedCoordi32, i32, Exact<i32>> {
         (axis.a..axis.b).step(axis.d)
@@ -55,7 +60,9 @@ impl Kind for f64 {
         index: "rstepidx",
         map: "rstepmap",
         unmap: "rstepread",
+        marks: "rstepmarks",
     };
+    const LIST: &'static str = "rsteplist";
 
     fn plotters(axis: Steps<f64>) -> Linspace<RangedCoordf64, f64, Exact<f64>> {
         (axis.a..axis.b).step(axis.d)

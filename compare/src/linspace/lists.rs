@@ -1,18 +1,17 @@
 //! Lists and marks of stepped axes, written to lent memory.
 
 use culvraod::Refusal;
-use plotters::coord::ranged1d::{DiscreteRanged, Ranged};
-use std::fmt::{self, Display};
 
 use super::cases::{drawn, mark_limit, picked, Drawn};
 use super::library::{mirror, Library};
-use super::{rule, Steps};
+use super::listing::Listing;
+use super::Steps;
 use crate::cases::all;
 use crate::lent::{lengths, Fill, Lent};
 use crate::number::Number;
 use crate::random::Random;
-use crate::reference::caught;
 use crate::tally::{ensure, Tally};
+use crate::written::{wanted, Writes};
 
 /// How many random inputs of a call are compared, and how many beside their mirror.
 const DRAWN: usize = 5_000_000;
@@ -20,49 +19,11 @@ const MIRRORED: usize = 2_000_000;
 
 const LIMITS: [u32; 6] = [0, 1, 2, 3, 10, u32::MAX];
 
-/// An axis whose list is asked for, or, with a mark limit, its marks.
-#[derive(Clone, Copy)]
-pub struct Listing<N> {
-    pub axis: Steps<N>,
-    pub m: Option<u32>,
-}
-
-impl<N: Library> Display for Listing<N> {
-    fn fmt(&self, f: &mut fmt::Formatter<'_>) -> fmt::Result {
-        let fields = self.axis.named().map(|(name, n)| format!("{name} {n}"));
-        write!(f, "{}", fields.join(", "))?;
-        self.m.map_or(Ok(()), |m| write!(f, ", m {m}"))
-    }
-}
-
 impl<N: Library> Listing<N> {
     /// A measure by which the smallest of several differing inputs is shown first.
     fn size(self) -> u128 {
         let numbers = self.axis.named().map(|(_, number)| number.size());
         numbers.iter().sum::<u128>() + u128::from(self.m.unwrap_or(0))
-    }
-
-    fn rule(self) -> Result<Vec<N>, i32> {
-        match self.m {
-            None => rule::list(self.axis),
-            Some(m) => rule::marks(self.axis, m),
-        }
-    }
-
-    pub fn plotters(self) -> Vec<N> {
-        let axis = N::plotters(self.axis);
-        match self.m {
-            None => axis.values().collect(),
-            Some(m) => axis.key_points(m as usize),
-        }
-    }
-
-    /// The refusal where the lent list is too short.
-    fn too_short(self) -> i32 {
-        match self.m {
-            None => 7,
-            Some(_) => 13,
-        }
     }
 
     pub fn safe(self, out: &mut [N]) -> Result<usize, Refusal> {
@@ -166,19 +127,15 @@ fn with_list<N: Library>(
     by_wrapper(listing, &mut memory.list, wanted)
 }
 
-fn same<N: Fill>(one: &[N], other: &[N]) -> bool {
-    one.len() == other.len() && one.iter().zip(other).all(|(&one, &other)| one.same(other))
-}
-
 fn check<N: Library>(listing: Listing<N>, memory: &mut Memory<N>) -> Result<(), String> {
-    let entries = match listing.rule() {
-        Ok(entries) => entries,
-        Err(number) => return check_refusal(listing, number, memory),
+    let entries = match wanted(listing)? {
+        Ok(written) => written.list,
+        Err(number) => {
+            return [0, 9]
+                .into_iter()
+                .try_for_each(|len| with_list(listing, len, memory, Err(number)))
+        }
     };
-    let plotters = caught(|| listing.plotters()).ok_or("the rule answers, plotters panics")?;
-    ensure(same(&entries, &plotters), || {
-        "the rule and plotters differ".into()
-    })?;
     lengths(entries.len()).into_iter().try_for_each(|len| {
         let wanted = if len < entries.len() {
             Err(listing.too_short())
@@ -187,21 +144,6 @@ fn check<N: Library>(listing: Listing<N>, memory: &mut Memory<N>) -> Result<(), 
         };
         with_list(listing, len, memory, wanted)
     })
-}
-
-fn check_refusal<N: Library>(
-    listing: Listing<N>,
-    number: i32,
-    memory: &mut Memory<N>,
-) -> Result<(), String> {
-    if number == 3 && rule::count(listing.axis).is_ok() {
-        ensure(caught(|| listing.plotters()).is_none(), || {
-            "the rule refuses with 3, plotters answers".into()
-        })?;
-    }
-    [0, 9]
-        .into_iter()
-        .try_for_each(|len| with_list(listing, len, memory, Err(number)))
 }
 
 /// A call on an axis and on its mirror, with lists of the same length.
@@ -228,7 +170,7 @@ fn check_mirror<N: Library>(
     lent: &mut [Lent<N>; 2],
 ) -> Result<(), String> {
     let pair = [listing, mirror];
-    let Ok(count) = listing.rule().map(|entries| entries.len()) else {
+    let Ok(count) = listing.rule().map(|written| written.list.len()) else {
         return check_pair(pair, 9, lent);
     };
     check_pair(pair, count, lent)?;

@@ -3,6 +3,7 @@
 mod calls;
 pub mod cases;
 pub mod kind;
+pub mod listing;
 pub mod rule;
 
 #[cfg(feature = "library")]
@@ -53,5 +54,7 @@ fn print<N: Numbers>(seed: u64) {
 
 pub fn vectors() {
     print::<i32>(12);
+    listing::print::<i32>(37);
     print::<f64>(17);
+    listing::print::<f64>(39);
 }

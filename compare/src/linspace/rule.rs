@@ -80,7 +80,6 @@ pub fn unmap<N: Entry>(Unmap { axis, x, p, q }: Unmap<N>) -> Answer<N> {
 }
 
 /// The marks; a list too short is left to the caller.
-#[cfg(feature = "library")]
 pub fn marks<N: Entry>(axis: Steps<N>, m: u32) -> Result<Vec<N>, i32> {
     admitted(axis)?;
     if m == 0 && entries(axis).next().is_some() {

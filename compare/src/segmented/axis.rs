@@ -14,6 +14,7 @@ use crate::linspace::{rule as stepped, Steps};
 use crate::number::Number;
 use crate::places::{rule as places, Place};
 use crate::search::rule::{self as search, DOWN, EXACT, NEAREST, UP};
+use crate::written::Written;
 
 /// What is asked of plotters' segments, whichever search they are made with.
 pub trait Ask<N> {
@@ -47,19 +48,12 @@ pub trait Axis: Copy + 'static {
     fn index(self, v: Self::Number, method: Self::Method) -> Answer<u64>;
 
     /// The step, where the call tells it, and the marks.
-    #[cfg(feature = "library")]
-    fn marks(self, m: u32) -> Result<Marks<Self::Number>, i32>;
+    fn marks(self, m: u32) -> Result<Written<Self::Number>, i32>;
 
     /// plotters' segments.
     fn plotters(self) -> Self::Segments;
     /// plotters' segments with a search.
     fn ask<Q: Ask<Self::Number>>(self, method: Self::Method, asked: Q) -> Q::Told;
-}
-
-#[cfg(feature = "library")]
-pub struct Marks<N> {
-    pub step: Option<N>,
-    pub list: Vec<N>,
 }
 
 /// A whole axis: its ends.
@@ -79,6 +73,7 @@ impl Axis for Whole {
         index: "segidx",
         map: "segmap",
         unmap: "segread",
+        marks: "segmarks",
     };
     const MOST: u64 = 16_777_216;
 
@@ -116,14 +111,13 @@ impl Axis for Whole {
         Ok(u64::try_from(i64::from(v) - i64::from(self.a)).ok())
     }
 
-    #[cfg(feature = "library")]
-    fn marks(self, m: u32) -> Result<Marks<i32>, i32> {
+    fn marks(self, m: u32) -> Result<Written<i32>, i32> {
         let bound = i128::from(admitted::BOUND);
         let (a, b) = (self.a.into(), self.b.into());
         let marks = crate::numeric::marks(&(-bound..=bound), a, b, m)?;
         super::rule::entries(self)?;
         let mark = |k: usize| (marks.first + k as i128 * marks.step) as i32;
-        Ok(Marks {
+        Ok(Written {
             step: Some(marks.step as i32),
             list: (0..marks.count).map(mark).collect(),
         })
@@ -150,6 +144,7 @@ impl Worded for i32 {
         index: "wsegidx",
         map: "wsegmap",
         unmap: "wsegread",
+        marks: "wsegmarks",
     };
 }
 
@@ -160,6 +155,7 @@ impl Worded for f64 {
         index: "rsegidx",
         map: "rsegmap",
         unmap: "rsegread",
+        marks: "rsegmarks",
     };
 }
 
@@ -203,11 +199,10 @@ impl<N: Worded> Axis for Steps<N> {
         search::index(&stepped::list(self)?, v, method)
     }
 
-    #[cfg(feature = "library")]
-    fn marks(self, m: u32) -> Result<Marks<N>, i32> {
+    fn marks(self, m: u32) -> Result<Written<N>, i32> {
         let list = stepped::marks(self, m)?;
         super::rule::entries(self)?;
-        Ok(Marks { step: None, list })
+        Ok(Written { step: None, list })
     }
 
     fn plotters(self) -> Self::Segments {

@@ -5,7 +5,7 @@ use std::hint::black_box;
 use super::axis::Whole;
 use super::calls::{FromIndex, IndexOf, Map, Size, Unmap};
 use super::library::{Library, Stepped};
-use super::marks::Marking;
+use super::marking::Marking;
 use crate::beside;
 use crate::entry::Entry;
 use crate::linspace::Steps;

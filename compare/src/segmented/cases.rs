@@ -31,6 +31,8 @@ pub trait Axes: Axis {
     const CHOICES: &'static [(Self::Method, u32)];
     /// How many lines the calls have that take neither a value nor limits.
     const LINES: [usize; 2];
+    /// Axes whose marks show what marks can be.
+    const LISTS: &'static [Self];
     const CORNERS: &'static [Self::Number];
     #[cfg(feature = "library")]
     const PICKED: &'static [Self::Number];
@@ -57,6 +59,10 @@ const PIXEL: i32 = FILM as i32;
 const LIMITS: [i32; 5] = [-PIXEL - 1, -PIXEL, 0, 1_000, PIXEL];
 const MOST: i64 = Whole::MOST as i64;
 
+const fn ends(a: i32, b: i32) -> Whole {
+    Whole { a, b }
+}
+
 /// Whole ends whose number of values is often about as large as may be.
 fn drawn_ends(random: &mut Random) -> (i32, i32) {
     let near = random.within(-1, 2) as i64;
@@ -80,6 +86,24 @@ impl Axes for Whole {
         ((), u32::MAX),
     ];
     const LINES: [usize; 2] = [85, 15];
+    const LISTS: &'static [Whole] = &[
+        ends(0, 10),
+        ends(3, 15),
+        ends(-15, -3),
+        ends(-5, 5),
+        ends(7, 7),
+        ends(1, 0),
+        ends(10, 0),
+        ends(-7, 32),
+        ends(99_999_999, 100_000_007),
+        ends(-WHOLE, -WHOLE + 20),
+        ends(WHOLE - 3, WHOLE),
+        ends(WHOLE, WHOLE + 1),
+        ends(i32::MIN, 0),
+        ends(0, -WHOLE),
+        ends(-WHOLE, WHOLE),
+        ends(0, 16_777_216),
+    ];
     #[rustfmt::skip]
     const CORNERS: &'static [i32] = &[
         i32::MIN, -WHOLE - 1, -WHOLE, -16_777_216, -1, 0, 1, 2, 9, 16_777_215, 16_777_216,
@@ -156,6 +180,7 @@ impl<N: Worded + Numbers> Axes for Steps<N> {
         (u32::MAX, LAST),
     ];
     const LINES: [usize; 2] = N::LINES;
+    const LISTS: &'static [Steps<N>] = N::LISTS;
     const CORNERS: &'static [N] = N::CORNERS;
     #[cfg(feature = "library")]
     const PICKED: &'static [N] = N::PICKED;

@@ -1,23 +1,17 @@
 //! Marks of segments, written to lent memory.
 
 use culvraod::Refusal;
-use plotters::coord::ranged1d::{Ranged, SegmentValue};
-use std::fmt::{self, Display};
 
-use super::axis::Marks;
-use super::cases::Drawn;
 use super::library::{Library, Stepped};
-use super::value::{Value, CENTER_OF};
+use super::marking::{drawn, Marking};
 use crate::cases::all;
-use crate::entry::Entry;
 use crate::lent::{lengths, Fill, Lent};
-use crate::linspace::cases::mark_limit;
 use crate::linspace::library::mirror;
 use crate::linspace::Steps;
 use crate::number::Number;
 use crate::random::Random;
-use crate::reference::caught;
 use crate::tally::{ensure, Tally};
+use crate::written::{wanted, Writes, Written};
 
 /// How many random inputs are compared, and how many beside their mirror.
 const DRAWN: usize = 5_000_000;
@@ -25,38 +19,11 @@ const MIRRORED: usize = 2_000_000;
 
 const LIMITS: [u32; 6] = [0, 1, 2, 3, 10, 50];
 
-/// No more marks than about so many are drawn on axes of more values.
-const FEW: u64 = 100_000;
-
-/// An axis and a mark limit.
-#[derive(Clone, Copy)]
-pub struct Marking<A> {
-    pub axis: A,
-    pub m: u32,
-}
-
-impl<A: Library> Display for Marking<A> {
-    fn fmt(&self, f: &mut fmt::Formatter<'_>) -> fmt::Result {
-        for (name, number) in self.axis.named() {
-            write!(f, "{name} {number}, ")?;
-        }
-        write!(f, "m {}", self.m)
-    }
-}
-
 impl<A: Library> Marking<A> {
     /// A measure by which the smallest of several differing inputs is shown first.
     fn size(self) -> u128 {
         let numbers = self.axis.named().into_iter();
         numbers.map(|(_, number)| number.size()).sum::<u128>() + u128::from(self.m)
-    }
-
-    fn rule(self) -> Result<Marks<A::Number>, i32> {
-        self.axis.marks(self.m)
-    }
-
-    pub fn plotters(self) -> Vec<SegmentValue<A::Number>> {
-        self.axis.plotters().key_points(self.m as usize)
     }
 }
 
@@ -139,45 +106,23 @@ fn with_list<A: Library>(
     by_wrapper(marking, &mut memory.list, wanted)
 }
 
-/// Whether plotters has these marks, each as the middle of its segment.
-fn same<N: Entry + Fill>(marks: &[N], plotters: Vec<SegmentValue<N>>) -> bool {
-    let middle = |v| Value { v, kind: CENTER_OF };
-    let same = |(&v, mark): (&N, SegmentValue<N>)| middle(v).same(mark.into());
-    marks.len() == plotters.len() && marks.iter().zip(plotters).all(same)
-}
-
 fn check<A: Library>(marking: Marking<A>, memory: &mut Memory<A::Number>) -> Result<(), String> {
-    let Marks { step, list } = match marking.rule() {
-        Ok(marks) => marks,
-        Err(number) => return check_refusal(marking, number, memory),
+    let Written { step, list } = match wanted(marking)? {
+        Ok(written) => written,
+        Err(number) => {
+            return [0, 9]
+                .into_iter()
+                .try_for_each(|len| with_list(marking, len, memory, Err(number)))
+        }
     };
-    let plotters = caught(|| marking.plotters()).ok_or("the rule answers, plotters panics")?;
-    ensure(same(&list, plotters), || {
-        "the rule and plotters differ".into()
-    })?;
     lengths(list.len()).into_iter().try_for_each(|len| {
         let wanted = if len < list.len() {
-            Err(13)
+            Err(marking.too_short())
         } else {
             Ok((step, &list[..]))
         };
         with_list(marking, len, memory, wanted)
     })
-}
-
-fn check_refusal<A: Library>(
-    marking: Marking<A>,
-    number: i32,
-    memory: &mut Memory<A::Number>,
-) -> Result<(), String> {
-    if number == 3 && marking.axis.count().is_ok() {
-        ensure(caught(|| marking.plotters()).is_none(), || {
-            "the rule refuses with 3, plotters answers".into()
-        })?;
-    }
-    [0, 9]
-        .into_iter()
-        .try_for_each(|len| with_list(marking, len, memory, Err(number)))
 }
 
 /// All corners and small inputs, and so many at random.
@@ -186,12 +131,7 @@ fn inputs<A: Library>(count: usize) -> impl Iterator<Item = Marking<A>> {
         all(|pick| A::picked(pick, A::CORNERS)).chain(all(|pick| A::picked(pick, A::PICKED)));
     let picked = axes.flat_map(|axis| LIMITS.iter().map(move |&m| Marking { axis, m }));
     let mut random = Random::new();
-    let drawn = (0..count).map(move |_| {
-        let Drawn { axis, n } = A::drawn(&mut random);
-        let m = mark_limit(&mut random, n);
-        let m = if n > FEW { m % 64 } else { m };
-        Marking { axis, m }
-    });
+    let drawn = (0..count).map(move |_| drawn(&mut random));
     picked.chain(drawn)
 }
 

@@ -3,6 +3,7 @@
 mod axis;
 mod calls;
 mod cases;
+mod marking;
 mod rule;
 mod value;
 
@@ -48,6 +49,9 @@ fn print<A: Axes>(seed: u64) {
 
 pub fn vectors() {
     print::<Whole>(22);
+    marking::print::<Whole>(41);
     print::<Steps<i32>>(27);
+    marking::print::<Steps<i32>>(42);
     print::<Steps<f64>>(32);
+    marking::print::<Steps<f64>>(43);
 }

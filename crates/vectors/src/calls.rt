@@ -34,7 +34,7 @@ fn nothing() -> Outcome {
     }
 }
 
-fn refused(r: Refusal) -> Outcome {
+pub(crate) fn refused(r: Refusal) -> Outcome {
     Outcome {
         code: r.number() as u64,
         answer: 0,

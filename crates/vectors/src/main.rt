@@ -7,6 +7,7 @@ ghost use lib.ListN.{length};
 mod bits;
 mod calls;
 mod labels;
+mod lists;
 mod marks;
 mod searches;
 mod segments;
@@ -17,11 +18,11 @@ use libc::STDIN_FILENO;
 use libc::STDOUT_FILENO;
 
 // The calls have numbers from 0 on; after them come the lines that differ and the comments. A total is kept of each.
-const LABEL: usize = 36;
+const LABEL: usize = 43;
 
-const DIFFERS: usize = 37;
+const DIFFERS: usize = 44;
 
-const COMMENT: usize = 38;
+const COMMENT: usize = 45;
 
 fn call_of(word: &[u8]) -> usize {
     if text::equal(word, b"whole") {
@@ -144,6 +145,31 @@ fn step_segment_call_of(word: &[u8]) -> usize {
     if text::equal(word, b"rsegread") {
         return 35;
     }
+    list_call_of(word)
+}
+
+fn list_call_of(word: &[u8]) -> usize {
+    if text::equal(word, b"wsteplist") {
+        return 36;
+    }
+    if text::equal(word, b"wstepmarks") {
+        return 37;
+    }
+    if text::equal(word, b"rsteplist") {
+        return 38;
+    }
+    if text::equal(word, b"rstepmarks") {
+        return 39;
+    }
+    if text::equal(word, b"segmarks") {
+        return 40;
+    }
+    if text::equal(word, b"wsegmarks") {
+        return 41;
+    }
+    if text::equal(word, b"rsegmarks") {
+        return 42;
+    }
     if text::equal(word, b"label") {
         return LABEL;
     }
@@ -151,19 +177,12 @@ fn step_segment_call_of(word: &[u8]) -> usize {
 }
 
 // Whether the call answers as the line of n numbers has it.
-fn matched(
-    call: usize,
-    numbers: &[u64],
-    n: usize,
-    whole: &mut [i32],
-    real: &mut [f64],
-    index: &mut [usize],
-) -> bool
+fn matched(call: usize, numbers: &[u64], n: usize) -> bool
     requires { ⌜ n ≤ length (now numbers) ⌝ }
 {
     match call {
-        0 => marks::whole(numbers, n, whole),
-        1 => marks::index(numbers, n, index),
+        0 => marks::whole(numbers, n),
+        1 => marks::index(numbers, n),
         2 => calls::whole_map(numbers, n),
         3 => calls::real_map(numbers, n),
         4 => calls::size(numbers, n),
@@ -171,8 +190,8 @@ fn matched(
         6 => calls::from_index(numbers, n),
         7 => calls::whole_unmap(numbers, n),
         8 => calls::real_unmap(numbers, n),
-        9 => searches::whole_search(numbers, n, whole),
-        10 => searches::real_search(numbers, n, real),
+        9 => searches::whole_search(numbers, n),
+        10 => searches::real_search(numbers, n),
         _ => step_matched(call, numbers, n),
     }
 }
@@ -214,6 +233,21 @@ fn segment_matched(call: usize, numbers: &[u64], n: usize) -> bool
         33 => segments::real_index_of(numbers, n),
         34 => segments::real_map(numbers, n),
         35 => segments::real_unmap(numbers, n),
+        _ => list_matched(call, numbers, n),
+    }
+}
+
+fn list_matched(call: usize, numbers: &[u64], n: usize) -> bool
+    requires { ⌜ n ≤ length (now numbers) ⌝ }
+{
+    match call {
+        36 => steps::whole_values(numbers, n),
+        37 => steps::whole_key_points(numbers, n),
+        38 => steps::real_values(numbers, n),
+        39 => steps::real_key_points(numbers, n),
+        40 => segments::key_points(numbers, n),
+        41 => segments::whole_key_points(numbers, n),
+        42 => segments::real_key_points(numbers, n),
         _ => false,
     }
 }
@@ -227,13 +261,7 @@ fn judge_label(line: &[u8], numbers: &[u64], n: usize) -> usize
     DIFFERS
 }
 
-fn judge(
-    line: &[u8],
-    numbers: &mut [u64],
-    whole: &mut [i32],
-    real: &mut [f64],
-    index: &mut [usize],
-) -> usize {
+fn judge(line: &[u8], numbers: &mut [u64]) -> usize {
     if line.len() == 0 {
         return DIFFERS;
     }
@@ -246,7 +274,7 @@ fn judge(
     if call == LABEL {
         return judge_label(line, numbers, n);
     }
-    if matched(call, numbers, n, whole, real, index) {
+    if matched(call, numbers, n) {
         return call;
     }
     DIFFERS
@@ -263,18 +291,11 @@ fn count(totals: &mut [u32], which: usize) {
 }
 
 // Every line of s, each ended by a newline or by the end.
-fn replay(
-    s: &[u8],
-    numbers: &mut [u64],
-    whole: &mut [i32],
-    real: &mut [f64],
-    index: &mut [usize],
-    totals: &mut [u32],
-) {
+fn replay(s: &[u8], numbers: &mut [u64], totals: &mut [u32]) {
     let mut at = 0;
     while at < s.len() {
         let end = text::find(s, at, b'\n');
-        count(totals, judge(&s[at..end], numbers, whole, real, index));
+        count(totals, judge(&s[at..end], numbers));
         at = end + 1;
     }
 }
@@ -323,6 +344,16 @@ fn report_segments(totals: &[u32]) {
     report(b"\nseg_step_real_unmap matched: ", total(totals, 35));
 }
 
+fn report_lists(totals: &[u32]) {
+    report(b"\nstep_whole_values matched: ", total(totals, 36));
+    report(b"\nstep_whole_key_points matched: ", total(totals, 37));
+    report(b"\nstep_real_values matched: ", total(totals, 38));
+    report(b"\nstep_real_key_points matched: ", total(totals, 39));
+    report(b"\nseg_whole_key_points matched: ", total(totals, 40));
+    report(b"\nseg_step_whole_key_points matched: ", total(totals, 41));
+    report(b"\nseg_step_real_key_points matched: ", total(totals, 42));
+}
+
 fn report_all(totals: &[u32]) {
     report(b"whole_key_points matched: ", total(totals, 0));
     report(b"\nindex_key_points matched: ", total(totals, 1));
@@ -337,21 +368,15 @@ fn report_all(totals: &[u32]) {
     report(b"\nsearch_real matched: ", total(totals, 10));
     report_steps(totals);
     report_segments(totals);
+    report_lists(totals);
     report(b"\nlabel matched: ", total(totals, LABEL));
     report(b"\nlines that differ: ", total(totals, DIFFERS));
     io::write_all(STDOUT_FILENO, b"\n");
 }
 
-fn lend(
-    space: &mut [u8],
-    numbers: &mut [u64],
-    whole: &mut [i32],
-    real: &mut [f64],
-    index: &mut [usize],
-    totals: &mut [u32],
-) {
+fn lend(space: &mut [u8], numbers: &mut [u64], totals: &mut [u32]) {
     let n = io::read_full(STDIN_FILENO, space);
-    replay(&space[..n], numbers, whole, real, index, totals);
+    replay(&space[..n], numbers, totals);
     report_all(totals);
 }
 
@@ -365,16 +390,6 @@ fn room() -> [u8; 1048576]
 fn main() {
     let mut space = room();
     let mut numbers = [0u64; 64];
-    let mut whole = [0i32; 64];
-    let mut real = [0.0; 64];
-    let mut index = [0usize; 64];
-    let mut totals = [0u32; 39];
-    lend(
-        &mut space,
-        &mut numbers,
-        &mut whole,
-        &mut real,
-        &mut index,
-        &mut totals,
-    );
+    let mut totals = [0u32; 46];
+    lend(&mut space, &mut numbers, &mut totals);
 }

@@ -38,28 +38,30 @@ fn fill_reals(numbers: &[u64], list: &mut [f64]) {
     }
 }
 
-pub(crate) fn whole_search(numbers: &[u64], n: usize, list: &mut [i32]) -> bool
+pub(crate) fn whole_search(numbers: &[u64], n: usize) -> bool
     requires { ⌜ n ≤ length (now numbers) ⌝ }
 {
     let size = word(numbers, 0) as usize;
-    if list.len() < size {
+    if 64 < size {
         return false;
     }
-    fill_wholes(numbers, list);
+    let mut list = [0i32; 64];
+    fill_wholes(numbers, &mut list);
     let target = whole(numbers, size + 1);
     let by = method(word(numbers, size + 2));
     let found = search::search_whole(&list[0..size], target, by);
     same(numbers, n, size + 3, of_index(found))
 }
 
-pub(crate) fn real_search(numbers: &[u64], n: usize, list: &mut [f64]) -> bool
+pub(crate) fn real_search(numbers: &[u64], n: usize) -> bool
     requires { ⌜ n ≤ length (now numbers) ⌝ }
 {
     let size = word(numbers, 0) as usize;
-    if list.len() < size {
+    if 64 < size {
         return false;
     }
-    fill_reals(numbers, list);
+    let mut list = [0.0; 64];
+    fill_reals(numbers, &mut list);
     let target = double(word(numbers, size + 1));
     let by = method(word(numbers, size + 2));
     let found = search::search_real(&list[0..size], target, by);

@@ -4,6 +4,7 @@ ghost use Prim.Native.Nat.{_≤_};
 ghost use lib.ListN.{length};
 use crate::bits::bits;
 use crate::bits::double;
+use crate::bits::low_half;
 use crate::bits::pattern;
 use crate::calls::of_count;
 use crate::calls::of_index;
@@ -12,6 +13,12 @@ use crate::calls::same;
 use crate::calls::whole;
 use crate::calls::whole_axis;
 use crate::calls::word;
+use crate::lists::REAL;
+use crate::lists::WHOLE;
+use crate::lists::of_listed;
+use crate::lists::of_marks;
+use crate::lists::same_reals;
+use crate::lists::same_wholes;
 use crate::searches::method;
 use crate::steps::real_steps;
 use crate::steps::whole_steps;
@@ -174,6 +181,19 @@ pub(crate) fn unmap(numbers: &[u64], n: usize) -> bool
     same_value(numbers, n, 5, of_segment(v))
 }
 
+pub(crate) fn key_points(numbers: &[u64], n: usize) -> bool
+    requires { ⌜ n ≤ length (now numbers) ⌝ }
+{
+    let m = low_half(word(numbers, 2));
+    let size = word(numbers, 3) as usize;
+    if 64 < size {
+        return false;
+    }
+    let mut list = [WHOLE; 64];
+    let told = plain_segments(numbers).key_points(m, &mut list[0..size]);
+    same_wholes(numbers, n, 4, of_marks(told), &list)
+}
+
 fn whole_segments(numbers: &[u64]) -> SegmentedLinspacei32 {
     SegmentedLinspacei32(whole_steps(numbers))
 }
@@ -218,6 +238,19 @@ pub(crate) fn whole_unmap(numbers: &[u64], n: usize) -> bool
     same_value(numbers, n, 6, of_segment(v))
 }
 
+pub(crate) fn whole_key_points(numbers: &[u64], n: usize) -> bool
+    requires { ⌜ n ≤ length (now numbers) ⌝ }
+{
+    let m = low_half(word(numbers, 3));
+    let size = word(numbers, 4) as usize;
+    if 64 < size {
+        return false;
+    }
+    let mut list = [WHOLE; 64];
+    let told = whole_segments(numbers).key_points(m, &mut list[0..size]);
+    same_wholes(numbers, n, 5, of_listed(told), &list)
+}
+
 fn real_segments(numbers: &[u64]) -> SegmentedLinspacef64 {
     SegmentedLinspacef64(real_steps(numbers))
 }
@@ -260,4 +293,17 @@ pub(crate) fn real_unmap(numbers: &[u64], n: usize) -> bool
     let limit = Limit(whole(numbers, 4), whole(numbers, 5));
     let v = real_segments(numbers).unmap(whole(numbers, 3), limit);
     same_value(numbers, n, 6, of_real_segment(v))
+}
+
+pub(crate) fn real_key_points(numbers: &[u64], n: usize) -> bool
+    requires { ⌜ n ≤ length (now numbers) ⌝ }
+{
+    let m = low_half(word(numbers, 3));
+    let size = word(numbers, 4) as usize;
+    if 64 < size {
+        return false;
+    }
+    let mut list = [REAL; 64];
+    let told = real_segments(numbers).key_points(m, &mut list[0..size]);
+    same_reals(numbers, n, 5, of_listed(told), &list)
 }

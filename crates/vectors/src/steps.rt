@@ -2,6 +2,7 @@
 ghost use Prim.Native.Nat.{_≤_};
 ghost use lib.ListN.{length};
 use crate::bits::double;
+use crate::bits::low_half;
 use crate::calls::of_count;
 use crate::calls::of_index;
 use crate::calls::of_place;
@@ -10,6 +11,11 @@ use crate::calls::of_value;
 use crate::calls::same;
 use crate::calls::whole;
 use crate::calls::word;
+use crate::lists::REAL;
+use crate::lists::WHOLE;
+use crate::lists::of_listed;
+use crate::lists::same_reals;
+use crate::lists::same_wholes;
 use crate::searches::method;
 use linspace::Linspacef64;
 use linspace::Linspacei32;
@@ -63,6 +69,31 @@ pub(crate) fn whole_unmap(numbers: &[u64], n: usize) -> bool
     same(numbers, n, 6, of_value(v))
 }
 
+pub(crate) fn whole_values(numbers: &[u64], n: usize) -> bool
+    requires { ⌜ n ≤ length (now numbers) ⌝ }
+{
+    let size = word(numbers, 3) as usize;
+    if 64 < size {
+        return false;
+    }
+    let mut list = [WHOLE; 64];
+    let told = whole_steps(numbers).values(&mut list[0..size]);
+    same_wholes(numbers, n, 4, of_listed(told), &list)
+}
+
+pub(crate) fn whole_key_points(numbers: &[u64], n: usize) -> bool
+    requires { ⌜ n ≤ length (now numbers) ⌝ }
+{
+    let m = low_half(word(numbers, 3));
+    let size = word(numbers, 4) as usize;
+    if 64 < size {
+        return false;
+    }
+    let mut list = [WHOLE; 64];
+    let told = whole_steps(numbers).key_points(m, &mut list[0..size]);
+    same_wholes(numbers, n, 5, of_listed(told), &list)
+}
+
 pub(crate) fn real_steps(numbers: &[u64]) -> Linspacef64 {
     Linspacef64 {
         inner: RangedCoordf64(double(word(numbers, 0)), double(word(numbers, 1))),
@@ -103,4 +134,29 @@ pub(crate) fn real_unmap(numbers: &[u64], n: usize) -> bool
 {
     let v = real_steps(numbers).unmap(whole(numbers, 3), limit(numbers));
     same(numbers, n, 6, of_reading(v))
+}
+
+pub(crate) fn real_values(numbers: &[u64], n: usize) -> bool
+    requires { ⌜ n ≤ length (now numbers) ⌝ }
+{
+    let size = word(numbers, 3) as usize;
+    if 64 < size {
+        return false;
+    }
+    let mut list = [REAL; 64];
+    let told = real_steps(numbers).values(&mut list[0..size]);
+    same_reals(numbers, n, 4, of_listed(told), &list)
+}
+
+pub(crate) fn real_key_points(numbers: &[u64], n: usize) -> bool
+    requires { ⌜ n ≤ length (now numbers) ⌝ }
+{
+    let m = low_half(word(numbers, 3));
+    let size = word(numbers, 4) as usize;
+    if 64 < size {
+        return false;
+    }
+    let mut list = [REAL; 64];
+    let told = real_steps(numbers).key_points(m, &mut list[0..size]);
+    same_reals(numbers, n, 5, of_listed(told), &list)
 }

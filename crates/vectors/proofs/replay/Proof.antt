@@ -12,10 +12,10 @@ use Rattle.vectors.proofs.judge.Reads as judge-reads
 use Rattle.vectors.proofs.text.find.Reads as find-reads
 
 abbrev Inv-loop : tie.InvT-loop
-Inv-loop s numbers₀ whole₀ real₀ index₀ totals₀ at₀ numbers whole real index totals at = (length numbers ≡ length numbers₀) × (length whole ≡ length whole₀) × (length real ≡ length real₀) × (length index ≡ length index₀) × (length totals ≡ length totals₀)
+Inv-loop s numbers₀ totals₀ at₀ numbers totals at = (length numbers ≡ length numbers₀) × (length totals ≡ length totals₀)
 
 abbrev μ-loop : tie.MeasureT-loop
-μ-loop s numbers₀ whole₀ real₀ index₀ totals₀ at₀ numbers whole real index totals at = length s - at
+μ-loop s numbers₀ totals₀ at₀ numbers totals at = length s - at
 
 loop-holds : tie.Need-loop-holds Inv-loop μ-loop
 loop-holds c = search needs
@@ -53,15 +53,6 @@ same-length c = search needs
 same-length-2 : tie.Need-same-length-2 Inv-loop μ-loop
 same-length-2 c = search needs
 
-same-length-3 : tie.Need-same-length-3 Inv-loop μ-loop
-same-length-3 c = search needs
-
-same-length-4 : tie.Need-same-length-4 Inv-loop μ-loop
-same-length-4 c = search needs
-
-same-length-5 : tie.Need-same-length-5 Inv-loop μ-loop
-same-length-5 c = search needs
-
 returns : tie.Need-returns Inv-loop μ-loop
 returns c = search needs
 
@@ -83,7 +74,4 @@ replay-spec =
     loop-again
     same-length
     same-length-2
-    same-length-3
-    same-length-4
-    same-length-5
     returns)

@@ -1,0 +1,57 @@
+-- `vectors::lists::holds` meets its contract. Assumes nothing.
+use Prim.Native.Nat.{_-_, _≤_}
+use borrow.Author.Needs.{needs}
+use Rattle.vectors.proofs.lists.holds.Statement.{statement}
+use Rattle.vectors.proofs.lists.holds.Tie as tie
+use Rattle.vectors.proofs.lists.holds.Reads as reads
+use Rattle.vectors.proofs.lists.holds.Lts as lts
+use Rattle.vectors.proofs.lists.held.Reads as held-reads
+
+abbrev Inv-loop : tie.InvT-loop
+Inv-loop numbers n count list before k₀ k = k ≤ 64
+
+abbrev μ-loop : tie.MeasureT-loop
+μ-loop numbers n count list before k₀ k = 64 - k
+
+loop-holds : tie.Need-loop-holds Inv-loop μ-loop
+loop-holds c = search needs
+
+mul-if1 : tie.Need-mul-if1 Inv-loop μ-loop
+mul-if1 c = search needs
+
+element-copy-out-if1 : tie.Need-element-copy-out-if1 Inv-loop μ-loop
+element-copy-out-if1 c = search needs
+
+held-requires : tie.Need-held-requires Inv-loop μ-loop
+held-requires c κs = search needs
+
+returns : tie.Need-returns Inv-loop μ-loop
+returns c = search needs
+
+add-k : tie.Need-add-k Inv-loop μ-loop
+add-k c = search needs
+
+loop-less : tie.Need-loop-less Inv-loop μ-loop
+loop-less c = search needs
+
+loop-again : tie.Need-loop-again Inv-loop μ-loop
+loop-again c = search needs
+
+returns-2 : tie.Need-returns-2 Inv-loop μ-loop
+returns-2 c = search needs
+
+pub holds-spec : {M : Type 1} → statement M
+holds-spec =
+    tie.close
+    (tie.spec
+    Inv-loop
+    μ-loop
+    loop-holds
+    mul-if1
+    element-copy-out-if1
+    held-requires
+    returns
+    add-k
+    loop-less
+    loop-again
+    returns-2)
