@@ -4,12 +4,29 @@ use mathlib.Core.Bool.{Bool, true, false, cond, true≢false, not, _&&_, _||_}
 use mathlib.Core.List.{List, [], _∷_}
 use Prim.Native.Nat.{ℕ, zero, suc, _+_, _-_, _≤_, _<_}
 use native.Mathlib.Omega.{arith}
-use lib.ListN.{length, getD, drop}
+use lib.ListN.{length, getD, take, drop, length-drop}
+use lib.Seq.{take-all, drop-drop}
 use Rattle.search.specs.Search.{Numbers}
 use Rattle.search.specs.Lists.{every, goesOn, ascends, searchable}
 use Rattle.search.specs.Steps.{toward, risesFirst}
-use Rattle.search.proofs.Orders.{Order, turned}
+use Rattle.search.proofs.Orders.{Order, Between, turned}
 use Rattle.search.proofs.Settles.{Sorted, Ordinary}
+
+and-left : (x y : Bool) → (x && y) ≡ true → x ≡ true
+and-left true y h = refl
+and-left false y h = h
+
+and-right : (x y : Bool) → (x && y) ≡ true → y ≡ true
+and-right true y h = h
+and-right false y h = absurd (true≢false (sym h))
+
+and-regroup : (x y z : Bool) → (x && (y && z)) ≡ ((x && y) && z)
+and-regroup true y z = refl
+and-regroup false y z = refl
+
+and-true : (x : Bool) → (x && true) ≡ x
+and-true true = refl
+and-true false = refl
 
 module _ {A : Type 0} where
   -- an entry that there is does not depend on what stands for none
@@ -45,13 +62,14 @@ module _ {A : Type 0} where
     ascends-end (x ∷ (y ∷ ys)) zero h = absurd (omega (arith, h))
     ascends-end (x ∷ xs) (suc k) h = ascends-end xs k (omega (arith, h))
 
-and-left : (x y : Bool) → (x && y) ≡ true → x ≡ true
-and-left true y h = refl
-and-left false y h = h
-
-and-right : (x y : Bool) → (x && y) ≡ true → y ≡ true
-and-right true y h = h
-and-right false y h = absurd (true≢false (sym h))
+    -- two parts that share an entry
+    ascends-cut : (l : List A) (n : ℕ) → n < length l → ascends lt l ≡ (ascends lt (take (suc n) l) && ascends lt (drop n l))
+    ascends-cut [] n h = absurd (omega (arith, h))
+    ascends-cut (x ∷ xs) zero h = refl
+    ascends-cut (x ∷ []) (suc n) h = absurd (omega (arith, h))
+    ascends-cut (x ∷ (y ∷ ys)) (suc n) h =
+        ap (λ (b : Bool). lt x y && b) (ascends-cut (y ∷ ys) n (omega (arith, h)))
+        ∙ and-regroup (lt x y) (ascends lt (take (suc n) (y ∷ ys))) (ascends lt (drop n (y ∷ ys)))
 
 -- ---- what an ordered list is: each entry comes before every later one, and where there are two, every entry equals itself
 module _ {A : Type 0} {lt eq : A → A → Bool} (o : Order A lt eq) (d : A) where
@@ -148,7 +166,7 @@ rises-two lt d [] h = absurd (omega (arith, h))
 rises-two lt d (x ∷ []) h = absurd (omega (arith, h))
 rises-two lt d (x ∷ (y ∷ ys)) h = refl
 
--- ---- a walk along a list from its second entry on: each entry against the one before it
+-- ---- a walk along a list from its second entry on: each entry against the one before it; ok says whether all passed were in order
 module _ {A : Type 0} (lt : A → A → Bool) (d : A) (l : List A) where
   less-one : (j : ℕ) → suc j - 1 ≡ j
   less-one j = omega arith
@@ -156,14 +174,59 @@ module _ {A : Type 0} (lt : A → A → Bool) (d : A) (l : List A) where
   more-one : (j : ℕ) → suc j + 1 - 1 ≡ suc j
   more-one j = omega arith
 
-  pub walk-on : (k : ℕ) → 1 ≤ k → k < length l → lt (getD l (k - 1) d) (getD l k d) ≡ true → ascends lt (drop (k - 1) l) ≡ ascends lt (drop (k + 1 - 1) l)
-  walk-on zero h m e = absurd (omega (arith, h))
-  walk-on (suc j) h m e = rw (less-one j, more-one j) (ascends-step lt d l j m ∙ rw (rw (less-one j) at e) refl)
+  pub walk-on : (ok : Bool) {next : Bool} (k : ℕ) → 1 ≤ k → k < length l → next ≡ (ok && lt (getD l (k - 1) d) (getD l k d))
+      → ascends lt l ≡ (ok && ascends lt (drop (k - 1) l)) → ascends lt l ≡ (next && ascends lt (drop (k + 1 - 1) l))
+  walk-on ok zero h m e a = absurd (omega (arith, h))
+  walk-on ok (suc j) h m e a =
+      rw (e, less-one j, more-one j)
+      (rw (less-one j) at a
+      ∙ ap (λ (b : Bool). ok && b) (ascends-step lt d l j m)
+      ∙ and-regroup ok (lt (getD l j d) (getD l (suc j) d)) (ascends lt (drop (suc j) l)))
 
-  pub walk-stop : (k : ℕ) → 1 ≤ k → k < length l → lt (getD l (k - 1) d) (getD l k d) ≡ false → ascends lt (drop (k - 1) l) ≡ false
-  walk-stop zero h m e = absurd (omega (arith, h))
-  walk-stop (suc j) h m e = rw (less-one j) (ascends-step lt d l j m ∙ rw (rw (less-one j) at e) refl)
+  pub walk-done : {ok : Bool} (k : ℕ) → 1 ≤ k → length l ≤ k → ascends lt l ≡ (ok && ascends lt (drop (k - 1) l)) → ok ≡ ascends lt l
+  walk-done zero h m a = absurd (omega (arith, h))
+  walk-done {ok} (suc j) h m a = sym (a ∙ rw (less-one j, ascends-end lt l j m) (and-true ok))
 
-  pub walk-done : (k : ℕ) → 1 ≤ k → length l ≤ k → ascends lt (drop (k - 1) l) ≡ true
-  walk-done zero h m = absurd (omega (arith, h))
-  walk-done (suc j) h m = rw (less-one j) (ascends-end lt l j m)
+-- ---- a list by runs of n pairs
+module _ {A : Type 0} (lt : A → A → Bool) (l : List A) (n k : ℕ) (h : n < length l - k) (a : ascends lt l ≡ ascends lt (drop k l)) where
+  run-is : ascends lt l ≡ (ascends lt (take (k + suc n - k) (drop k l)) && ascends lt (drop (k + n) l))
+  run-is =
+      let size : k + suc n - k ≡ suc n = omega arith in
+      rw (size, ← drop-drop n k l) (a ∙ ascends-cut lt (drop k l) n (omega (arith, length-drop k l)))
+
+  pub run-on : ascends lt (take (k + suc n - k) (drop k l)) ≡ true → ascends lt l ≡ ascends lt (drop (k + n) l)
+  run-on e = run-is ∙ rw e refl
+
+  pub run-stop : ascends lt (take (k + suc n - k) (drop k l)) ≡ false → ascends lt l ≡ false
+  run-stop e = run-is ∙ rw e refl
+
+pub run-last : {A : Type 0} (lt : A → A → Bool) (l : List A) (k : ℕ) → ascends lt l ≡ ascends lt (drop k l) → ascends lt (take (length l - k) (drop k l)) ≡ ascends lt l
+run-last lt l k a = rw (take-all (length l - k) (drop k l) (omega (arith, length-drop k l))) (sym a)
+
+-- ---- a test that holds between any two that pass it: the ends of an ordered list tell of every entry
+module _ {A : Type 0} {lt eq : A → A → Bool} (o : Order A lt eq) (d : A) (p : A → Bool) (between : Between lt p) where
+  second : (x y : A) (ys : List A) → goesOn lt x (y ∷ ys) ≡ true → p x ≡ true → p (getD (y ∷ ys) (length ys) d) ≡ true → p y ≡ true
+  second x y [] g f e = e
+  second x y (z ∷ zs) g f e =
+      between x y (getD (z ∷ zs) (length zs) d) (and-left (lt x y) (goesOn lt y (z ∷ zs)) g)
+      (goes-before o d y (z ∷ zs) (and-right (lt x y) (goesOn lt y (z ∷ zs)) g) (length zs) (omega arith)) f e
+
+  ends-of : (x : A) (l : List A) → goesOn lt x l ≡ true → every p (x ∷ l) ≡ (p x && p (getD (x ∷ l) (length l) d))
+  ends-of x [] g = go (p x)
+    where
+      go : (b : Bool) → (b && true) ≡ (b && b)
+      go true = refl
+      go false = refl
+  ends-of x (y ∷ ys) g =
+      ap (λ (b : Bool). p x && b) (ends-of y ys (and-right (lt x y) (goesOn lt y ys) g))
+      ∙ go (p x) (p y) (p (getD (y ∷ ys) (length ys) d)) (second x y ys g)
+    where
+      go : (a b c : Bool) → (a ≡ true → c ≡ true → b ≡ true) → (a && (b && c)) ≡ (a && c)
+      go true true c h = refl
+      go true false true h = absurd (true≢false (sym (h refl refl)))
+      go true false false h = refl
+      go false b c h = refl
+
+  pub ends : (l : List A) → (length l ≡ 0 → ⊥) → ascends lt l ≡ true → every p l ≡ (p (getD l 0 d) && p (getD l (length l - 1) d))
+  ends [] h a = absurd (h refl)
+  ends (x ∷ xs) h a = let e : length (x ∷ xs) - 1 ≡ length xs = omega arith in rw e (ends-of x xs a)

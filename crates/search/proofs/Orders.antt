@@ -2,6 +2,7 @@
 use mathlib.Core.Path.{_≡_, refl, sym, ap, subst, _∙_}
 use mathlib.Core.Bool.{Bool, true, false}
 use Prim.Native.Nat.{ℕ}
+use Rattle.search.specs.Steps.{toward}
 
 -- `total` is asked of numbers that equal themselves: a NaN does not
 pub record Order (A : Type 0) (lt eq : A → A → Bool) : Type 0 where
@@ -28,3 +29,11 @@ turned o = record {
   right = λ x y p. o .left y x p;
   total = λ x y p q l e. o .total y x q p l (o .even y x ∙ e);
 }
+
+-- ---- a test that is passed by whatever lies between two that pass it, in either direction
+abbrev pub Between : {A : Type 0} → (A → A → Bool) → (A → Bool) → Type 0
+Between {A} lt p = (x y z : A) → lt x y ≡ true → lt y z ≡ true → p x ≡ true → p z ≡ true → p y ≡ true
+
+pub between-toward : {A : Type 0} {lt : A → A → Bool} {p : A → Bool} (rises : Bool) → Between lt p → Between (toward rises lt) p
+between-toward true b = b
+between-toward false b = λ x y z e f g h. b z y x f e h g

@@ -2,11 +2,11 @@
 use mathlib.Core.Path.{_≡_, refl, sym, ap, subst, _∙_}
 use mathlib.Core.Bool.{Bool, true, false, cond, true≢false, not, _&&_, _||_}
 use mathlib.Core.List.{List, [], _∷_}
-use Prim.Native.Nat.{ℕ, zero, suc, _≤_, _<_}
+use Prim.Native.Nat.{ℕ, zero, suc, _-_, _≤_, _<_}
 use native.Mathlib.Omega.{arith}
 use borrow.Author.Tests.{lt-ltb, not-false}
 use lib.Dec.{ltb}
-use lib.IntN.{ℤ}
+use lib.IntN.{ℤ, pos}
 use lib.ListN.{length, getD}
 use lib.Signed.{ltZ}
 use lib.Ieee as Ieee
@@ -20,10 +20,10 @@ use Rattle.search.specs.Steps.{toward, risesFirst, PlaceOf}
 use Rattle.search.specs.declared.RoundingMethod.{RoundingMethod}
 use Rattle.search.specs.declared.RoundingMethod.the-variants.{Exact, Ceil, Floor, Round}
 use Rattle.search.proofs.Best.{best-none}
-use Rattle.search.proofs.Orders.{Order}
-use Rattle.search.proofs.WholeOrder.{whole-order, equal-self}
+use Rattle.search.proofs.Orders.{Order, between-toward}
+use Rattle.search.proofs.WholeOrder.{whole-order, whole-between, equal-self}
 use Rattle.search.proofs.Settles.{settles}
-use Rattle.search.proofs.Lists.{way, sorted, ordinary, searchable-one, searchable-is, searchable-own}
+use Rattle.search.proofs.Lists.{way, sorted, ordinary, searchable-one, searchable-is, searchable-own, ends}
 use Rattle.search.proofs.Halves.{place-any}
 
 -- ---- a list that can be searched, by the target's place in it
@@ -54,6 +54,12 @@ pub whole-searchable : (l : List ℤ) → searchable wholes l ≡ ascends (towar
 whole-searchable [] = searchable-is wholes whole-order [] (λ e. omega (arith, e))
 whole-searchable (x ∷ []) = searchable-one wholes whole-order (x ∷ []) x refl ∙ equal-self x
 whole-searchable (x ∷ (y ∷ ys)) = searchable-is wholes whole-order (x ∷ (y ∷ ys)) (λ e. omega (arith, e))
+
+-- what is admitted reaches from one number to another, so that the first and the last entry tell of all
+pub whole-ends : (l : List ℤ) → (length l ≡ 0 → ⊥) → searchable wholes l ≡ true → every wholeAdmitted l ≡ (wholeAdmitted (getD l 0 (pos 0)) && wholeAdmitted (getD l (length l - 1) (pos 0)))
+whole-ends l h s =
+    let r = risesFirst ltZ l in
+    ends (way wholes whole-order r) (pos 0) wholeAdmitted (between-toward r (whole-between 1_000_000_000)) l h (sym (whole-searchable l) ∙ s)
 
 module _ (l : List ℤ) (t : ℤ) (method : RoundingMethod) where
   pub whole-entry-refused : every wholeAdmitted l ≡ false → _≡_ {A = Answer ℕ} (refused 1) (wholeSearch l t method)

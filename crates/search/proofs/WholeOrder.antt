@@ -1,9 +1,11 @@
 -- Whole numbers are ordered. Assumes nothing.
 use mathlib.Core.Path.{_≡_, refl, sym, ap, subst, _∙_}
 use mathlib.Core.Bool.{Bool, true, false, true≢false, _&&_}
-use borrow.Author.Tests.{eqb-true, eqb-false}
-use lib.Dec.{eqb}
-use lib.IntN.{ℤ}
+use Prim.Native.Nat.{ℕ, suc, _≤_, _<_}
+use native.Mathlib.Omega.{arith}
+use borrow.Author.Tests.{eqb-true, eqb-false, ltb-true, leb-true, le-leb}
+use lib.Dec.{eqb, leb}
+use lib.IntN.{ℤ, pos, negsuc, natAbs}
 use mir.Facts.{toZ-ofZ}
 use mir.Syntax.{w32}
 use mir.Val.{SFits, toZ, ofZ}
@@ -11,7 +13,7 @@ use lib.Signed.{ltZ, leZ, ≤ℤ-refl, <ℤ-≤ℤ-trans, clashℤ}
 use Rattle.ranged1d.proofs.Whole.{not-lt, lt-not, other-way, both-ways}
 use Rattle.numeric.proofs.Signs.{yes-le, yes-lt, le-yes, lt-yes}
 use Rattle.search.specs.Search.{wholes}
-use Rattle.search.proofs.Orders.{Order}
+use Rattle.search.proofs.Orders.{Order, Between}
 
 abbrev pub eqZ : ℤ → ℤ → Bool
 eqZ x y = leZ x y && leZ y x
@@ -79,3 +81,10 @@ same-bits x y f g = go (eqb (ofZ w32 x) (ofZ w32 y)) refl
         let d : x ≡ y = sym (toZ-ofZ f) ∙ ap (toZ w32) (eqb-true (ofZ w32 x) (ofZ w32 y) e) ∙ toZ-ofZ g in
         e ∙ sym (subst (λ (z : ℤ). eqZ x z ≡ true) d (equal-self x))
     go false e = e ∙ sym (unequal-is x y (λ d. eqb-false (ofZ w32 x) (ofZ w32 y) e (ap (ofZ w32) d)))
+
+-- what lies between two that are admitted is admitted
+pub whole-between : (k : ℕ) → Between ltZ (λ z. leb (natAbs z) k)
+whole-between k x (pos n) (pos m) p q f g = le-leb n k (omega (arith, ltb-true n m q, leb-true m k g))
+whole-between k x (pos n) (negsuc m) p q f g = absurd (true≢false (sym q))
+whole-between k (negsuc m) (negsuc n) z p q f g = le-leb (suc n) k (omega (arith, ltb-true n m p, leb-true (suc m) k f))
+whole-between k (pos m) (negsuc n) z p q f g = absurd (true≢false (sym p))

@@ -1,5 +1,6 @@
 // The four searches, after the rounding methods of combinators/linspace.rs.
 ghost use mathlib.Core.Path.{_≡_};
+ghost use mathlib.Core.Bool.{_&&_};
 ghost use Rattle.numeric.specs.Whole.{tellIndex};
 ghost use Rattle.search.specs.Lists.{isExact};
 ghost use Rattle.search.specs.Settled.{ahead, behind, nearest, unequal, settledNan};
@@ -20,6 +21,13 @@ pub enum RoundingMethod {
     Ceil,
     Floor,
     Round,
+}
+
+// Whether both hold. A loop that keeps its verdict by this has no branch.
+fn both(x: bool, y: bool) -> bool
+    ensures { λ r. ⌜ r ≡ (x && y) ⌝ }
+{
+    if x { y } else { false }
 }
 
 // The entry behind those that come before the target, if there is one.

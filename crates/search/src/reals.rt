@@ -12,6 +12,7 @@ ghost use Rattle.search.specs.Search.{reals, search};
 ghost use Rattle.search.specs.Settled.{closer, settled};
 ghost use Rattle.search.specs.Steps.{toward, risesFirst, PlaceOf};
 use crate::RoundingMethod;
+use crate::both;
 use crate::settle;
 use crate::settle_nan;
 use numeric::Index;
@@ -33,18 +34,31 @@ fn rising(list: &[f64]) -> bool
     list[0] < list[1]
 }
 
-// Whether each entry comes before the next.
+// Whether each entry comes before the next. No pair is left out and none ends the loop, so that the compiler compares several at a time.
+fn in_line(rises: bool, list: &[f64]) -> bool
+    ensures { λ r. ⌜ r ≡ ascends (toward rises Ieee.lt) (now (list .entry)) ⌝ }
+{
+    let mut ok = true;
+    let mut k = 1;
+    while k < list.len() {
+        ok = both(ok, precedes(rises, list[k - 1], list[k]));
+        k += 1;
+    }
+    ok
+}
+
+// The same by runs of 256 pairs, each from the last entry of the one before: a long list that is out of order near its start is left there.
 fn ordered(rises: bool, list: &[f64]) -> bool
     ensures { λ r. ⌜ r ≡ ascends (toward rises Ieee.lt) (now (list .entry)) ⌝ }
 {
-    let mut k = 1;
-    while k < list.len() {
-        if !precedes(rises, list[k - 1], list[k]) {
+    let mut k = 0;
+    while 256 < list.len() - k {
+        if !in_line(rises, &list[k..k + 257]) {
             return false;
         }
-        k += 1;
+        k += 256;
     }
-    true
+    in_line(rises, &list[k..])
 }
 
 // How many entries come before t; the list is ordered, so that half of what is left is settled by the entry in its middle.

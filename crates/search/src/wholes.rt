@@ -8,11 +8,12 @@ ghost use lib.IntN.{pos};
 ghost use lib.Signed.{ltZ, leZ};
 ghost use Rattle.numeric.specs.Whole.{tellIndex};
 ghost use Rattle.ranged1d.specs.Admitted.{wholeAdmitted};
-ghost use Rattle.search.specs.Lists.{every, ascends, wholeSearch};
+ghost use Rattle.search.specs.Lists.{every, ascends, searchable, wholeSearch};
 ghost use Rattle.search.specs.Search.{wholes, search};
 ghost use Rattle.search.specs.Settled.{closer, settled};
 ghost use Rattle.search.specs.Steps.{toward, risesFirst, PlaceOf};
 use crate::RoundingMethod;
+use crate::both;
 use crate::settle;
 use numeric::Index;
 use ranged1d::Refusal;
@@ -33,18 +34,31 @@ fn rising(list: &[i32]) -> bool
     list[0] < list[1]
 }
 
-// Whether each entry comes before the next.
+// Whether each entry comes before the next. No pair is left out and none ends the loop, so that the compiler compares several at a time.
+fn in_line(rises: bool, list: &[i32]) -> bool
+    ensures { λ r. ⌜ r ≡ ascends (toward rises ltZ) (now (list .entry)) ⌝ }
+{
+    let mut ok = true;
+    let mut k = 1;
+    while k < list.len() {
+        ok = both(ok, precedes(rises, list[k - 1], list[k]));
+        k += 1;
+    }
+    ok
+}
+
+// The same by runs of 256 pairs, each from the last entry of the one before: a long list that is out of order near its start is left there.
 fn ordered(rises: bool, list: &[i32]) -> bool
     ensures { λ r. ⌜ r ≡ ascends (toward rises ltZ) (now (list .entry)) ⌝ }
 {
-    let mut k = 1;
-    while k < list.len() {
-        if !precedes(rises, list[k - 1], list[k]) {
+    let mut k = 0;
+    while 256 < list.len() - k {
+        if !in_line(rises, &list[k..k + 257]) {
             return false;
         }
-        k += 1;
+        k += 256;
     }
-    true
+    in_line(rises, &list[k..])
 }
 
 // How many entries come before t; the list is ordered, so that half of what is left is settled by the entry in its middle.
@@ -87,6 +101,21 @@ fn admitted(list: &[i32]) -> bool
         k += 1;
     }
     true
+}
+
+// The same of a list that can be searched, whose entries all lie between the first and the last.
+fn ends_admitted(list: &[i32]) -> bool
+    requires { ⌜ searchable wholes (now list) ≡ true ⌝ }
+    ensures { λ r. ⌜ r ≡ every wholeAdmitted (now (list .entry)) ⌝ }
+{
+    let n = list.len();
+    if n == 0 {
+        return true;
+    }
+    both(
+        ranged1d::whole_admitted(list[0]),
+        ranged1d::whole_admitted(list[n - 1]),
+    )
 }
 
 // Whether the entry behind the first i is the target.
@@ -155,15 +184,19 @@ fn find(rises: bool, list: &[i32], t: i32, method: RoundingMethod) -> Index
 pub fn search_whole(list: &[i32], target: i32, method: RoundingMethod) -> Index
     ensures { λ r. ⌜ tellIndex r ≡ wholeSearch (now (list .entry)) target method ⌝ }
 {
-    if !admitted(list) {
-        return Index::Refused(Refusal::WholeNotAdmitted);
-    }
     if !ranged1d::whole_admitted(target) {
         return Index::Refused(Refusal::WholeNotAdmitted);
     }
     let rises = rising(list);
     if !ordered(rises, list) {
+        // 1 comes before 8
+        if !admitted(list) {
+            return Index::Refused(Refusal::WholeNotAdmitted);
+        }
         return Index::Refused(Refusal::NotMonotone);
+    }
+    if !ends_admitted(list) {
+        return Index::Refused(Refusal::WholeNotAdmitted);
     }
     find(rises, list, target, method)
 }

@@ -1,20 +1,20 @@
--- `search::reals::ordered` meets its contract: the entries passed are in order. Assumes nothing.
-use mathlib.Core.Path.{_≡_, refl, sym, ap, _∙_}
+-- `search::reals::ordered` meets its contract: the list is in order where it is from entry k on. Assumes nothing.
+use mathlib.Core.Path.{_≡_, refl, sym, _∙_}
 use Prim.Native.Nat.{ℕ, _-_, _≤_}
 use native.Mathlib.Omega.{arith}
 use borrow.Author.Needs.{needs}
 use borrow.Author.Tests.{not-true, not-false}
 use denote.Ref.{now}
 use lib.ListN.{length, drop}
-use lib.Ieee.{lt, nan}
+use lib.Ieee.{lt}
 use Rattle.search.specs.Lists.{ascends}
 use Rattle.search.specs.Steps.{toward}
-use Rattle.search.proofs.Lists.{walk-on, walk-stop, walk-done}
+use Rattle.search.proofs.Lists.{run-on, run-stop, run-last}
 use Rattle.search.proofs.reals.ordered.Statement.{statement}
 use Rattle.search.proofs.reals.ordered.Tie as tie
 
 abbrev Inv-loop : tie.InvT-loop
-Inv-loop rises list k₀ k = (1 ≤ k) × (ascends (toward rises lt) list ≡ ascends (toward rises lt) (drop (k - 1) list))
+Inv-loop rises list k₀ k = (k ≤ length list) × (ascends (toward rises lt) list ≡ ascends (toward rises lt) (drop k list))
 
 abbrev μ-loop : tie.MeasureT-loop
 μ-loop rises list k₀ k = length list - k
@@ -22,31 +22,34 @@ abbrev μ-loop : tie.MeasureT-loop
 loop-holds : tie.Need-loop-holds Inv-loop μ-loop
 loop-holds c = (omega arith, refl)
 
-sub-precedes : tie.Need-sub-precedes Inv-loop μ-loop
-sub-precedes c = c .before .loop .inv .0
+sub-loop : tie.Need-sub-loop Inv-loop μ-loop
+sub-loop c = omega arith
 
-mul-precedes : tie.Need-mul-precedes Inv-loop μ-loop
-mul-precedes c = omega arith
+add-in-line : tie.Need-add-in-line Inv-loop μ-loop
+add-in-line c = omega arith
 
-shared-slice-read-precedes : tie.Need-shared-slice-read-precedes Inv-loop μ-loop
-shared-slice-read-precedes c = omega arith
+mul-in-line : tie.Need-mul-in-line Inv-loop μ-loop
+mul-in-line c = omega arith
 
-mul-precedes-2 : tie.Need-mul-precedes-2 Inv-loop μ-loop
-mul-precedes-2 c = omega arith
+sub-in-line : tie.Need-sub-in-line Inv-loop μ-loop
+sub-in-line c = omega arith
 
-shared-slice-read-precedes-2 : tie.Need-shared-slice-read-precedes-2 Inv-loop μ-loop
-shared-slice-read-precedes-2 c = omega arith
+part-in-line-start : tie.Need-part-in-line-start Inv-loop μ-loop
+part-in-line-start c = omega arith
 
-precedes-requires : tie.Need-precedes-requires Inv-loop μ-loop
-precedes-requires c κs = search needs
+part-in-line-end : tie.Need-part-in-line-end Inv-loop μ-loop
+part-in-line-end c = omega arith
+
+in-line-requires : tie.Need-in-line-requires Inv-loop μ-loop
+in-line-requires c κs = search needs
 
 returns : tie.Need-returns Inv-loop μ-loop
 returns c =
     let called = c .before in
-    let test = called .before .before .before in
+    let test = called .before .before in
     let looped = test .before in
     let s = looped .before .before in
-    sym (looped .loop .inv .1 ∙ walk-stop (toward (s .args .rises) lt) nan (now (s .args .list)) (looped .loop .k) (looped .loop .inv .0) (test .loop-test .taken) (sym (called .precedes .ensures) ∙ not-true _ (c .if1 .taken)))
+    sym (run-stop (toward (s .args .rises) lt) (now (s .args .list)) 256 (looped .loop .k) (test .loop-test .taken) (looped .loop .inv .1) (sym (called .in-line .ensures) ∙ not-true _ (c .if1 .taken)))
 
 add-k : tie.Need-add-k Inv-loop μ-loop
 add-k c = omega arith
@@ -57,16 +60,31 @@ loop-less c = omega arith
 loop-again : tie.Need-loop-again Inv-loop μ-loop
 loop-again c =
     let called = c .before in
-    let test = called .before .before .before in
+    let test = called .before .before in
     let looped = test .before in
     let s = looped .before .before in
-    (omega arith, looped .loop .inv .1 ∙ walk-on (toward (s .args .rises) lt) nan (now (s .args .list)) (looped .loop .k) (looped .loop .inv .0) (test .loop-test .taken) (sym (called .precedes .ensures) ∙ not-false _ (c .if1 .left)))
+    (omega arith, run-on (toward (s .args .rises) lt) (now (s .args .list)) 256 (looped .loop .k) (test .loop-test .taken) (looped .loop .inv .1) (sym (called .in-line .ensures) ∙ not-false _ (c .if1 .left)))
+
+mul-in-line-2 : tie.Need-mul-in-line-2 Inv-loop μ-loop
+mul-in-line-2 c = omega arith
+
+sub-in-line-2 : tie.Need-sub-in-line-2 Inv-loop μ-loop
+sub-in-line-2 c = omega arith
+
+part-in-line-start-2 : tie.Need-part-in-line-start-2 Inv-loop μ-loop
+part-in-line-start-2 c = omega arith
+
+part-in-line-end-2 : tie.Need-part-in-line-end-2 Inv-loop μ-loop
+part-in-line-end-2 c = omega arith
+
+in-line-requires-2 : tie.Need-in-line-requires-2 Inv-loop μ-loop
+in-line-requires-2 c κs = search needs
 
 returns-2 : tie.Need-returns-2 Inv-loop μ-loop
 returns-2 c =
-    let looped = c .before in
+    let looped = c .before .before .before in
     let s = looped .before .before in
-    sym (looped .loop .inv .1 ∙ walk-done (toward (s .args .rises) lt) nan (now (s .args .list)) (looped .loop .k) (looped .loop .inv .0) (c .loop-test .left))
+    c .in-line2 .ensures ∙ run-last (toward (s .args .rises) lt) (now (s .args .list)) (looped .loop .k) (looped .loop .inv .1)
 
 pub ordered-spec : {M : Type 1} → statement M
 ordered-spec =
@@ -75,14 +93,20 @@ ordered-spec =
     Inv-loop
     μ-loop
     loop-holds
-    sub-precedes
-    mul-precedes
-    shared-slice-read-precedes
-    mul-precedes-2
-    shared-slice-read-precedes-2
-    precedes-requires
+    sub-loop
+    add-in-line
+    mul-in-line
+    sub-in-line
+    part-in-line-start
+    part-in-line-end
+    in-line-requires
     returns
     add-k
     loop-less
     loop-again
+    mul-in-line-2
+    sub-in-line-2
+    part-in-line-start-2
+    part-in-line-end-2
+    in-line-requires-2
     returns-2)
