@@ -8,7 +8,7 @@ use native.Mathlib.Nat.{mul-one}
 use native.Mathlib.Omega.{arith}
 use borrow.Author.Tests.{ltb-false}
 use lib.IntN.{ℤ}
-use lib.ListN.{length, drop}
+use lib.ListN.{length, drop, getD}
 use lib.Ieee.{Float, lt}
 use Rattle.ranged1d.specs.Answer.{Answer, given, none, refused}
 use Rattle.ranged1d.specs.Admitted.{pixelAdmitted, limitAdmitted}
@@ -16,11 +16,11 @@ use Rattle.ranged1d.specs.declared.Limit.{Limit}
 use Rattle.real.specs.Place.{realPlace}
 use Rattle.discrete.specs.Index.{pixelIndex}
 use Rattle.numeric.specs.Marks.{listOf}
-use Rattle.numeric.proofs.Lists.{list-ext}
+use Rattle.numeric.proofs.Lists.{entry, list-ext}
 use Rattle.linspace.specs.List.{real, toward, stepped, against}
-use Rattle.linspace.specs.Calls.{hasEntries, nthOf, stepSize, stepFromIndex, stepValues, stepPlace, stepReading}
+use Rattle.linspace.specs.Calls.{hasEntries, nth, nthOf, stepSize, stepFromIndex, stepValues, stepPlace, stepReading}
 use Rattle.linspace.specs.RealSteps.{plusStep, after}
-use Rattle.linspace.proofs.Walks.{entries-are}
+use Rattle.linspace.proofs.Walks.{nth-is, nth-past, entries-are}
 use Rattle.linspace.proofs.Axis.{stepped-run, stepped-empty}
 use Rattle.linspace.proofs.Rules as rules
 use Rattle.linspace.proofs.Rules.{onceListed, placeListed}
@@ -50,6 +50,21 @@ module _ (a b d : Float) where
   sized e =
       let k = rules.counted real a b d (counts-are ∙ e) in
       record { onward = k .onward; all = sym (k .size); few = omega (arith, ltb-false 65536 (length l) (k .short), k .size) }
+
+  -- ---- an entry of a list that was counted
+  module _ {n : ℕ} (e : stepSize real a b d ≡ given n) (k : ℕ) where
+    from-counted : nth l k ≡ stepFromIndex real a b d k
+    from-counted = sym (ap (λ (s : Answer ℕ). onceListed s (nthOf l (given k))) (counts-are ∙ e)) ∙ rules.from-is real a b d refl k
+
+    pub entry-of : k < n → given (after (plusStep d) k a) ≡ stepFromIndex real a b d k
+    entry-of h =
+        let i : k < length l = omega (arith, h, sized e .all) in
+        ap given (sym (ap (λ (z : List Float). getD z k a) stepped-are ∙ entry (λ j. after (plusStep d) j a) a (length l) k i))
+        ∙ sym (nth-is l k a i)
+        ∙ from-counted
+
+    pub entry-beyond : n ≤ k → _≡_ {A = Answer Float} none (stepFromIndex real a b d k)
+    entry-beyond h = sym (nth-past l k (omega (arith, h, sized e .all))) ∙ from-counted
 
   -- ---- `values`
   module _ (old : List Float) where

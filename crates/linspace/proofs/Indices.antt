@@ -47,7 +47,7 @@ neither : (x y : Float) → le x y ≡ false → (lt x y ≡ false) × (eq x y �
 unfolding le
 neither x y h = (or-left (lt x y) (eq x y) h, or-right (lt x y) (eq x y) h)
 
--- a sum that is a number has only numbers
+-- a sum that is a number is one of numbers
 itself : (s : Bool) (m : ℕ) (e : ℤ) → eq (fin s m e) (fin s m e) ≡ true
 unfolding isNan
 itself s m e = eq-self (fin s m e) tt
@@ -61,8 +61,15 @@ summand x (inf true) h = refl
 summand x (inf false) h = refl
 summand x (fin s m e) h = itself s m e
 
+pub augend : (x d : Float) → eq (add binary64 x d) (add binary64 x d) ≡ true → eq x x ≡ true
+unfolding add eq
+augend nan d h = h
+augend (inf true) d h = refl
+augend (inf false) d h = refl
+augend (fin s m e) d h = itself s m e
+
 module _ (a b d : Float) where
-  onward : against real a b d ≡ false → hasEntries (stepped real a b d) ≡ true → search-steps.toward (lt a b) lt (zeroOf false) d ≡ true
+  pub onward : against real a b d ≡ false → hasEntries (stepped real a b d) ≡ true → search-steps.toward (lt a b) lt (zeroOf false) d ≡ true
   onward e s = go (lt a b) refl (lt b a) refl
     where
       go : (t : Bool) → lt a b ≡ t → (u : Bool) → lt b a ≡ u → search-steps.toward t lt (zeroOf false) d ≡ true

@@ -5,11 +5,13 @@ pub mod WholeList
 pub mod WholeFind
 pub mod WholeRules
 pub mod Walks
+pub mod Runs
 pub mod Axis
 pub mod Counts
 pub mod RealSums
 pub mod RealList
 pub mod Indices
+pub mod Ahead
 pub mod RealMarks
 pub mod Turned
 pub mod Mirror

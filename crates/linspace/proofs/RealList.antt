@@ -62,10 +62,10 @@ module _ {A : Type 0} (passes : A → Bool) (next : A → A) (Same : A → A →
 
 -- ---- real numbers
 module _ (rises : Bool) (b d : Float) where
-  abbrev p : Float → Bool
+  abbrev pub p : Float → Bool
   p = toward real rises b
 
-  abbrev w : Order Float (search-steps.toward rises lt) eq
+  abbrev pub w : Order Float (search-steps.toward rises lt) eq
   w = way reals real-order rises
 
   alike-passes : (x y : Float) → Alike x y → p x ≡ true → p y ≡ true
@@ -77,7 +77,7 @@ module _ (rises : Bool) (b d : Float) where
   abbrev pub Onward : Type 0
   Onward = search-steps.toward rises lt (zeroOf false) d ≡ true
 
-  never-behind : (x : Float) → T (fits binary64 x) → Onward → search-steps.toward rises lt (plusStep d x) x ≡ false
+  pub never-behind : (x : Float) → T (fits binary64 x) → Onward → search-steps.toward rises lt (plusStep d x) x ≡ false
   never-behind x f o = go rises o
     where
       go : (r : Bool) → search-steps.toward r lt (zeroOf false) d ≡ true → search-steps.toward r lt (plusStep d x) x ≡ false

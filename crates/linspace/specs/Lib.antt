@@ -4,3 +4,4 @@ pub mod Mirror
 pub mod Worked
 pub mod WholeSteps
 pub mod RealSteps
+pub mod Walks

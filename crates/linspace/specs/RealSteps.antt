@@ -1,8 +1,10 @@
 -- What the walks along a real stepped axis find, for the promises of private functions. Assumes nothing.
-use Prim.Native.Nat.{ℕ, zero, suc, _+_, _-_, _≤_, _<_}
+use Prim.Native.Nat.{ℕ, zero, suc, _+_, _-_, _*_, _≤_, _<_}
 use mathlib.Core.Path.{_≡_}
 use mathlib.Core.Bool.{Bool, true, false}
+use mathlib.Core.List.{List, _++_}
 use lib.ListN.{length}
+use Rattle.numeric.specs.Marks.{listOf}
 use lib.Ieee as Ieee
 use lib.Ieee.{Float, binary64}
 use Rattle.linspace.specs.List.{entries}
@@ -15,6 +17,19 @@ plusStep d x = Ieee.add binary64 x d
 unfoldable pub after : {A : Type 0} → (A → A) → ℕ → A → A
 after next zero x = x
 after next (suc k) x = next (after next k x)
+
+-- the sums after h, 2 h and 3 h steps from a on
+pub record Passed {A : Type 0} (next : A → A) (a : A) (h : ℕ) (x1 x2 x3 : A) : Type 0 where
+  pub one : x1 ≡ after next h a
+  pub two : x2 ≡ after next (2 * h) a
+  pub three : x3 ≡ after next (3 * h) a
+
+-- g entries from x on, so many steps apart, and then the list l; and four such runs
+abbrev pub oneRun : {A : Type 0} → (A → A) → ℕ → ℕ → A → List A → List A
+oneRun next by g x l = listOf (λ k. after next (k * by) x) g ++ l
+
+abbrev pub fourRuns : {A : Type 0} → (A → A) → ℕ → ℕ → A → A → A → A → List A → List A
+fourRuns next by g x0 x1 x2 x3 l = oneRun next by g x0 (oneRun next by g x1 (oneRun next by g x2 (oneRun next by g x3 l)))
 
 module _ {A : Type 0} (passes : A → Bool) (next : A → A) (most : ℕ) (a : A) where
   -- a walk along the list stands at x after n entries

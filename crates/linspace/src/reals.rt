@@ -2,18 +2,19 @@
 ghost use mathlib.Core.Path.{_≡_};
 ghost use mathlib.Core.Bool.{true, false, _&&_};
 ghost use lib.Dec.{eqb};
-ghost use mathlib.Core.List.{_++_};
-ghost use Prim.Native.Nat.{_+_, _-_, _*_, _≤_};
-ghost use lib.ListN.{length, drop};
+ghost use Prim.Native.Nat.{_+_, _-_, _≤_};
+ghost use lib.ListN.{length};
+ghost use Rattle.ranged1d.specs.Answer.{given};
 ghost use Rattle.numeric.specs.Whole.{tellCount, tellIndex};
-ghost use Rattle.numeric.specs.Marks.{listOf};
 ghost use Rattle.real.specs.Place.{tellPlace};
 ghost use Rattle.real.specs.Reading.{tellReading};
 ghost use Rattle.linspace.specs.List.{real, entries, stepped, against, toward};
 ghost use Rattle.linspace.specs.Calls.{tellListed, hasEntries, stepValues, stepSize, stepFromIndex, stepIndexOf, stepPlace, stepReading, stepKeyPoints};
-ghost use Rattle.linspace.specs.RealSteps.{plusStep, after, Reached, Parted};
+ghost use Rattle.linspace.specs.RealSteps.{plusStep, after, Passed, Reached, Parted};
+ghost use Rattle.linspace.specs.Walks.{tellWalk, PassedBy};
 use crate::Linspacef64;
 use crate::Listed;
+use crate::lanes::put_all;
 use discrete::PixelIndex;
 use numeric::Count;
 use numeric::Index;
@@ -26,10 +27,24 @@ use ranged1d::Refusal;
 use search::RoundingMethod;
 
 // The ends and the step by themselves.
-struct Steps {
-    a: f64,
-    b: f64,
-    d: f64,
+pub(crate) struct Steps {
+    pub(crate) a: f64,
+    pub(crate) b: f64,
+    pub(crate) d: f64,
+}
+
+// How many entries there are, and the sums after h, 2 h and 3 h steps, which were passed on the way.
+pub(crate) struct Kept {
+    pub(crate) n: usize,
+    pub(crate) x1: f64,
+    pub(crate) x2: f64,
+    pub(crate) x3: f64,
+}
+
+// A walk along the list, or why the list is refused.
+enum Walk {
+    Of(Kept),
+    Refused(Refusal),
 }
 
 // An entry, or the sum behind the last one, and its index.
@@ -148,7 +163,7 @@ fn approach(rises: bool, s: Steps, t: f64) -> Sides
 }
 
 // The sum after k further steps.
-fn advance(x: f64, d: f64, k: usize) -> f64
+pub(crate) fn advance(x: f64, d: f64, k: usize) -> f64
     ensures { λ r. ⌜ r ≡ after (plusStep d) k x ⌝ }
 {
     let mut y = x;
@@ -160,43 +175,74 @@ fn advance(x: f64, d: f64, k: usize) -> f64
     y
 }
 
-// n entries, `by` apart, from a on, written to the start of out.
-fn put_entries(out: &mut [f64], s: Steps, by: usize, n: usize)
-    requires { ⌜ n ≤ length (now out) ⌝ }
-    ensures { λ _. ⌜ now (out .exit) ≡ listOf (λ k. after (plusStep (s .d)) (k * by) (s .a)) n ++ drop n (now (out .entry)) ⌝ }
+// A quarter of the number of entries, by a division that may be a few entries off; 0 of a list that is short, or too long.
+fn quarter(s: Steps) -> usize
+    ensures { λ r. ⌜ r ≤ 16384 ⌝ }
 {
-    let d = s.d;
-    let mut x = s.a;
-    let mut k = 0;
-    while k < n {
-        out[k] = x;
-        x = advance(x, d, by);
-        k += 1;
+    let k = rounding::to_u64((s.b - s.a) / s.d) / 4;
+    if k < 8 {
+        return 0;
     }
+    if 16384 < k {
+        return 0;
+    }
+    k as usize
 }
 
-// The number of entries, 65,537 where there are more.
-fn count(s: Steps) -> usize
+// The number of entries, 65,537 where there are more. Where x, the sum after k steps, comes before b, so do all sums before it.
+fn count(s: Steps, x: f64, k: usize) -> usize
+    requires { ⌜ against real (s .a) (s .b) (s .d) ≡ false ⌝ }
+    requires { ⌜ k ≤ 65537 ⌝ }
+    requires { ⌜ x ≡ after (plusStep (s .d)) k (s .a) ⌝ }
     ensures { λ r. ⌜ r ≡ length (stepped real (s .a) (s .b) (s .d)) ⌝ }
 {
-    if has_entries(s) {
-        return count_on(s.a < s.b, s, s.a, 0);
+    if !has_entries(s) {
+        return 0;
     }
-    0
+    let rises = s.a < s.b;
+    if precedes(rises, x, s.b) {
+        return count_on(rises, s, x, k);
+    }
+    count_on(rises, s, s.a, 0)
+}
+
+// Walks along the list, without a test until 3 h steps are taken.
+fn keep_sums(s: Steps, h: usize) -> Kept
+    requires { ⌜ against real (s .a) (s .b) (s .d) ≡ false ⌝ }
+    requires { ⌜ h ≤ 16384 ⌝ }
+    ensures { λ r. ⌜ (r .n ≡ length (stepped real (s .a) (s .b) (s .d))) × Passed (plusStep (s .d)) (s .a) h (r .x1) (r .x2) (r .x3) ⌝ }
+{
+    let d = s.d;
+    let x1 = advance(s.a, d, h);
+    let x2 = advance(x1, d, h);
+    let x3 = advance(x2, d, h);
+    let n = count(s, x3, 3 * h);
+    Kept { n, x1, x2, x3 }
+}
+
+// The one walk that a call makes, unless the list is refused.
+fn walk_along(s: Steps, h: usize) -> Walk
+    requires { ⌜ h ≤ 16384 ⌝ }
+    ensures { λ r. ⌜ (tellWalk r ≡ stepSize real (s .a) (s .b) (s .d)) × PassedBy (plusStep (s .d)) (s .a) h r ⌝ }
+{
+    if leads_away(s) {
+        return Walk::Refused(Refusal::StepAgainstAxis);
+    }
+    let w = keep_sums(s, h);
+    if 65536 < w.n {
+        return Walk::Refused(Refusal::ListTooLong);
+    }
+    Walk::Of(w)
 }
 
 // The number of entries, or why the list is refused.
 fn counted(s: Steps) -> Count
     ensures { λ r. ⌜ tellCount r ≡ stepSize real (s .a) (s .b) (s .d) ⌝ }
 {
-    if leads_away(s) {
-        return Count::Refused(Refusal::StepAgainstAxis);
+    match walk_along(s, quarter(s)) {
+        Walk::Refused(r) => Count::Refused(r),
+        Walk::Of(w) => Count::Of(w.n as u64),
     }
-    let n = count(s);
-    if 65536 < n {
-        return Count::Refused(Refusal::ListTooLong);
-    }
-    Count::Of(n as u64)
 }
 
 // Entry k, the list being walked once.
@@ -258,14 +304,33 @@ fn no_step(s: Steps, m: u32) -> bool
     false
 }
 
-// The entries at the marks of the indices of a list of n.
-fn put_marks(s: Steps, n: usize, m: u32, out: &mut [f64]) -> Listed
+// A quarter of the list, cut to a multiple of the step that its marks are likely to have.
+fn mark_quarter(s: Steps, m: u32) -> usize
+    ensures { λ r. ⌜ r ≤ 16384 ⌝ }
+{
+    let h = quarter(s);
+    match RangedCoordi32(0, (4 * h) as i32).plan(m) {
+        Planned::Refused(_) => 0,
+        Planned::Points(p) => {
+            let by = ranged1d::unsigned_abs(p.step) as usize;
+            if by == 0 {
+                return 0;
+            }
+            h - h % by
+        }
+    }
+}
+
+// The entries at the marks of the indices.
+fn put_marks(s: Steps, w: Kept, h: usize, m: u32, out: &mut [f64]) -> Listed
+    requires { ⌜ Passed (plusStep (s .d)) (s .a) h (w .x1) (w .x2) (w .x3) ⌝ }
     requires { ⌜ against real (s .a) (s .b) (s .d) ≡ false ⌝ }
-    requires { ⌜ n ≡ length (stepped real (s .a) (s .b) (s .d)) ⌝ }
-    requires { ⌜ n ≤ 65536 ⌝ }
+    requires { ⌜ w .n ≡ length (stepped real (s .a) (s .b) (s .d)) ⌝ }
+    requires { ⌜ w .n ≤ 65536 ⌝ }
     requires { ⌜ (eqb m 0 && hasEntries (stepped real (s .a) (s .b) (s .d))) ≡ false ⌝ }
     ensures { λ r. ⌜ (tellListed r, now (out .exit)) ≡ stepKeyPoints real (s .a) (s .b) (s .d) m (now (out .entry)) ⌝ }
 {
+    let n = w.n;
     if n == 0 {
         return Listed::Written(0);
     }
@@ -276,10 +341,43 @@ fn put_marks(s: Steps, n: usize, m: u32, out: &mut [f64]) -> Listed
             if out.len() < size {
                 return Listed::Refused(Refusal::OutTooShort);
             }
-            put_entries(out, s, p.step as usize, size);
+            put_all(out, s, w, h, p.step as usize, size);
             Listed::Written(size)
         }
     }
+}
+
+// The last of the kept sums that is not behind entry k, and its index.
+fn nearest_kept(s: Steps, w: Kept, h: usize, k: usize) -> Spot
+    requires { ⌜ Passed (plusStep (s .d)) (s .a) h (w .x1) (w .x2) (w .x3) ⌝ }
+    requires { ⌜ h ≤ 16384 ⌝ }
+    ensures { λ r. ⌜ (r .n ≤ k) × (r .x ≡ after (plusStep (s .d)) (r .n) (s .a)) ⌝ }
+{
+    if 3 * h <= k {
+        return Spot { n: 3 * h, x: w.x3 };
+    }
+    if 2 * h <= k {
+        return Spot { n: 2 * h, x: w.x2 };
+    }
+    if h <= k {
+        return Spot { n: h, x: w.x1 };
+    }
+    Spot { n: 0, x: s.a }
+}
+
+// Entry k of a list that was walked.
+fn entry_kept(s: Steps, w: Kept, h: usize, k: u64) -> RealReading
+    requires { ⌜ Passed (plusStep (s .d)) (s .a) h (w .x1) (w .x2) (w .x3) ⌝ }
+    requires { ⌜ h ≤ 16384 ⌝ }
+    requires { ⌜ stepSize real (s .a) (s .b) (s .d) ≡ given (w .n) ⌝ }
+    ensures { λ r. ⌜ tellReading r ≡ stepFromIndex real (s .a) (s .b) (s .d) k ⌝ }
+{
+    if k < w.n as u64 {
+        let i = k as usize;
+        let y = nearest_kept(s, w, h, i);
+        return RealReading::At(advance(y.x, s.d, i - y.n));
+    }
+    RealReading::Nothing
 }
 
 impl Linspacef64 {
@@ -299,14 +397,15 @@ impl Linspacef64 {
         ensures { λ r. ⌜ (tellListed r, now (out .exit)) ≡ stepValues real (self .inner .0) (self .inner .1) (self .step) (now (out .entry)) ⌝ }
     {
         let s = self.steps();
-        match counted(s) {
-            Count::Refused(r) => Listed::Refused(r),
-            Count::Of(n) => {
-                let size = n as usize;
+        let h = quarter(s);
+        match walk_along(s, h) {
+            Walk::Refused(r) => Listed::Refused(r),
+            Walk::Of(w) => {
+                let size = w.n;
                 if out.len() < size {
                     return Listed::Refused(Refusal::ListTooLong);
                 }
-                put_entries(out, s, 1, size);
+                put_all(out, s, w, h, 1, size);
                 Listed::Written(size)
             }
         }
@@ -364,12 +463,13 @@ impl Linspacef64 {
             return RealReading::Refused(Refusal::LimitNotAdmitted);
         }
         let s = self.steps();
-        match counted(s) {
-            Count::Refused(r) => RealReading::Refused(r),
-            Count::Of(n) => match discrete::pixel_index(x, limit, n as u32) {
+        let h = quarter(s);
+        match walk_along(s, h) {
+            Walk::Refused(r) => RealReading::Refused(r),
+            Walk::Of(w) => match discrete::pixel_index(x, limit, w.n as u32) {
                 PixelIndex::Refused(r) => RealReading::Refused(r),
                 PixelIndex::Nothing => RealReading::Nothing,
-                PixelIndex::At(k) => entry_at(s, k),
+                PixelIndex::At(k) => entry_kept(s, w, h, k),
             },
         }
     }
@@ -382,9 +482,10 @@ impl Linspacef64 {
         if no_step(s, m) {
             return Listed::Refused(Refusal::NoStep);
         }
-        match counted(s) {
-            Count::Refused(r) => Listed::Refused(r),
-            Count::Of(n) => put_marks(s, n as usize, m, out),
+        let h = mark_quarter(s, m);
+        match walk_along(s, h) {
+            Walk::Refused(r) => Listed::Refused(r),
+            Walk::Of(w) => put_marks(s, w, h, m, out),
         }
     }
 }

@@ -4,7 +4,7 @@ ghost use mathlib.Core.Bool.{true, false, _&&_};
 ghost use mathlib.Core.List.{[], _∷_, _++_};
 ghost use Prim.Native.Nat.{ℕ, suc, _+_, _*_, _<_, _≤_};
 ghost use lib.Dec.{eqb};
-ghost use lib.IntN.{pos};
+ghost use lib.IntN.{pos, natAbs};
 ghost use lib.ListN.{length, drop, getD};
 ghost use Rattle.ranged1d.specs.Admitted.{wholeAdmitted};
 ghost use Rattle.ranged1d.specs.Answer.{given, _when_, lowest};
@@ -215,6 +215,22 @@ fn put_entries(out: &mut [i32], s: Steps, first: u32, by: u32, n: usize)
     }
 }
 
+// The n entries, written to the start of out, each from the one before it. The sum behind the last is at most 2,000,000,000 in size.
+fn put_list(out: &mut [i32], a: i32, d: i32, n: usize)
+    requires { ⌜ n ≤ length (now out) ⌝ }
+    requires { ⌜ natAbs d ≤ 1000000000 ⌝ }
+    requires { ⌜ ((k : ℕ) → k < n → natAbs (element a d k) ≤ 1000000000) ⌝ }
+    ensures { λ _. ⌜ now (out .exit) ≡ listOf (element a d) n ++ drop n (now (out .entry)) ⌝ }
+{
+    let mut x = a;
+    let mut k = 0;
+    while k < n {
+        out[k] = x;
+        x = x + d;
+        k += 1;
+    }
+}
+
 // The entries at the marks of 0..n − 1. Their plan is not refused: m is not 0, and the indices are few.
 fn put_marks(s: Steps, n: u32, m: u32, out: &mut [i32]) -> Listed
     requires { ⌜ Known (s .a) (s .b) (s .d) n ⌝ }
@@ -278,7 +294,7 @@ impl Linspacei32 {
                 if out.len() < size {
                     return Listed::Refused(Refusal::ListTooLong);
                 }
-                put_entries(out, s, 0, 1, size);
+                put_list(out, s.a, s.d, size);
                 Listed::Written(size)
             }
         }

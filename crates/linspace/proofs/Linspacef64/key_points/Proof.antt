@@ -1,11 +1,12 @@
 -- `linspace::Linspacef64::key_points` meets its contract. Assumes nothing.
-use mathlib.Core.Path.{_≡_, sym, ap, _∙_}
+use mathlib.Core.Path.{_≡_, sym, ap, subst, _∙_}
 use mathlib.Core.Bool.{false, _&&_}
 use lib.Dec.{eqb}
-use Rattle.ranged1d.specs.Answer.{given}
-use Rattle.numeric.specs.Whole.{tellCount}
 use Rattle.linspace.specs.List.{real, stepped}
-use Rattle.linspace.specs.Calls.{stepKeyPoints, hasEntries}
+use Rattle.linspace.specs.Calls.{stepSize, stepKeyPoints, hasEntries}
+use Rattle.linspace.specs.RealSteps.{plusStep}
+use Rattle.linspace.specs.Walks.{tellWalk, PassedBy}
+use Rattle.linspace.specs.declared.reals.Walk.{Walk}
 use Rattle.linspace.proofs.Axis.{same-axis}
 use Rattle.linspace.proofs.Counts.{sized}
 use Rattle.linspace.proofs.RealMarks.{points-none, points-refused}
@@ -19,9 +20,15 @@ module _ (c : tie.After-steps) where
       ≡ stepKeyPoints real (c .before .before .args .self .inner .0) (c .before .before .args .self .inner .1) (c .before .before .args .self .step) (c .before .before .args .m) (c .before .before .args .out .now)
   told = same-axis (λ a b d. stepKeyPoints real a b d (c .before .before .args .m) (c .before .before .args .out .now)) (c .steps .ensures)
 
-module _ (c : tie.After-counted) where
-  allowed : let r = c .before .before .before .steps .result in (eqb (c .before .before .before .before .before .args .m) 0 && hasEntries (stepped real (r .a) (r .b) (r .d))) ≡ false
-  allowed = sym (c .before .before .no-step .ensures) ∙ c .before .if1 .left
+module _ (c : tie.After-walk-along) where
+  abbrev at : tie.After-steps
+  at = c .before .before .before .before
+
+  allowed : let r = at .steps .result in (eqb (at .before .before .args .m) 0 && hasEntries (stepped real (r .a) (r .b) (r .d))) ≡ false
+  allowed = let no = c .before .before in sym (no .before .no-step .ensures) ∙ no .if1 .left
+
+  size-is : let r = at .steps .result in stepSize real (r .a) (r .b) (r .d) ≡ tellWalk (c .walk-along .result)
+  size-is = sym (c .walk-along .ensures .0)
 
 steps-requires : tie.Need-steps-requires
 steps-requires c κs = search needs
@@ -36,32 +43,34 @@ returns c =
     let r = at .steps .result in
     sym (points-none (r .a) (r .b) (r .d) (s .m) (s .out .now) (sym (c .before .no-step .ensures) ∙ c .if1 .taken)) ∙ told at
 
-counted-requires : tie.Need-counted-requires
-counted-requires c κs = search needs
+mark-quarter-requires : tie.Need-mark-quarter-requires
+mark-quarter-requires c κs = search needs
+
+walk-along-requires : tie.Need-walk-along-requires
+walk-along-requires c κs = search needs
 
 enum-known-r : tie.Need-enum-known-r
 enum-known-r c = search needs
 
-enum-known-n : tie.Need-enum-known-n
-enum-known-n c = search needs
+enum-known-w : tie.Need-enum-known-w
+enum-known-w c = search needs
 
 put-marks-requires : tie.Need-put-marks-requires
 put-marks-requires c κs =
     let arm = c .before .before in
-    let counted = arm .before .before in
-    let at = counted .before .before .before in
-    let r = at .steps .result in
-    let size = sized (r .a) (r .b) (r .d) (sym (counted .counted .ensures) ∙ ap tellCount (arm .n .given .1)) in
-    (size .onward, (size .all, (size .few, allowed counted)))
+    let along = arm .before .before in
+    let r = at along .steps .result in
+    let size = sized (r .a) (r .b) (r .d) (size-is along ∙ ap tellWalk (arm .w .given .1)) in
+    let kept = subst (λ (w : Walk). PassedBy (plusStep (r .d)) (r .a) (along .before .mark-quarter .result) w) (arm .w .given .1) (along .walk-along .ensures .1) in
+    (kept, (size .onward, (size .all, (size .few, allowed along))))
 
 returns-2 : tie.Need-returns-2
 returns-2 c =
     let arm = c .before in
-    let counted = arm .before .before in
-    let at = counted .before .before .before in
-    let s = at .before .before .args in
-    let r = at .steps .result in
-    sym (points-refused (r .a) (r .b) (r .d) (s .m) (s .out .now) (allowed counted) (sym (counted .counted .ensures) ∙ ap tellCount (arm .r .given .1))) ∙ told at
+    let along = arm .before .before in
+    let s = at along .before .before .args in
+    let r = at along .steps .result in
+    sym (points-refused (r .a) (r .b) (r .d) (s .m) (s .out .now) (allowed along) (size-is along ∙ ap tellWalk (arm .r .given .1))) ∙ told (at along)
 
 same-length : tie.Need-same-length
 same-length c = search needs
@@ -69,7 +78,7 @@ same-length c = search needs
 returns-3 : tie.Need-returns-3
 returns-3 c =
     let put = c .before .before in
-    put .put-marks .ensures ∙ told (put .before .before .before .before .before .before .before .before)
+    put .put-marks .ensures ∙ told (at (put .before .before .before .before .before))
 
 pub key-points-spec : {M : Type 1} → statement M
 key-points-spec =
@@ -78,9 +87,10 @@ key-points-spec =
     steps-requires
     no-step-requires
     returns
-    counted-requires
+    mark-quarter-requires
+    walk-along-requires
     enum-known-r
-    enum-known-n
+    enum-known-w
     put-marks-requires
     returns-2
     same-length

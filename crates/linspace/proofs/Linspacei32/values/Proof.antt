@@ -2,21 +2,20 @@
 use mathlib.Core.Path.{_≡_, sym, ap, _∙_}
 use mathlib.Core.Bool.{true}
 use mathlib.Core.List.{List, _++_}
-use Prim.Native.Nat.{ℕ, _+_, _*_}
-use native.Mathlib.Omega.{arith}
 use borrow.Author.Tests.{not-true, not-false}
 use borrow.Author.Needs.{needs}
 use lib.IntN.{ℤ}
 use lib.ListN.{drop}
+use mir.Facts.{toZ-ofZ}
+use mir.Syntax.{w32}
+use mir.Val.{toZ, ofZ}
 use Rattle.ranged1d.specs.Answer.{given}
 use Rattle.numeric.specs.Whole.{tellCount}
 use Rattle.numeric.specs.declared.whole.Count.{Count}
-use Rattle.numeric.specs.Calls.{element}
-use Rattle.numeric.proofs.Lists.{list-ext}
 use Rattle.linspace.specs.List.{whole, axisAdmitted}
 use Rattle.linspace.specs.WholeSteps.{Known}
 use Rattle.linspace.proofs.Rules.{counts, values-refused, values-stopped, values-short, values-written}
-use Rattle.linspace.proofs.WholeList.{list-is, lies}
+use Rattle.linspace.proofs.WholeList.{admitted-near, list-is, lies}
 use Rattle.linspace.proofs.WholeRules.{known-of}
 use Rattle.linspace.proofs.Linspacei32.values.Statement.{statement}
 use Rattle.linspace.proofs.Linspacei32.values.Tie as tie
@@ -49,10 +48,6 @@ counts-are c e = sym (told c) ∙ ap tellCount e
 known : (c : tie.After-n) → let s = c .before .before .before in Known (a s) (b s) (d s) (c .n .given .0 .0)
 known c = let s = c .before .before .before in known-of (a s) (b s) (d s) (axis s) (counts-are (c .before .before) (c .n .given .1))
 
--- from entry 0 on, one apart
-index : (k : ℕ) → 0 + k * 1 ≡ k
-index k = omega arith
-
 admitted-requires : tie.Need-admitted-requires
 admitted-requires c κs = search needs
 
@@ -77,12 +72,24 @@ returns-2 c =
     let s = at .before .before .before in
     values-short whole (a s) (b s) (d s) (axis s) (start s .args .out .now) (counts-are (at .before .before) (at .n .given .1)) (c .if2 .taken)
 
-put-entries-requires : tie.Need-put-entries-requires
-put-entries-requires c κs =
-    let at = c .before .before .before in
-    let s = at .before .before .before in
-    rw (s .steps .ensures .0, s .steps .ensures .1, s .steps .ensures .2)
-    (c .before .if2 .left, (omega (arith, known at .few), λ k h. rw (index k) (lies (known at) k h)))
+-- the ends and the step as they are passed on
+module _ (c : tie.After-struct-told2) where
+  abbrev arm : tie.After-n
+  arm = c .before .before .before .before .before
+
+  abbrev of : tie.After-steps
+  of = arm .before .before .before
+
+  a-is : toZ w32 (ofZ w32 (of .steps .result .a)) ≡ a of
+  a-is = toZ-ofZ (record { sfits = c .before .struct-told .given .0 .1 }) ∙ of .steps .ensures .0
+
+  d-is : toZ w32 (ofZ w32 (of .steps .result .d)) ≡ d of
+  d-is = toZ-ofZ (record { sfits = c .struct-told2 .given .1 .1 .0 .1 }) ∙ of .steps .ensures .2
+
+put-list-requires : tie.Need-put-list-requires
+put-list-requires c κs =
+    let room = c .before .before .before .if2 .left in
+    rw (a-is c, d-is c) (room, (admitted-near (a (of c)) (b (of c)) (d (of c)) (axis (of c)) .2, λ k h. lies (known (arm c)) k h .near))
 
 returns-3 : tie.Need-returns-3
 returns-3 c =
@@ -95,13 +102,14 @@ same-length c = search needs
 
 returns-4 : tie.Need-returns-4
 returns-4 c =
-    let at = c .before .before .before .before .before in
-    let s = at .before .before .before in
+    let told = c .before .before in
+    let at = arm told in
+    let s = of told in
     let n = at .n .given .0 .0 in
     let old = start s .args .out .now in
-    let done = rw (s .steps .ensures .0, s .steps .ensures .2) at (c .before .put-entries .ensures) in
-    ap (λ (l : List ℤ). (given n, l)) (done ∙ ap (λ (l : List ℤ). l ++ drop n old) (list-ext _ (element (a s) (d s)) n (λ k h. ap (element (a s) (d s)) (index k)) ∙ sym (list-is (known at))))
-    ∙ values-written whole (a s) (b s) (d s) (axis s) old (counts-are (at .before .before) (at .n .given .1)) (c .before .before .before .if2 .left)
+    let done = rw (a-is told, d-is told) at (c .before .put-list .ensures) in
+    ap (λ (l : List ℤ). (given n, l)) (done ∙ ap (λ (l : List ℤ). l ++ drop n old) (sym (list-is (known at))))
+    ∙ values-written whole (a s) (b s) (d s) (axis s) old (counts-are (at .before .before) (at .n .given .1)) (told .before .before .before .if2 .left)
 
 pub values-spec : {M : Type 1} → statement M
 values-spec =
@@ -114,7 +122,7 @@ values-spec =
     enum-known-r
     enum-known-n
     returns-2
-    put-entries-requires
+    put-list-requires
     returns-3
     same-length
     returns-4)

@@ -1,33 +1,38 @@
--- `linspace::reals::counted` meets its contract. Assumes nothing.
-use mathlib.Core.Path.{sym, ap, subst, _∙_}
-use Prim.Native.Nat.{ℕ, _<_, _≤_}
-use Rattle.ranged1d.specs.Answer.{given}
-use Rattle.linspace.proofs.Axis.{size-against, size-long, size-is}
+use mathlib.Core.Path.{sym, ap, _∙_}
+use Rattle.linspace.specs.Walks.{tellWalk}
 use borrow.Author.Needs.{needs}
 use Rattle.linspace.proofs.reals.counted.Statement.{statement}
 use Rattle.linspace.proofs.reals.counted.Tie as tie
+use Rattle.linspace.proofs.reals.counted.Reads as reads
+use Rattle.linspace.proofs.reals.counted.Lts as lts
+use Rattle.linspace.proofs.reals.quarter.Reads as quarter-reads
+use Rattle.linspace.proofs.reals.walk_along.Reads as walk-along-reads
 
-leads-away-requires : tie.Need-leads-away-requires
-leads-away-requires c κs = search needs
+-- src/reals.rt:241:25
+quarter-requires : tie.Need-quarter-requires
+quarter-requires c κs = search needs
 
+-- src/reals.rt:241:11
+walk-along-requires : tie.Need-walk-along-requires
+walk-along-requires c κs = search needs
+
+-- src/reals.rt:242:23
+enum-known-r : tie.Need-enum-known-r
+enum-known-r c = search needs
+
+-- src/reals.rt:243:18
+enum-known-w : tie.Need-enum-known-w
+enum-known-w c = search needs
+
+-- src/reals.rt:238:1
 returns : tie.Need-returns
-returns c = let s = c .before .before .args .s in size-against (s .a) (s .b) (s .d) (sym (c .before .leads-away .ensures) ∙ c .if1 .taken)
+returns c = let arm = c .before in sym (ap tellWalk (arm .r .given .1)) ∙ arm .before .before .walk-along .ensures .0
 
-count-requires : tie.Need-count-requires
-count-requires c κs = search needs
-
+-- src/reals.rt:238:1
 returns-2 : tie.Need-returns-2
-returns-2 c =
-    let way = c .before .before .before in
-    let s = way .before .args .s in
-    size-long (s .a) (s .b) (s .d) (sym (way .leads-away .ensures) ∙ c .before .before .if1 .left) (subst (λ (n : ℕ). 65536 < n) (c .before .count .ensures) (c .if2 .taken))
-
-returns-3 : tie.Need-returns-3
-returns-3 c =
-    let way = c .before .before .before in
-    let s = way .before .args .s in
-    ap given (c .before .count .ensures)
-    ∙ size-is (s .a) (s .b) (s .d) (sym (way .leads-away .ensures) ∙ c .before .before .if1 .left) (subst (λ (n : ℕ). n ≤ 65536) (c .before .count .ensures) (c .if2 .left))
+returns-2 c = let arm = c .before in sym (ap tellWalk (arm .w .given .1)) ∙ arm .before .before .walk-along .ensures .0
 
 pub counted-spec : {M : Type 1} → statement M
-counted-spec = tie.close (tie.spec leads-away-requires returns count-requires returns-2 returns-3)
+counted-spec =
+    tie.close
+    (tie.spec quarter-requires walk-along-requires enum-known-r enum-known-w returns returns-2)

@@ -30,16 +30,16 @@ module _ (c : tie.After-plan) where
   l = stepped real (start .args .s .a) (start .args .s .b) (start .args .s .d)
 
   few : length l ≤ 65536
-  few = subst (λ (n : ℕ). n ≤ 65536) (start .pre .1 .0) (start .pre .1 .1 .0)
+  few = subst (λ (n : ℕ). n ≤ 65536) (start .pre .1 .1 .0) (start .pre .1 .1 .1 .0)
 
   some : hasEntries l ≡ true
-  some = lt-ltb 0 (length l) (subst (λ (n : ℕ). 0 < n) (start .pre .1 .0) (omega (arith, c .before .if1 .left)))
+  some = lt-ltb 0 (length l) (subst (λ (n : ℕ). 0 < n) (start .pre .1 .1 .0) (omega (arith, c .before .if1 .left)))
 
   plan-is : wholePlan (pos 0) (pos (length l - 1)) (start .args .m) ≡ tellPlanned (c .plan .result)
   plan-is =
-      let n = start .args .n in
-      let near : n ≤ 65536 = start .pre .1 .1 .0 in
-      sym (c .plan .ensures ∙ ap (λ (z : ℤ). wholePlan (pos 0) z (start .args .m)) (toZ-pos w32 (omega (arith, near)) ∙ ap (λ (k : ℕ). pos (k - 1)) (start .pre .1 .0)))
+      let n = start .args .w .n in
+      let near : n ≤ 65536 = start .pre .1 .1 .1 .0 in
+      sym (c .plan .ensures ∙ ap (λ (z : ℤ). wholePlan (pos 0) z (start .args .m)) (toZ-pos w32 (omega (arith, near)) ∙ ap (λ (k : ℕ). pos (k - 1)) (start .pre .1 .1 .0)))
 
 -- in the arm of a plan
 module _ (c : tie.After-p) where
@@ -53,7 +53,7 @@ module _ (c : tie.After-p) where
   told = plan-is planned ∙ ap tellPlanned (c .p .given .1)
 
   step-near : natAbs (p .step) ≤ 1000000000
-  step-near = let s = start planned in let g = s .args .s in steps-small (g .a) (g .b) (g .d) (s .args .m) (few planned) (s .pre .1 .1 .1) (some planned) told
+  step-near = let s = start planned in let g = s .args .s in steps-small (g .a) (g .b) (g .d) (s .args .m) (few planned) (s .pre .1 .1 .1 .1) (some planned) told
 
 module _ (c : tie.After-struct-told) where
   abbrev arm : tie.After-p
@@ -66,13 +66,13 @@ returns : tie.Need-returns
 returns c =
     let s = c .before .before in
     let g = s .args .s in
-    sym (points-empty (g .a) (g .b) (g .d) (s .args .m) (s .args .out .now) (s .pre .1 .1 .1) (s .pre .0) (subst (λ (n : ℕ). n ≤ 65536) (s .pre .1 .0) (s .pre .1 .1 .0)) (sym (s .pre .1 .0) ∙ c .if1 .taken))
+    sym (points-empty (g .a) (g .b) (g .d) (s .args .m) (s .args .out .now) (s .pre .1 .1 .1 .1) (s .pre .1 .0) (subst (λ (n : ℕ). n ≤ 65536) (s .pre .1 .1 .0) (s .pre .1 .1 .1 .0)) (sym (s .pre .1 .1 .0) ∙ c .if1 .taken))
 
-sub-t10 : tie.Need-sub-t10
-sub-t10 c = search needs
+sub-t12 : tie.Need-sub-t12
+sub-t12 c = search needs
 
-cast-t11 : tie.Need-cast-t11
-cast-t11 c = search needs
+cast-t13 : tie.Need-cast-t13
+cast-t13 c = search needs
 
 plan-requires : tie.Need-plan-requires
 plan-requires c κs = search needs
@@ -91,23 +91,23 @@ returns-2 c =
     let q = c .before .before .before in
     let s = start (planned q) in
     let g = s .args .s in
-    sym (points-short (g .a) (g .b) (g .d) (s .args .m) (s .args .out .now) (s .pre .1 .1 .1) (s .pre .0) (few (planned q)) (some (planned q)) (told q) (c .if2 .taken))
+    sym (points-short (g .a) (g .b) (g .d) (s .args .m) (s .args .out .now) (s .pre .1 .1 .1 .1) (s .pre .1 .0) (few (planned q)) (some (planned q)) (told q) (c .if2 .taken))
 
-cast-put-entries : tie.Need-cast-put-entries
-cast-put-entries c =
+cast-put-all : tie.Need-cast-put-all
+cast-put-all c =
     let q = arm c in
     let n = length (l (planned q)) in
     rw (step-is c) (natural (step-natural 0 (n - 1) (start (planned q) .args .m) [] (told q)), record { fits = omega (arith, step-near q) })
 
-put-entries-requires : tie.Need-put-entries-requires
-put-entries-requires c κs = search needs
+put-all-requires : tie.Need-put-all-requires
+put-all-requires c κs = (start (planned (arm c)) .pre .0, c .before .before .before .if2 .left)
 
 returns-3 : tie.Need-returns-3
 returns-3 c =
     let planned = c .before .before .before in
     let s = start planned in
     let g = s .args .s in
-    absurd (no-refusal (g .a) (g .b) (g .d) (s .args .m) (few planned) (s .pre .1 .1 .1) (some planned) (plan-is planned ∙ ap tellPlanned (c .before .r .given .1)))
+    absurd (no-refusal (g .a) (g .b) (g .d) (s .args .m) (few planned) (s .pre .1 .1 .1 .1) (some planned) (plan-is planned ∙ ap tellPlanned (c .before .r .given .1)))
 
 same-length : tie.Need-same-length
 same-length c = search needs
@@ -119,24 +119,24 @@ returns-4 c =
     let q = arm at in
     let s = start (planned q) in
     let g = s .args .s in
-    let done = rw (step-is at) at (put .put-entries .ensures) in
+    let done = rw (step-is at) at (put .put-all .ensures) in
     ap (λ (w : List Float). (given (p q .count), w)) done
-    ∙ sym (points-written (g .a) (g .b) (g .d) (s .args .m) (s .args .out .now) (s .pre .1 .1 .1) (s .pre .0) (few (planned q)) (some (planned q)) (told q) (at .before .before .before .if2 .left))
+    ∙ sym (points-written (g .a) (g .b) (g .d) (s .args .m) (s .args .out .now) (s .pre .1 .1 .1 .1) (s .pre .1 .0) (few (planned q)) (some (planned q)) (told q) (at .before .before .before .if2 .left))
 
 pub put-marks-spec : {M : Type 1} → statement M
 put-marks-spec =
     tie.close
     (tie.spec
     returns
-    sub-t10
-    cast-t11
+    sub-t12
+    cast-t13
     plan-requires
     enum-known-r
     enum-known-p
     cast-size
     returns-2
-    cast-put-entries
-    put-entries-requires
+    cast-put-all
+    put-all-requires
     returns-3
     same-length
     returns-4)

@@ -1,0 +1,62 @@
+use mathlib.Core.Path.{_≡_, ap, _∙_}
+use Prim.Native.Nat.{ℕ, _*_, _+_}
+use native.Mathlib.Omega.{arith}
+use Rattle.linspace.specs.RealSteps.{plusStep, after}
+use Rattle.linspace.proofs.Walks.{after-more}
+use lib.Ieee.{Float}
+use borrow.Author.Needs.{needs}
+use Rattle.linspace.proofs.reals.keep_sums.Statement.{statement}
+use Rattle.linspace.proofs.reals.keep_sums.Tie as tie
+use Rattle.linspace.proofs.reals.keep_sums.Reads as reads
+use Rattle.linspace.proofs.reals.keep_sums.Lts as lts
+use Rattle.linspace.proofs.reals.advance.Reads as advance-reads
+use Rattle.linspace.proofs.reals.count.Reads as count-reads
+
+-- src/reals.rt:215:9
+-- h steps on from the sum after m
+on : (d a : Float) (h m n : ℕ) {x y : Float} → h + m ≡ n → y ≡ after (plusStep d) h x → x ≡ after (plusStep d) m a → y ≡ after (plusStep d) n a
+on d a h m n e p q = p ∙ ap (after (plusStep d) h) q ∙ after-more (plusStep d) h m a ∙ ap (λ (k : ℕ). after (plusStep d) k a) e
+
+two : (c : tie.After-advance2) → let s = c .before .before .args in c .advance2 .result ≡ after (plusStep (s .s .d)) (2 * s .h) (s .s .a)
+two c = let s = c .before .before .args in on (s .s .d) (s .s .a) (s .h) (s .h) (2 * s .h) (omega arith) (c .advance2 .ensures) (c .before .advance .ensures)
+
+three : (c : tie.After-advance3) → let s = c .before .before .before .args in c .advance3 .result ≡ after (plusStep (s .s .d)) (3 * s .h) (s .s .a)
+three c = let s = c .before .before .before .args in on (s .s .d) (s .s .a) (s .h) (2 * s .h) (3 * s .h) (omega arith) (c .advance3 .ensures) (two (c .before))
+
+advance-requires : tie.Need-advance-requires
+advance-requires c κs = search needs
+
+-- src/reals.rt:216:9
+advance-requires-2 : tie.Need-advance-requires-2
+advance-requires-2 c κs = search needs
+
+-- src/reals.rt:217:9
+advance-requires-3 : tie.Need-advance-requires-3
+advance-requires-3 c κs = search needs
+
+-- src/reals.rt:218:26
+mul-count : tie.Need-mul-count
+mul-count c = search needs
+
+-- src/reals.rt:218:9
+count-requires : tie.Need-count-requires
+count-requires c κs =
+    let s = c .before .before .before in
+    (s .pre .0, (omega (arith, s .pre .1), three c))
+
+-- src/reals.rt:209:1
+returns : tie.Need-returns
+returns c =
+    let at = c .before in
+    (c .count .ensures, record { one = at .before .before .advance .ensures; two = two (at .before); three = three at })
+
+pub keep-sums-spec : {M : Type 1} → statement M
+keep-sums-spec =
+    tie.close
+    (tie.spec
+    advance-requires
+    advance-requires-2
+    advance-requires-3
+    mul-count
+    count-requires
+    returns)

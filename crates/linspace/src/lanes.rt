@@ -1,0 +1,107 @@
+// Entries of a real stepped axis written in four runs at once. A sum waits for the one before it; four runs, from the sums that
+// a walk has kept, wait together.
+ghost use mathlib.Core.Path.{_≡_};
+ghost use mathlib.Core.List.{_++_};
+ghost use Prim.Native.Nat.{_*_, _≤_};
+ghost use lib.ListN.{length, drop};
+ghost use Rattle.numeric.specs.Marks.{listOf};
+ghost use Rattle.linspace.specs.RealSteps.{plusStep, after, Passed, fourRuns};
+use crate::reals::Kept;
+use crate::reals::Steps;
+use crate::reals::advance;
+
+// The next entry of each run.
+struct Four {
+    x0: f64,
+    x1: f64,
+    x2: f64,
+    x3: f64,
+}
+
+// Each sum after k further steps.
+fn advance_four(q: Four, d: f64, k: usize) -> Four
+    ensures { λ r. ⌜ (r .x0 ≡ after (plusStep d) k (q .x0)) × (r .x1 ≡ after (plusStep d) k (q .x1)) × (r .x2 ≡ after (plusStep d) k (q .x2)) × (r .x3 ≡ after (plusStep d) k (q .x3)) ⌝ }
+{
+    let mut x0 = q.x0;
+    let mut x1 = q.x1;
+    let mut x2 = q.x2;
+    let mut x3 = q.x3;
+    let mut i = 0;
+    while i < k {
+        x0 = x0 + d;
+        x1 = x1 + d;
+        x2 = x2 + d;
+        x3 = x3 + d;
+        i += 1;
+    }
+    Four { x0, x1, x2, x3 }
+}
+
+// Four runs of g entries, `by` steps apart, one behind the other; returns the sum behind the last.
+fn put_four(out: &mut [f64], q: Four, d: f64, by: usize, g: usize) -> f64
+    requires { ⌜ 4 * g ≤ length (now out) ⌝ }
+    ensures { λ r. ⌜ (now (out .exit) ≡ fourRuns (plusStep d) by g (q .x0) (q .x1) (q .x2) (q .x3) (drop (4 * g) (now (out .entry)))) × (r ≡ after (plusStep d) (g * by) (q .x3)) ⌝ }
+{
+    let mut y = q;
+    let mut k = 0;
+    while k < g {
+        out[k] = y.x0;
+        out[g + k] = y.x1;
+        out[2 * g + k] = y.x2;
+        out[3 * g + k] = y.x3;
+        y = advance_four(y, d, by);
+        k += 1;
+    }
+    y.x3
+}
+
+// x and the sums behind it, `by` steps apart, in all of out.
+fn put_entries(out: &mut [f64], x: f64, d: f64, by: usize)
+    ensures { λ _. ⌜ now (out .exit) ≡ listOf (λ k. after (plusStep d) (k * by) x) (length (now (out .entry))) ⌝ }
+{
+    let mut y = x;
+    let mut k = 0;
+    while k < out.len() {
+        out[k] = y;
+        y = advance(y, d, by);
+        k += 1;
+    }
+}
+
+// How long four runs can be that begin at the kept sums: h steps are g entries, `by` apart, and 4 g are wanted. 0 if they cannot.
+fn run_length(h: usize, by: usize, n: usize) -> usize
+    ensures { λ r. ⌜ (4 * r ≤ n) × ((r ≡ 0 → ⊥) → r * by ≡ h) ⌝ }
+{
+    if by == 0 {
+        return 0;
+    }
+    let g = h / by;
+    if h % by != 0 {
+        return 0;
+    }
+    if n / 4 < g {
+        return 0;
+    }
+    g
+}
+
+// n entries, `by` apart, from a on, written to the start of out.
+pub(crate) fn put_all(out: &mut [f64], s: Steps, w: Kept, h: usize, by: usize, n: usize)
+    requires { ⌜ Passed (plusStep (s .d)) (s .a) h (w .x1) (w .x2) (w .x3) ⌝ }
+    requires { ⌜ n ≤ length (now out) ⌝ }
+    ensures { λ _. ⌜ now (out .exit) ≡ listOf (λ k. after (plusStep (s .d)) (k * by) (s .a)) n ++ drop n (now (out .entry)) ⌝ }
+{
+    let g = run_length(h, by, n);
+    if g == 0 {
+        put_entries(&mut out[0..n], s.a, s.d, by);
+        return;
+    }
+    let q = Four {
+        x0: s.a,
+        x1: w.x1,
+        x2: w.x2,
+        x3: w.x3,
+    };
+    let x = put_four(out, q, s.d, by, g);
+    put_entries(&mut out[4 * g..n], x, s.d, by);
+}
