@@ -19,7 +19,10 @@ fn time<N: Library, T>(call: &str, listing: Listing<N>, made: fn(Listing<N>) -> 
     let out = &mut vec![N::ZERO; count];
     let ours = |n| {
         for _ in 0..n {
-            let _ = black_box(black_box(listing).safe(black_box(out)));
+            let (out, mut told) = (black_box(out.as_mut_ptr()), 0);
+            // SAFETY: the list has `count` numbers.
+            let code = unsafe { black_box(listing).function(out, count, &mut told) };
+            black_box((code, told));
         }
     };
     let plotters = |n| {

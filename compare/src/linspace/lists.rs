@@ -36,7 +36,7 @@ impl<N: Library> Listing<N> {
 
     /// # Safety
     /// `out` must point to `len` numbers, `count` to one.
-    unsafe fn function(self, out: *mut N, len: usize, count: *mut usize) -> i32 {
+    pub unsafe fn function(self, out: *mut N, len: usize, count: *mut usize) -> i32 {
         let Steps { a, b, d } = self.axis;
         match self.m {
             None => (N::C.values)(a, b, d, out, len, count),

@@ -1,7 +1,7 @@
 -- A step that leads on: where a sum comes before b, so does every sum before it, and the walk to it may skip their tests. Assumes nothing.
-use mathlib.Core.Path.{_≡_, refl, sym, subst, _∙_}
+use mathlib.Core.Path.{_≡_, refl, sym, ap₂, subst, _∙_}
 use mathlib.Core.Bool.{Bool, true, false}
-use Prim.Native.Nat.{ℕ, zero, suc, _≤_}
+use Prim.Native.Nat.{ℕ, zero, suc, _+_, _-_, _≤_}
 use native.Mathlib.Numerals.{add-one}
 use native.Mathlib.Omega.{arith}
 use lib.Dec.{T}
@@ -9,12 +9,17 @@ use lib.ListN.{length}
 use lib.Ieee.{Float, binary64, fits, lt, eq}
 use lib.Ieee.Fits.{add-fits}
 use Rattle.search.specs.Steps as search-steps
-use Rattle.linspace.specs.List.{real, toward, stepped, against}
+use Rattle.linspace.specs.List.{real, entries, toward, stepped, against}
 use Rattle.linspace.specs.Calls.{hasEntries}
-use Rattle.linspace.specs.RealSteps.{plusStep, after, Walked}
+use Rattle.linspace.specs.RealSteps.{plusStep, after, Walked, Ahead}
 use Rattle.linspace.proofs.Walks.{walk-starts, walk-on}
 use Rattle.linspace.proofs.RealList.{p, w, Onward, never-behind}
 use Rattle.linspace.proofs.Indices.{augend, onward}
+
+after-fits : (d a : Float) → T (fits binary64 a) → (k : ℕ) → T (fits binary64 (after (plusStep d) k a))
+unfolding after
+after-fits d a f zero = f
+after-fits d a f (suc k) = add-fits binary64 (after (plusStep d) k a) d
 
 module _ (rises : Bool) (b d : Float) (on : Onward rises b d) where
   before-too : (x : Float) → T (fits binary64 x) → p rises b d (plusStep d x) ≡ true → p rises b d x ≡ true
@@ -26,17 +31,25 @@ module _ (rises : Bool) (b d : Float) (on : Onward rises b d) where
           let number : eq (plusStep d x) (plusStep d x) ≡ true = w rises b d .left (plusStep d x) b h in
           w rises b d .trans x (plusStep d x) b (w rises b d .total (plusStep d x) x number (augend x d number) (never-behind rises b d x f on) e) h
 
-  after-fits : (a : Float) → T (fits binary64 a) → (k : ℕ) → T (fits binary64 (after (plusStep d) k a))
-  unfolding after
-  after-fits a f zero = f
-  after-fits a f (suc k) = add-fits binary64 (after (plusStep d) k a) d
-
   far : (most : ℕ) (a : Float) → T (fits binary64 a) → (k : ℕ) → k ≤ most → p rises b d (after (plusStep d) k a) ≡ true → Walked (p rises b d) (plusStep d) most a k (after (plusStep d) k a)
   unfolding after
   far most a f zero l h = walk-starts (p rises b d) (plusStep d) most a
   far most a f (suc k) l h =
-      let q = before-too (after (plusStep d) k a) (after-fits a f k) h in
+      let q = before-too (after (plusStep d) k a) (after-fits d a f k) h in
       rw (← add-one k) (walk-on (p rises b d) (plusStep d) most a k (after (plusStep d) k a) (far most a f k (omega (arith, l)) q) (omega (arith, l)) q)
+
+  -- `by` steps further, where the sum behind them comes before b
+  pub stride-on : (k : ℕ) (x : Float) (n by : ℕ) (left right : Float) → T (fits binary64 left) → n + by ≤ 65537 → right ≡ after (plusStep d) by left → p rises b d right ≡ true
+      → Ahead (p rises b d) (plusStep d) 65537 k x n left → Ahead (p rises b d) (plusStep d) 65537 k x (n + by) right
+  stride-on k x n by left right f l e h w =
+      let walked = far (65537 - n) left f by (omega (arith, l)) (subst (λ (y : Float). p rises b d y ≡ true) e h) in
+      let less : 65537 - n - by ≡ 65537 - (n + by) = omega arith in
+      let same : length (entries (p rises b d) (plusStep d) (65537 - n - by) (after (plusStep d) by left)) ≡ length (entries (p rises b d) (plusStep d) (65537 - (n + by)) right) =
+      ap₂ (λ (m : ℕ) (y : Float). length (entries (p rises b d) (plusStep d) m y)) less (sym e) in
+      record { within = l; rest = w .rest ∙ omega (arith, walked .rest, same) }
+
+pub stride-fits : (d : Float) (by : ℕ) (left right : Float) → T (fits binary64 left) → right ≡ after (plusStep d) by left → T (fits binary64 right)
+stride-fits d by left right f e = subst (λ (y : Float). T (fits binary64 y)) (sym e) (after-fits d left f by)
 
 -- where the sum after k steps comes before b, the walk stands there after k entries
 pub walked-far : (a b d : Float) → T (fits binary64 a) → against real a b d ≡ false → hasEntries (stepped real a b d) ≡ true → (k : ℕ) (x : Float) → k ≤ 65537 → x ≡ after (plusStep d) k a

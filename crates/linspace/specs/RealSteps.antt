@@ -1,17 +1,22 @@
 -- What the walks along a real stepped axis find, for the promises of private functions. Assumes nothing.
 use Prim.Native.Nat.{ℕ, zero, suc, _+_, _-_, _*_, _≤_, _<_}
 use mathlib.Core.Path.{_≡_}
-use mathlib.Core.Bool.{Bool, true, false}
+use mathlib.Core.Bool.{Bool, true, false, cond}
 use mathlib.Core.List.{List, _++_}
 use lib.ListN.{length}
 use Rattle.numeric.specs.Marks.{listOf}
 use lib.Ieee as Ieee
-use lib.Ieee.{Float, binary64}
+use lib.Ieee.{Float, fin, binary64}
+use lib.IntN.{pos}
 use Rattle.linspace.specs.List.{entries}
 
 -- the sum behind x
 abbrev pub plusStep : Float → Float → Float
 plusStep d x = Ieee.add binary64 x d
+
+-- the step leads upward or downward
+abbrev pub onward : Bool → Float → Bool
+onward rises d = cond rises (Ieee.lt (fin false 0 (pos 0)) d) (Ieee.lt d (fin false 0 (pos 0)))
 
 -- x after k steps
 unfoldable pub after : {A : Type 0} → (A → A) → ℕ → A → A
@@ -30,6 +35,11 @@ oneRun next by g x l = listOf (λ k. after next (k * by) x) g ++ l
 
 abbrev pub fourRuns : {A : Type 0} → (A → A) → ℕ → ℕ → A → A → A → A → List A → List A
 fourRuns next by g x0 x1 x2 x3 l = oneRun next by g x0 (oneRun next by g x1 (oneRun next by g x2 (oneRun next by g x3 l)))
+
+-- a walk that stood at x after k entries stands at y after n: there are as many entries as before
+pub record Ahead {A : Type 0} (passes : A → Bool) (next : A → A) (most k : ℕ) (x : A) (n : ℕ) (y : A) : Type 0 where
+  pub within : n ≤ most
+  pub rest : k + length (entries passes next (most - k) x) ≡ n + length (entries passes next (most - n) y)
 
 module _ {A : Type 0} (passes : A → Bool) (next : A → A) (most : ℕ) (a : A) where
   -- a walk along the list stands at x after n entries

@@ -59,11 +59,15 @@ fn put_four(out: &mut [f64], q: Four, d: f64, by: usize, g: usize) -> f64
 fn put_entries(out: &mut [f64], x: f64, d: f64, by: usize)
     ensures { λ _. ⌜ now (out .exit) ≡ listOf (λ k. after (plusStep d) (k * by) x) (length (now (out .entry))) ⌝ }
 {
+    if out.len() == 0 {
+        return;
+    }
+    out[0] = x;
     let mut y = x;
-    let mut k = 0;
+    let mut k = 1;
     while k < out.len() {
-        out[k] = y;
         y = advance(y, d, by);
+        out[k] = y;
         k += 1;
     }
 }

@@ -10,7 +10,7 @@ ghost use Rattle.real.specs.Place.{tellPlace};
 ghost use Rattle.real.specs.Reading.{tellReading};
 ghost use Rattle.linspace.specs.List.{real, entries, stepped, against, toward};
 ghost use Rattle.linspace.specs.Calls.{tellListed, hasEntries, stepValues, stepSize, stepFromIndex, stepIndexOf, stepPlace, stepReading, stepKeyPoints};
-ghost use Rattle.linspace.specs.RealSteps.{plusStep, after, Passed, Reached, Parted};
+ghost use Rattle.linspace.specs.RealSteps.{plusStep, after, onward, Ahead, Passed, Reached, Parted};
 ghost use Rattle.linspace.specs.Walks.{tellWalk, PassedBy};
 use crate::Linspacef64;
 use crate::Listed;
@@ -189,6 +189,30 @@ fn quarter(s: Steps) -> usize
     k as usize
 }
 
+// Walks on from x, entry k if there is one, so many steps at a time, while the sum behind them comes before b: then so do those between.
+fn stride(rises: bool, s: Steps, x: f64, k: usize, by: usize) -> Spot
+    requires { ⌜ k ≤ 65537 ⌝ }
+    requires { ⌜ onward rises (s .d) ≡ true ⌝ }
+    ensures { λ r. ⌜ Ahead (toward real rises (s .b)) (plusStep (s .d)) 65537 k x (r .n) (r .x) ⌝ }
+{
+    let b = s.b;
+    let d = s.d;
+    let mut n = k;
+    let mut left = x;
+    if by == 0 {
+        return Spot { n, x };
+    }
+    while by <= 65537 - n {
+        let right = advance(left, d, by);
+        if !precedes(rises, right, b) {
+            return Spot { n, x: left };
+        }
+        left = right;
+        n += by;
+    }
+    Spot { n, x: left }
+}
+
 // The number of entries, 65,537 where there are more. Where x, the sum after k steps, comes before b, so do all sums before it.
 fn count(s: Steps, x: f64, k: usize) -> usize
     requires { ⌜ against real (s .a) (s .b) (s .d) ≡ false ⌝ }
@@ -201,7 +225,8 @@ fn count(s: Steps, x: f64, k: usize) -> usize
     }
     let rises = s.a < s.b;
     if precedes(rises, x, s.b) {
-        return count_on(rises, s, x, k);
+        let w = stride(rises, s, x, k, k / 48);
+        return count_on(rises, s, w.x, w.n);
     }
     count_on(rises, s, s.a, 0)
 }

@@ -1,3 +1,4 @@
+-- `linspace::lanes::put_all` meets its contract. Assumes nothing.
 use mathlib.Core.Path.{refl, sym, subst, _∙_}
 use Prim.Native.Nat.{ℕ, _*_}
 use native.Mathlib.Omega.{arith}
@@ -8,13 +9,7 @@ use Rattle.linspace.proofs.Runs.{rest-put, four-join, four-behind}
 use borrow.Author.Needs.{needs}
 use Rattle.linspace.proofs.lanes.put_all.Statement.{statement}
 use Rattle.linspace.proofs.lanes.put_all.Tie as tie
-use Rattle.linspace.proofs.lanes.put_all.Reads as reads
-use Rattle.linspace.proofs.lanes.put_all.Lts as lts
-use Rattle.linspace.proofs.lanes.put_entries.Reads as put-entries-reads
-use Rattle.linspace.proofs.lanes.put_four.Reads as put-four-reads
-use Rattle.linspace.proofs.lanes.run_length.Reads as run-length-reads
 
--- src/lanes.rt:94:9
 abbrev start : tie.After-run-length → tie.Start
 start c = c .before .before
 
@@ -27,66 +22,51 @@ aligned c =
 run-length-requires : tie.Need-run-length-requires
 run-length-requires c κs = search needs
 
--- src/lanes.rt:96:21
 sub-put-entries : tie.Need-sub-put-entries
 sub-put-entries c = search needs
 
--- src/lanes.rt:96:21
 part-put-entries-start : tie.Need-part-put-entries-start
 part-put-entries-start c = search needs
 
--- src/lanes.rt:96:21
 part-put-entries-end : tie.Need-part-put-entries-end
 part-put-entries-end c = search needs
 
--- src/lanes.rt:96:9
 put-entries-requires : tie.Need-put-entries-requires
 put-entries-requires c κs = search needs
 
--- src/lanes.rt:97:9
 same-length : tie.Need-same-length
 same-length c = search needs
 
--- src/lanes.rt:97:9
 returns : tie.Need-returns
 returns c =
     let put = c .before .before in
     let s = start (put .before .before .before) .args in
     rest-put (plusStep (s .s .d)) (s .by) (s .s .a) 0 (s .n) (s .out .now) (s .out .now) (put .put-entries .last .0) (s .s .a) (omega arith) (start (put .before .before .before) .pre .1) refl (after-none (plusStep (s .s .d)) (s .by) (s .s .a)) (put .put-entries .ensures)
 
--- src/lanes.rt:105:9
 put-four-requires : tie.Need-put-four-requires
 put-four-requires c κs = search needs
 
--- src/lanes.rt:106:26
 mul-put-entries : tie.Need-mul-put-entries
 mul-put-entries c = search needs
 
--- src/lanes.rt:106:17
 mul-put-entries-2 : tie.Need-mul-put-entries-2
 mul-put-entries-2 c = search needs
 
--- src/lanes.rt:106:17
 sub-put-entries-2 : tie.Need-sub-put-entries-2
 sub-put-entries-2 c = search needs
 
--- src/lanes.rt:106:17
 part-put-entries-start-2 : tie.Need-part-put-entries-start-2
 part-put-entries-start-2 c = search needs
 
--- src/lanes.rt:106:17
 part-put-entries-end-2 : tie.Need-part-put-entries-end-2
 part-put-entries-end-2 c = search needs
 
--- src/lanes.rt:106:5
 put-entries-requires-2 : tie.Need-put-entries-requires-2
 put-entries-requires-2 c κs = search needs
 
--- src/lanes.rt:89:1
 same-length-2 : tie.Need-same-length-2
 same-length-2 c = search needs
 
--- src/lanes.rt:89:1
 returns-2 : tie.Need-returns-2
 returns-2 c =
     let put = c .before .before in

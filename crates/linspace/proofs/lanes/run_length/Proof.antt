@@ -1,32 +1,25 @@
+-- `linspace::lanes::run_length` meets its contract. Assumes nothing.
 use native.Mathlib.Omega.{arith}
 use native.Mathlib.Nat.{div-add-mod'}
 use borrow.Author.Needs.{needs}
 use Rattle.linspace.proofs.lanes.run_length.Statement.{statement}
 use Rattle.linspace.proofs.lanes.run_length.Tie as tie
-use Rattle.linspace.proofs.lanes.run_length.Reads as reads
-use Rattle.linspace.proofs.lanes.run_length.Lts as lts
 
--- src/lanes.rt:88:9
 returns : tie.Need-returns
 returns c = search needs
 
--- src/lanes.rt:90:13
 div-g : tie.Need-div-g
 div-g c = search needs
 
--- src/lanes.rt:91:8
 rem-if2 : tie.Need-rem-if2
 rem-if2 c = search needs
 
--- src/lanes.rt:92:9
 returns-2 : tie.Need-returns-2
 returns-2 c = search needs
 
--- src/lanes.rt:95:9
 returns-3 : tie.Need-returns-3
 returns-3 c = search needs
 
--- src/lanes.rt:84:1
 returns-4 : tie.Need-returns-4
 returns-4 c =
     let s = c .before .before .before .args in

@@ -1,5 +1,7 @@
+-- `linspace::reals::count` meets its contract. Assumes nothing.
 use mathlib.Core.Path.{_≡_, sym, ap, _∙_}
 use mathlib.Core.Bool.{true}
+use borrow.Author.Needs.{needs}
 use borrow.Author.Tests.{not-true, not-false}
 use lib.ListN.{length}
 use lib.Ieee.{lt}
@@ -8,17 +10,11 @@ use Rattle.linspace.specs.Calls.{hasEntries}
 use Rattle.linspace.specs.RealSteps.{plusStep}
 use Rattle.linspace.proofs.Axis.{stepped-empty, walked-count}
 use Rattle.linspace.proofs.Walks.{walk-starts}
+use Rattle.linspace.proofs.Indices.{onward}
 use Rattle.linspace.proofs.Ahead.{walked-far}
-use borrow.Author.Needs.{needs}
 use Rattle.linspace.proofs.reals.count.Statement.{statement}
 use Rattle.linspace.proofs.reals.count.Tie as tie
-use Rattle.linspace.proofs.reals.count.Reads as reads
-use Rattle.linspace.proofs.reals.count.Lts as lts
-use Rattle.linspace.proofs.reals.count_on.Reads as count-on-reads
-use Rattle.linspace.proofs.reals.has_entries.Reads as has-entries-reads
-use Rattle.linspace.proofs.reals.precedes.Reads as precedes-reads
 
--- src/reals.rt:198:9
 module _ (c : tie.After-precedes) where
   abbrev start : tie.Start
   start = c .before .before .before .before
@@ -29,32 +25,34 @@ module _ (c : tie.After-precedes) where
 has-entries-requires : tie.Need-has-entries-requires
 has-entries-requires c κs = search needs
 
--- src/reals.rt:199:9
 returns : tie.Need-returns
 returns c = let s = c .before .before .args .s in sym (ap length (stepped-empty (s .a) (s .b) (s .d) (sym (c .before .has-entries .ensures) ∙ not-true _ (c .if1 .taken))))
 
--- src/reals.rt:202:8
 precedes-requires : tie.Need-precedes-requires
 precedes-requires c κs = search needs
 
--- src/reals.rt:203:9
-count-on-requires : tie.Need-count-on-requires
-count-on-requires c κs = search needs
+stride-requires : tie.Need-stride-requires
+stride-requires c κs =
+    let at = c .before in
+    let s = start at .args .s in
+    (start at .pre .1 .0, onward (s .a) (s .b) (s .d) (start at .pre .0) (some at))
 
--- src/reals.rt:203:9
+count-on-requires : tie.Need-count-on-requires
+count-on-requires c κs = c .stride .ensures .within
+
 returns-2 : tie.Need-returns-2
 returns-2 c =
-    let at = c .before .before in
+    let on = c .before .before in
+    let at = on .before in
     let s = start at .args in
     c .count-on .ensures
+    ∙ sym (c .before .stride .ensures .rest)
     ∙ walked-count (s .s .a) (s .s .b) (s .s .d) (s .k) (s .x) (some at)
-    (walked-far (s .s .a) (s .s .b) (s .s .d) (at .before .struct-known .given .0) (start at .pre .0) (some at) (s .k) (s .x) (start at .pre .1 .0) (start at .pre .1 .1) (sym (at .precedes .ensures) ∙ c .before .if2 .taken))
+    (walked-far (s .s .a) (s .s .b) (s .s .d) (at .before .struct-known .given .0) (start at .pre .0) (some at) (s .k) (s .x) (start at .pre .1 .0) (start at .pre .1 .1) (sym (at .precedes .ensures) ∙ on .if2 .taken))
 
--- src/reals.rt:205:5
 count-on-requires-2 : tie.Need-count-on-requires-2
 count-on-requires-2 c κs = search needs
 
--- src/reals.rt:192:1
 returns-3 : tie.Need-returns-3
 returns-3 c =
     let at = c .before .before in
@@ -68,6 +66,7 @@ count-spec =
     has-entries-requires
     returns
     precedes-requires
+    stride-requires
     count-on-requires
     returns-2
     count-on-requires-2

@@ -1,3 +1,4 @@
+-- `linspace::reals::entry_kept` meets its contract. Assumes nothing.
 use mathlib.Core.Path.{_≡_, ap, _∙_}
 use Prim.Native.Nat.{ℕ, _+_, _-_}
 use native.Mathlib.Omega.{arith}
@@ -8,27 +9,19 @@ use Rattle.linspace.proofs.Counts.{entry-of, entry-beyond}
 use borrow.Author.Needs.{needs}
 use Rattle.linspace.proofs.reals.entry_kept.Statement.{statement}
 use Rattle.linspace.proofs.reals.entry_kept.Tie as tie
-use Rattle.linspace.proofs.reals.entry_kept.Reads as reads
-use Rattle.linspace.proofs.reals.entry_kept.Lts as lts
-use Rattle.linspace.proofs.reals.advance.Reads as advance-reads
-use Rattle.linspace.proofs.reals.nearest_kept.Reads as nearest-kept-reads
 
--- src/reals.rt:376:13
 abbrev start : (c : tie.After-advance) → tie.Start
 start c = c .before .before .before .before
 
 nearest-kept-requires : tie.Need-nearest-kept-requires
 nearest-kept-requires c κs = search needs
 
--- src/reals.rt:377:50
 sub-advance : tie.Need-sub-advance
 sub-advance c = search needs
 
--- src/reals.rt:377:32
 advance-requires : tie.Need-advance-requires
 advance-requires c κs = search needs
 
--- src/reals.rt:377:9
 returns : tie.Need-returns
 returns c =
     let s = start c .args in
@@ -37,7 +30,6 @@ returns c =
     ap given (c .advance .ensures ∙ ap (after (plusStep (s .s .d)) (s .k - near .nearest-kept .result .n)) (near .nearest-kept .ensures .1) ∙ after-more (plusStep (s .s .d)) (s .k - near .nearest-kept .result .n) (near .nearest-kept .result .n) (s .s .a) ∙ ap (λ (n : ℕ). after (plusStep (s .s .d)) n (s .s .a)) i)
     ∙ entry-of (s .s .a) (s .s .b) (s .s .d) (start c .pre .1 .1) (s .k) (near .before .if1 .taken)
 
--- src/reals.rt:368:1
 returns-2 : tie.Need-returns-2
 returns-2 c = let s = c .before .args in entry-beyond (s .s .a) (s .s .b) (s .s .d) (c .before .pre .1 .1) (s .k) (c .if1 .left)
 

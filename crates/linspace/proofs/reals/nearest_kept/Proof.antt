@@ -1,41 +1,32 @@
+-- `linspace::reals::nearest_kept` meets its contract. Assumes nothing.
 use mathlib.Core.Path.{refl}
 use native.Mathlib.Omega.{arith}
 use Rattle.linspace.specs.RealSteps.{after}
 use borrow.Author.Needs.{needs}
 use Rattle.linspace.proofs.reals.nearest_kept.Statement.{statement}
 use Rattle.linspace.proofs.reals.nearest_kept.Tie as tie
-use Rattle.linspace.proofs.reals.nearest_kept.Reads as reads
-use Rattle.linspace.proofs.reals.nearest_kept.Lts as lts
 
--- src/reals.rt:355:8
 mul-if1 : tie.Need-mul-if1
 mul-if1 c = search needs
 
--- src/reals.rt:356:26
 mul-t7 : tie.Need-mul-t7
 mul-t7 c = search needs
 
--- src/reals.rt:356:9
 returns : tie.Need-returns
 returns c = search needs
 
--- src/reals.rt:358:8
 mul-if2 : tie.Need-mul-if2
 mul-if2 c = search needs
 
--- src/reals.rt:359:26
 mul-t8 : tie.Need-mul-t8
 mul-t8 c = search needs
 
--- src/reals.rt:359:9
 returns-2 : tie.Need-returns-2
 returns-2 c = search needs
 
--- src/reals.rt:362:9
 returns-3 : tie.Need-returns-3
 returns-3 c = search needs
 
--- src/reals.rt:350:1
 returns-4 : tie.Need-returns-4
 unfolding after
 returns-4 c = (omega arith, refl)

@@ -1,3 +1,4 @@
+-- `linspace::reals::walk_along` meets its contract. Assumes nothing.
 use mathlib.Core.Path.{_≡_, sym, ap, subst, _∙_}
 use mathlib.Core.Bool.{false}
 use Prim.Native.Nat.{ℕ, _<_, _≤_}
@@ -7,34 +8,25 @@ use Rattle.linspace.proofs.Axis.{size-against, size-long, size-is}
 use borrow.Author.Needs.{needs}
 use Rattle.linspace.proofs.reals.walk_along.Statement.{statement}
 use Rattle.linspace.proofs.reals.walk_along.Tie as tie
-use Rattle.linspace.proofs.reals.walk_along.Reads as reads
-use Rattle.linspace.proofs.reals.walk_along.Lts as lts
-use Rattle.linspace.proofs.reals.keep_sums.Reads as keep-sums-reads
-use Rattle.linspace.proofs.reals.leads_away.Reads as leads-away-reads
 
--- src/reals.rt:227:8
 onward : (c : tie.After-keep-sums) → let s = c .before .before .before .args .s in against real (s .a) (s .b) (s .d) ≡ false
 onward c = let no = c .before in sym (no .before .leads-away .ensures) ∙ no .if1 .left
 
 leads-away-requires : tie.Need-leads-away-requires
 leads-away-requires c κs = search needs
 
--- src/reals.rt:228:9
 returns : tie.Need-returns
 returns c = let s = c .before .before .args .s in (size-against (s .a) (s .b) (s .d) (sym (c .before .leads-away .ensures) ∙ c .if1 .taken), tt)
 
--- src/reals.rt:230:9
 keep-sums-requires : tie.Need-keep-sums-requires
 keep-sums-requires c κs = (sym (c .before .leads-away .ensures) ∙ c .if1 .left, c .before .before .pre)
 
--- src/reals.rt:232:9
 returns-2 : tie.Need-returns-2
 returns-2 c =
     let w = c .before .before in
     let s = w .before .before .before .args .s in
     (size-long (s .a) (s .b) (s .d) (onward w) (subst (λ (n : ℕ). 65536 < n) (w .keep-sums .ensures .0) (c .if2 .taken)), tt)
 
--- src/reals.rt:223:1
 returns-3 : tie.Need-returns-3
 returns-3 c =
     let w = c .before .before in
