@@ -15,4 +15,5 @@ pub mod Ahead
 pub mod RealMarks
 pub mod Turned
 pub mod Mirror
+pub mod Ends
 pub mod Worked
