@@ -187,11 +187,14 @@ pub struct Drawn<N> {
     pub n: u64,
 }
 
-/// How many entries a random axis has: few as a rule, so that there can be many axes.
+/// How many entries a random axis has: few as a rule, so that there can be many axes. The list of
+/// answers to be replayed, which is written without the library, has no middling ones.
 fn entries(random: &mut Random) -> u64 {
     match random.below(5_000) {
         0 => 65_534 + random.below(5),
         1..=20 => random.below(3_000),
+        #[cfg(feature = "library")]
+        21..=270 => 20 + random.below(600),
         _ => random.below(20),
     }
 }

@@ -78,7 +78,8 @@ module _ {A : Type 0} (kind : Kind A) (a b d : A) where
       ∷ []
       ) (nth (stepped kind a b d) k)
 
-  -- ---- `index_of`: the index that the chosen search finds for v; 9 for a NaN, which is what does not equal itself
+  -- ---- `index_of`: the index that the chosen search finds for v; 9 for a NaN, which is what does not equal itself,
+  -- where the list has an entry and the search is not the exact one
   unfoldable pub stepIndexOf : A → RoundingMethod → Answer ℕ
   stepIndexOf v method =
       lowest (

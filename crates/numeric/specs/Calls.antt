@@ -78,7 +78,7 @@ unfoldable pub pointAt : KeyPoints → ℕ → Answer ℤ
 pointAt p i = cond (ltb i (p .count) && isI32 (element (p .first) (p .step) i)) (given (element (p .first) (p .step) i)) none
 
 -- ---- RangedCoordusize: the integer form on usize, whose ends are naturals. Its marks are those of the whole axis with the same ends,
--- none of which is below zero (`index-whole` of proofs/Index).
+-- none of which is below zero (`index-whole` of proofs/Theorems).
 abbrev pub indexMarks : ℕ → ℕ → ℕ → List ℕ
 indexMarks a b m = map natAbs (marks (pos a) (pos b) m)
 

@@ -18,9 +18,9 @@ numberOf TooFar = 5
 numberOf StepAgainstAxis = 6
 -- a stepped list that is too long, or longer than the list lent for it
 numberOf ListTooLong = 7
--- a searched list that neither rises nor falls throughout
+-- a searched list that neither rises nor falls throughout, or has a NaN
 numberOf NotMonotone = 8
--- a NaN to search for
+-- a NaN to search for, other than exactly, in a list with an entry
 numberOf NanTarget = 9
 -- a value above the largest i32
 numberOf AboveI32 = 10

@@ -60,7 +60,7 @@ steppedAxis kind a b d = record {
   noStep = λ m. eqb m 0 && hasEntries (stepped kind a b d);
 }
 
--- a search of the list; none but the exact one is made for a NaN, which is what does not equal itself
+-- a search of the list; in one with an entry none but the exact one is made for a NaN, which is what does not equal itself
 abbrev pub steppedFinder : {A : Type 0} → Kind A → A → A → A → RoundingMethod → Finder A
 steppedFinder kind a b d method = record {
   index = λ v. search (kind .numbers) v method (stepped kind a b d);
