@@ -12,7 +12,7 @@ use Rattle.ranged1d.specs.Answer.{Answer, given, none, refused}
 use Rattle.search.proofs.RealOrder.{real-order}
 use Rattle.linspace.specs.List.{real, entries, most, toward, run, stepped, against}
 use Rattle.linspace.specs.Calls.{hasEntries, nth, stepSize, stepFromIndex}
-use Rattle.linspace.specs.RealSteps.{plusStep, after, Walked, Reached}
+use Rattle.linspace.specs.RealSteps.{plusStep, Walked}
 use Rattle.linspace.proofs.Walks.{nth-is, nth-past, entries-on, entries-few, entry-is, total-ends}
 
 or-none : (b : Bool) → (b || false) ≡ b
@@ -115,43 +115,3 @@ module _ (a b d : Float) where
   pub size-is : against real a b d ≡ false → length (stepped real a b d) ≤ 65536 → given (length (stepped real a b d)) ≡ stepSize real a b d
   unfolding stepSize
   size-is e h = rw (e, le-ltb 65536 (length (stepped real a b d)) h) refl
-
-  -- ---- `from_index`
-  module _ (k : ℕ) where
-    pub entry-against : against real a b d ≡ true → _≡_ {A = Answer Float} (refused 6) (stepFromIndex real a b d k)
-    unfolding stepFromIndex
-    entry-against e = rw e refl
-
-    module _ (e : against real a b d ≡ false) where
-      pub entry-none : hasEntries (stepped real a b d) ≡ false → _≡_ {A = Answer Float} none (stepFromIndex real a b d k)
-      unfolding stepFromIndex
-      entry-none s = rw (e, stepped-empty s) refl
-
-      pub entry-long : 65536 < length (stepped real a b d) → _≡_ {A = Answer Float} (refused 7) (stepFromIndex real a b d k)
-      unfolding stepFromIndex
-      entry-long h = rw (e, lt-ltb 65536 (length (stepped real a b d)) h) refl
-
-      short : length (stepped real a b d) ≤ 65536 → nth (stepped real a b d) k ≡ stepFromIndex real a b d k
-      unfolding stepFromIndex
-      short h = rw (e, le-ltb 65536 (length (stepped real a b d)) h) refl
-
-      pub entry-past : length (stepped real a b d) ≤ 65536 → length (stepped real a b d) ≤ k → _≡_ {A = Answer Float} none (stepFromIndex real a b d k)
-      entry-past h l = sym (nth-past (stepped real a b d) k l) ∙ short h
-
-      -- the walk stands at entry k
-      pub entry-given : (n : ℕ) (x : Float) → hasEntries (stepped real a b d) ≡ true → length (stepped real a b d) ≤ 65536 → k < length (stepped real a b d)
-          → Reached (toward real (lt a b) b) (plusStep d) 65537 a k n x → given x ≡ stepFromIndex real a b d k
-      entry-given n x s h l r = sym (nth-is (stepped real a b d) k x l ∙ ap (λ (m : List Float). given (getD m k x)) (stepped-run s) ∙ ap given (entry-is p next 65537 a x k (rw (← stepped-total s) l) ∙ sym at)) ∙ short h
-        where
-          p : Float → Bool
-          p = toward real (lt a b) b
-
-          next : Float → Float
-          next = plusStep d
-
-          here : Dec (n < k) → n ≡ k
-          here (yes u) = absurd (omega (arith, u, h, l, r .walked .rest, stepped-total s, total-ends p next 65537 n x (r .ended (omega (arith, h, l, r .upTo)) (λ e. omega (arith, u, e)))))
-          here (no u) = omega (arith, u, r .upTo)
-
-          at : x ≡ after next k a
-          at = r .walked .at ∙ ap (λ (j : ℕ). after next j a) (here (decLt n k))

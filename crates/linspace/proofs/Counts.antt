@@ -51,7 +51,10 @@ module _ (a b d : Float) where
       let k = rules.counted real a b d (counts-are ∙ e) in
       record { onward = k .onward; all = sym (k .size); few = omega (arith, ltb-false 65536 (length l) (k .short), k .size) }
 
-  -- ---- an entry of a list that was counted
+  -- ---- `from_index`, of a list that is refused and of one that was counted
+  pub from-refused : {n : ℕ} → stepSize real a b d ≡ refused n → (k : ℕ) → stepFromIndex real a b d k ≡ refused n
+  from-refused e k = sym (rules.from-is real a b d refl k) ∙ ap (λ (s : Answer ℕ). onceListed s (nthOf l (given k))) (counts-are ∙ e)
+
   module _ {n : ℕ} (e : stepSize real a b d ≡ given n) (k : ℕ) where
     from-counted : nth l k ≡ stepFromIndex real a b d k
     from-counted = sym (ap (λ (s : Answer ℕ). onceListed s (nthOf l (given k))) (counts-are ∙ e)) ∙ rules.from-is real a b d refl k

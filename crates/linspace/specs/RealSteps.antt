@@ -48,12 +48,6 @@ module _ {A : Type 0} (passes : A → Bool) (next : A → A) (most : ℕ) (a : A
     pub within : n ≤ most
     pub rest : length (entries passes next most a) ≡ n + length (entries passes next (most - n) x)
 
-  -- the walk stands at entry k, unless the list ends before it
-  pub record Reached (k n : ℕ) (x : A) : Type 0 where
-    pub walked : Walked n x
-    pub upTo : n ≤ k
-    pub ended : n < most → (n ≡ k → ⊥) → passes x ≡ false
-
   -- the walk stands at the first entry that the test fails, unless the list ends before it; left is the entry before it
   pub record Parted (test : A → Bool) (n : ℕ) (left x : A) : Type 0 where
     pub walked : Walked n x

@@ -10,7 +10,7 @@ ghost use Rattle.real.specs.Place.{tellPlace};
 ghost use Rattle.real.specs.Reading.{tellReading};
 ghost use Rattle.linspace.specs.List.{real, entries, stepped, against, toward};
 ghost use Rattle.linspace.specs.Calls.{tellListed, hasEntries, stepValues, stepSize, stepFromIndex, stepIndexOf, stepPlace, stepReading, stepKeyPoints};
-ghost use Rattle.linspace.specs.RealSteps.{plusStep, after, onward, Ahead, Passed, Reached, Parted};
+ghost use Rattle.linspace.specs.RealSteps.{plusStep, after, onward, Ahead, Passed, Parted};
 ghost use Rattle.linspace.specs.Walks.{tellWalk, PassedBy};
 use crate::Linspacef64;
 use crate::Listed;
@@ -116,27 +116,6 @@ fn count_on(rises: bool, s: Steps, x: f64, k: usize) -> usize
         n += 1;
     }
     n
-}
-
-// Walks to entry k.
-fn reach(rises: bool, s: Steps, k: u64) -> Spot
-    ensures { λ r. ⌜ Reached (toward real rises (s .b)) (plusStep (s .d)) 65537 (s .a) k (r .n) (r .x) ⌝ }
-{
-    let b = s.b;
-    let d = s.d;
-    let mut n = 0;
-    let mut x = s.a;
-    while n < 65537 {
-        if n as u64 == k {
-            return Spot { n, x };
-        }
-        if !precedes(rises, x, b) {
-            return Spot { n, x };
-        }
-        x = x + d;
-        n += 1;
-    }
-    Spot { n, x }
 }
 
 // Walks to the first entry that does not come before t.
@@ -268,37 +247,6 @@ fn counted(s: Steps) -> Count
         Walk::Refused(r) => Count::Refused(r),
         Walk::Of(w) => Count::Of(w.n as u64),
     }
-}
-
-// Entry k, the list being walked once.
-fn entry_along(s: Steps, k: u64) -> RealReading
-    requires { ⌜ against real (s .a) (s .b) (s .d) ≡ false ⌝ }
-    requires { ⌜ hasEntries (stepped real (s .a) (s .b) (s .d)) ≡ true ⌝ }
-    ensures { λ r. ⌜ tellReading r ≡ stepFromIndex real (s .a) (s .b) (s .d) k ⌝ }
-{
-    let rises = s.a < s.b;
-    let w = reach(rises, s, k);
-    let n = count_on(rises, s, w.x, w.n);
-    if 65536 < n {
-        return RealReading::Refused(Refusal::ListTooLong);
-    }
-    if k < n as u64 {
-        return RealReading::At(w.x);
-    }
-    RealReading::Nothing
-}
-
-// Entry k, or why the list is refused.
-fn entry_at(s: Steps, k: u64) -> RealReading
-    ensures { λ r. ⌜ tellReading r ≡ stepFromIndex real (s .a) (s .b) (s .d) k ⌝ }
-{
-    if leads_away(s) {
-        return RealReading::Refused(Refusal::StepAgainstAxis);
-    }
-    if !has_entries(s) {
-        return RealReading::Nothing;
-    }
-    entry_along(s, k)
 }
 
 // The index of v, the list being walked once.
@@ -447,7 +395,12 @@ impl Linspacef64 {
     pub fn from_index(self, k: u64) -> RealReading
         ensures { λ r. ⌜ tellReading r ≡ stepFromIndex real (self .inner .0) (self .inner .1) (self .step) k ⌝ }
     {
-        entry_at(self.steps(), k)
+        let s = self.steps();
+        let h = quarter(s);
+        match walk_along(s, h) {
+            Walk::Refused(r) => RealReading::Refused(r),
+            Walk::Of(w) => entry_kept(s, w, h, k),
+        }
     }
 
     // The index of v by the search. An empty list answers for every v as for a NaN.
