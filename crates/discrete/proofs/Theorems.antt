@@ -8,10 +8,10 @@ use native.Mathlib.Nat.{div-mul-le-self, lt-div-mul-add, div-le-of-le-mul, mul-l
 use native.Mathlib.Omega.{arith}
 use lib.Dec.{T}
 use lib.Ieee.Bits.{is-true}
-use lib.IntN.{ℤ, pos, negsuc, negℤ, natAbs, _+ℤ_, _-ℤ_, _*ℤ_, +ℤ-idl, +ℤ-comm, +ℤ-assoc, +ℤ-invl, negℤ-+ℤ, negℤ-negℤ, -ℤ-+ℤ-cancel}
+use lib.IntN.{ℤ, pos, negsuc, negℤ, natAbs, _+ℤ_, _-ℤ_, _*ℤ_, +ℤ-idl, +ℤ-assoc, +ℤ-invl, negℤ-negℤ, -ℤ-+ℤ-cancel}
 use lib.Signed.{nonNeg, quotZ, _≤ℤ_, _<ℤ_, leZ-yes, ltZ-yes, <ℤ-irrefl}
 use mir.Facts.{yes-leb, yes-ltb}
-use Rattle.ranged1d.proofs.Whole.{neg-far, times-far, neg-times, ordered, lt-not, other-way}
+use Rattle.ranged1d.proofs.Whole.{turned-far, times-far, neg-times, ordered, lt-not, other-way}
 use Rattle.discrete.specs.Index.{floorDiv, raised, isZero, indexBy}
 use Rattle.discrete.proofs.Floor.{floor-negated, cut-raised}
 use Rattle.discrete.proofs.Index.{quotient-size}
@@ -45,16 +45,13 @@ nearer p x q h k =
     let sum = both-sizes (q -ℤ x) (x -ℤ p) (ordered x q (is-true _ (k .le))) (ordered p x (is-true _ (h .le))) in
     (omega (arith, sum, ap natAbs (past p x q)), omega (arith, sum, ap natAbs (past p x q)))
 
-turned : (x y : ℤ) → natAbs (x -ℤ y) ≡ natAbs (y -ℤ x)
-turned x y = sym (neg-far (x -ℤ y)) ∙ ap natAbs (negℤ-+ℤ x (negℤ y) ∙ ap (λ (z : ℤ). negℤ x +ℤ z) (negℤ-negℤ y) ∙ +ℤ-comm (negℤ x) y)
-
 -- x lies between p and q, which stand in either order
 abbrev pub Between : ℤ → ℤ → ℤ → Type 0
 Between p x q = ((p ≤ℤ x) × (x ≤ℤ q)) ⊎ ((q ≤ℤ x) × (x ≤ℤ p))
 
 pub index-at-most : (x p q : ℤ) (n : ℕ) → Between p x q → indexBy (x -ℤ p) (q -ℤ p) n ≤ n
 index-at-most x p q n b =
-    at-most (x -ℤ p) (q -ℤ p) n (⊎-elim (λ h. nearer p x q (h .0) (h .1) .0) (λ h. omega (arith, turned x p, turned q p, nearer q x p (h .0) (h .1) .1)) b)
+    at-most (x -ℤ p) (q -ℤ p) n (⊎-elim (λ h. nearer p x q (h .0) (h .1) .0) (λ h. omega (arith, turned-far x p, turned-far q p, nearer q x p (h .0) (h .1) .1)) b)
 
 -- ---- limits the other way round: the index is that of the negated distances
 pub index-negated : (d w : ℤ) (n : ℕ) → indexBy (negℤ d) (negℤ w) n ≡ indexBy d w n

@@ -1,18 +1,14 @@
 -- Numbers in fields, taken one after the other. Assumes nothing.
 use mathlib.Core.Path.{_≡_, refl, sym, ap, _∙_}
 use mathlib.Core.List.{List, [], _∷_, _++_, append-assoc, append-nil}
-use Prim.Native.Nat.{ℕ, zero, suc, _+_, _-_, _≤_, _<_}
+use Prim.Native.Nat.{ℕ, suc, _+_, _-_, _<_}
 use native.Mathlib.Numerals.{add-one}
 use native.Mathlib.Omega.{arith}
-use lib.IntN.{ℤ, pos}
-use lib.ListN.{length, take, drop, set, length-drop}
-use lib.Seq.{take-all, take-suc-set, drop-drop}
+use lib.IntN.{ℤ}
+use lib.ListN.{length, take, drop, set}
+use lib.Seq.{take-all, take-suc-set}
 use Rattle.ranged1d.specs.Answer.{Answer, given, none, refused}
 use Rattle.line.specs.Line.{andThen, wholeField, wholeFields}
-
--- a part of a slice that reaches to its end
-pub rest-is : (a : ℕ) (l : List ℕ) → take (length l - a) (drop a l) ≡ drop a l
-rest-is a l = take-all (length l - a) (drop a l) (omega (arith, length-drop a l))
 
 -- numbers that were taken before
 abbrev pub prepend : List ℤ → Answer (List ℤ × List ℕ) → Answer (List ℤ × List ℕ)

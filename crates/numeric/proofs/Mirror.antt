@@ -1,23 +1,23 @@
 -- The mirror theorem for marks: `mirror` proves what specs/Mirror states. Assumes nothing.
 use mathlib.Core.Path.{_≡_, refl, sym, ap, ap₂, _∙_, subst}
-use mathlib.Core.Logic.{_⊎_, inl, inr, _↔_}
+use mathlib.Core.Logic.{_⊎_, inl, inr}
 use mathlib.Core.Bool.{Bool, true, false, cond, not, _&&_}
-use mathlib.Core.List.{List, [], _∷_, _++_, map, reverse}
+use mathlib.Core.List.{List, [], _∷_, _++_, map}
 use Prim.Native.Nat.{ℕ, zero, suc, _+_, _-_, _*_, _/_, _%_, _≤_, _<_}
 use native.Mathlib.Nat.{zero-mod, zero-div, suc-mul, div-add-mod', div-mul-le-self, le-div-iff-mul-le, mod-lt, le-trans, mul-le-mul-right}
 use native.Mathlib.Omega.{arith}
-use borrow.Author.Tests.{leb-true, leb-false, ltb-true, eqb-true, eqb-false, lt-ltb, le-leb}
+use borrow.Author.Tests.{leb-true, leb-false, ltb-true, eqb-true, eqb-false, lt-ltb}
 use lib.Arith.{digits-div}
-use lib.Dec.{T, leb, ltb, eqb}
+use lib.Dec.{T, leb, eqb}
 use lib.IntN.{ℤ, pos, negsuc, negℤ, natAbs, _+ℤ_, _*ℤ_, +ℤ-comm, negℤ-negℤ}
 use lib.ListN.{length, length-append, length-map, length-reverse}
-use lib.Signed.{leZ, ltZ, quotZ, _≤ℤ_, _<ℤ_}
-use Rattle.ranged1d.specs.Answer.{Answer, given, none, refused, _when_, lowest}
+use lib.Signed.{leZ, ltZ, quotZ, _<ℤ_}
+use Rattle.ranged1d.specs.Answer.{Answer, given, _when_, lowest}
 use Rattle.ranged1d.specs.Admitted.{wholeAdmitted}
-use Rattle.ranged1d.proofs.Whole.{neg-far, other-way, both-ways, neg-le, neg-lt-zero, neg-times}
-use Rattle.numeric.specs.Marks.{low, high, distance, stepAt, chosen, ceilDiv, firstIndex, lastIndex, howMany, multiple, multiples, listOf, noStepFor, stepFor, marksFor, noStep, stepOf, marks}
+use Rattle.ranged1d.proofs.Whole.{neg-far, other-way, both-ways, neg-le, neg-lt, neg-times}
+use Rattle.numeric.specs.Marks.{low, high, distance, stepAt, chosen, ceilDiv, firstIndex, lastIndex, multiple, multiples, noStepFor, stepFor, marksFor, noStep, stepOf, marks}
 use Rattle.numeric.specs.Calls.{wholeKeyPoints}
-use Rattle.numeric.specs.Mirror.{mirrored, nearest, nearestZero, Divides, NextTowardZero, OneMore, stepOnly, tooShort, Mirrored}
+use Rattle.numeric.specs.Mirror.{mirrored, nearest, Divides, NextTowardZero, OneMore, stepOnly, tooShort, Mirrored}
 use Rattle.numeric.proofs.Signs.{yes-le, yes-lt, lt-yes, above-neg, neg-order, below-all}
 use Rattle.numeric.proofs.Steps.{step-pos}
 use Rattle.numeric.proofs.Reflect.{reflect, one-more, mirrored-cons}
@@ -168,10 +168,10 @@ strip false true v z n = refl
 strip false false true z n = refl
 strip false false false z n = refl
 
-length-mirrored : (l : List ℤ) → length (mirrored l) ≡ length l
+pub length-mirrored : (l : List ℤ) → length (mirrored l) ≡ length l
 length-mirrored l = length-reverse (map negℤ l) ∙ length-map l negℤ
 
-one-longer : {s : ℕ} {z : ℤ} {more fewer : List ℤ} → OneMore s z more fewer → length more ≡ length fewer + 1
+pub one-longer : {s : ℕ} {z : ℤ} {more fewer : List ℤ} → OneMore s z more fewer → length more ≡ length fewer + 1
 one-longer {s} {z} {more} {fewer} o = ap length (o .others-match) ∙ length-append (mirrored fewer) (o .extra ∷ []) ∙ ap (λ (n : ℕ). n + 1) (length-mirrored fewer)
 
 by-half : (s : ℕ) (lo hi : ℤ) → (Divides s (nearest lo hi) → ⊥) → (hi <ℤ pos 0) ⊎ (pos 0 <ℤ lo)
@@ -254,7 +254,7 @@ module _ (a b : ℤ) (m : ℕ) where
         (subst (λ (x : ℤ). OneMore s (negℤ (negℤ hi)) (marksBy x (negℤ (negℤ hi)) s) (marksBy (negℤ hi) (negℤ lo) s)) (negℤ-negℤ lo)
         (above-more s s-pos (negℤ hi) (negℤ lo) (neg-le hi lo ∙ ends-in-order)
         (λ d. e (rw (nearest-below lo hi ends-in-order h) (ap (λ (n : ℕ). n % s) (sym (neg-far hi)) ∙ d)))
-        (neg-lt-zero hi ∙ lt-yes h))))
+        (neg-lt (pos 0) hi ∙ lt-yes h))))
 
     divided : marks (negℤ a) (negℤ b) m ≡ mirrored (marks a b m) → Divides s (nearest lo hi)
     divided e = go (eqb (natAbs (nearest lo hi) % s) 0) refl

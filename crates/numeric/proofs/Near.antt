@@ -1,18 +1,17 @@
 -- How near the marks of an accepted axis lie to it: each is admitted, and it lies at most eleven times as far from either end as the
 -- ends are apart. So every mark has a place. Assumes nothing.
-use mathlib.Core.Path.{_≡_, refl, sym, ap, ap₂, _∙_, subst}
+use mathlib.Core.Path.{_≡_, sym, ap, _∙_, subst}
 use mathlib.Core.Bool.{Bool, true, false, cond}
-use mathlib.Core.List.{List, [], _∷_}
 use Prim.Native.Nat.{ℕ, zero, suc, _+_, _-_, _*_, _/_, _%_, _≤_, _<_, max}
-use native.Mathlib.Nat.{le-trans, add-mul, div-mul-le-self, div-add-mod', lt-div-mul-add, mul-le-mul-right, mod-lt, zero-mul, suc-mul, add-zero}
+use native.Mathlib.Nat.{le-trans, add-mul, div-mul-le-self, div-add-mod', lt-div-mul-add, mul-le-mul-right, zero-mul}
 use native.Mathlib.Decide.{decLe}
 use native.Mathlib.Omega.{arith}
 use borrow.Author.Tests.{leb-true, leb-false, eq-eqb}
 use lib.Dec.{T, leb, ltb, eqb, leb→le, eqb→eq}
-use lib.IntN.{ℤ, pos, negsuc, negℤ, natAbs, subℕ, _+ℤ_, _-ℤ_, _*ℤ_, +ℤ-comm, +ℤ-assoc, +ℤ-negℤ-cancel, +ℤ-invr, +ℤ-idr, -ℤ-+ℤ-cancel, negℤ-+ℤ, negℤ-negℤ}
-use lib.ListN.{getD, length}
+use lib.IntN.{ℤ, pos, negsuc, negℤ, natAbs, subℕ, _+ℤ_, _-ℤ_, _*ℤ_, +ℤ-comm, +ℤ-assoc, +ℤ-negℤ-cancel, -ℤ-+ℤ-cancel, negℤ-+ℤ}
+use lib.ListN.{length}
 use lib.Signed.{leZ, pos-natAbs}
-use Rattle.ranged1d.proofs.Whole.{sub-cases, neg-far, minus-far, neg-times, times-far, ordered}
+use Rattle.ranged1d.proofs.Whole.{turned-far, sub-cases, neg-far, neg-times, times-far, ordered}
 use Rattle.ranged1d.specs.Answer.{given}
 use Rattle.numeric.specs.declared.KeyPoints.{KeyPoints}
 use Rattle.numeric.proofs.Lists.{length-of}
@@ -21,7 +20,7 @@ use Rattle.numeric.proofs.Plans.{one-near, Good, planned-good}
 use Rattle.numeric.proofs.Mirror.{low-high}
 use Rattle.numeric.proofs.NoStep.{differ}
 use Rattle.ranged1d.proofs.Table.{both, both-left, both-right, at}
-use Rattle.numeric.specs.Marks.{low, high, distance, stepAt, powerOfTen, ceilDiv, serves, chosen, firstIndex, lastIndex, howMany, listOf, multiple, stepFor, marksFor}
+use Rattle.numeric.specs.Marks.{low, high, distance, stepAt, powerOfTen, ceilDiv, chosen, firstIndex, lastIndex, howMany, listOf, multiple, stepFor, marksFor}
 use Rattle.numeric.specs.Calls.{wholePlan, planOf, element}
 use Rattle.numeric.proofs.Steps.{steps, step-pos}
 use Rattle.numeric.proofs.Reflect.{many-pos, many-turned}
@@ -189,10 +188,7 @@ module _ (a b : ℤ) (m : ℕ) (ha : natAbs a ≤ 1000000000) (hb : natAbs b ≤
     -- the end a is the one or the other
     either : (t : Bool) → (natAbs (v -ℤ cond t a b) ≤ 11 * natAbs (cond t b a -ℤ cond t a b)) × (natAbs (v -ℤ cond t b a) ≤ 11 * natAbs (cond t b a -ℤ cond t a b)) → natAbs (v -ℤ a) ≤ 11 * natAbs (b -ℤ a)
     either true e = e .0
-    either false e = rw (turned a b) (e .1)
-      where
-        turned : (x y : ℤ) → natAbs (y -ℤ x) ≡ natAbs (x -ℤ y)
-        turned x y = sym (neg-far (y -ℤ x)) ∙ ap natAbs (negℤ-+ℤ y (negℤ x) ∙ ap (λ (z : ℤ). negℤ y +ℤ z) (negℤ-negℤ x) ∙ +ℤ-comm (negℤ y) x)
+    either false e = rw (turned-far b a) (e .1)
 
     near-a : 0 < distance lo hi → natAbs (v -ℤ a) ≤ 11 * natAbs (b -ℤ a)
     unfolding lo hi

@@ -1,9 +1,10 @@
 -- `firstIndex` and `howMany` by the sign of their argument, as the code tests it; the order of numbers below zero. Assumes nothing.
-use mathlib.Core.Path.{_≡_, refl, sym, ap, _∙_, subst}
-use mathlib.Core.Bool.{Bool, true, false}
+use mathlib.Core.Path.{_≡_, refl, sym, _∙_, subst}
+use mathlib.Core.Bool.{true, false}
 use Prim.Native.Nat.{ℕ, zero, suc, _-_, _≤_, _<_}
 use native.Mathlib.Omega.{arith}
 use lib.Dec.{T}
+use lib.Ieee.Bits.{is-true}
 use lib.IntN.{ℤ, pos, negsuc, negℤ, natAbs, _+ℤ_, _-ℤ_}
 use lib.Signed.{leZ, ltZ, quotZ, _≤ℤ_, _<ℤ_}
 use borrow.Author.Tests.{ltb-true, lt-ltb, le-leb}
@@ -35,10 +36,6 @@ yes-le e = record { le = subst T (sym e) tt }
 
 pub yes-lt : {x y : ℤ} → ltZ x y ≡ true → x <ℤ y
 yes-lt e = record { lt = subst T (sym e) tt }
-
-is-true : (t : Bool) → T t → t ≡ true
-is-true true h = refl
-is-true false h = absurd h
 
 pub le-yes : {x y : ℤ} → x ≤ℤ y → leZ x y ≡ true
 le-yes h = is-true _ (h .le)

@@ -1,16 +1,17 @@
 -- Whole numbers: how far from 0 a sum, a difference, a product or a quotient lies, what fits an i32 or an i64, and what a test of
 -- order says. Assumes nothing.
 use mathlib.Core.Path.{_≡_, refl, sym, ap, _∙_, subst}
-use mathlib.Core.Bool.{Bool, true, false, cond}
+use mathlib.Core.Bool.{Bool, true, false, cond, not}
 use Prim.Native.Nat.{ℕ, zero, suc, _+_, _-_, _*_, _/_, _≤_, _<_}
 use native.Mathlib.Nat.{div-le-self, zero-mul}
 use native.Mathlib.Omega.{arith}
 use lib.Dec.{T, ltb, leb, leb·zero, leb·suc-zero, leb·suc-suc}
-use lib.IntN.{ℤ, pos, negsuc, negℤ, natAbs, subℕ, _+ℤ_, _-ℤ_, _*ℤ_, +ℤ-idl, negℤ-negℤ}
+use lib.IntN.{ℤ, pos, negsuc, negℤ, natAbs, subℕ, _+ℤ_, _-ℤ_, _*ℤ_, +ℤ-comm, +ℤ-assoc, +ℤ-idl, +ℤ-negℤ-cancel, negℤ-+ℤ, negℤ-negℤ}
 use lib.Signed.{leZ, ltZ, quotZ, nonNeg, natAbs-le}
 use borrow.Author.Tests.{ltb-true, ltb-false, leb-true, leb-false, le-leb, lt-leb}
 use mir.Syntax.{w32, w64}
 use mir.Val.{SFits}
+use Rattle.ranged1d.specs.Admitted.{wholeAdmitted}
 
 -- a − b is below 0 or not
 pub sub-cases : (a b : ℕ) (P : ℤ → Type 0) → (a < b → P (negsuc (b - suc a))) → (b ≤ a → P (pos (a - b))) → P (subℕ a b)
@@ -37,6 +38,9 @@ neg-far (negsuc n) = refl
 
 pub minus-far : (x y : ℤ) → natAbs (x -ℤ y) ≤ natAbs x + natAbs y
 minus-far x y = omega (arith, add-far x (negℤ y), neg-far y)
+
+pub turned-far : (x y : ℤ) → natAbs (x -ℤ y) ≡ natAbs (y -ℤ x)
+turned-far x y = sym (neg-far (x -ℤ y)) ∙ ap natAbs (negℤ-+ℤ x (negℤ y) ∙ ap (λ (z : ℤ). negℤ x +ℤ z) (negℤ-negℤ y) ∙ +ℤ-comm (negℤ x) y)
 
 -- 0 − z
 pub zero-minus-far : (z : ℤ) → natAbs (pos 0 -ℤ z) ≡ natAbs z
@@ -92,6 +96,13 @@ lt-not (pos a) (negsuc b) h = absurd (subst T (sym h) tt)
 lt-not (negsuc a) (pos b) h = refl
 lt-not (negsuc a) (negsuc b) h = lt-leb a b (ltb-true b a h)
 
+lt-le : (x y : ℤ) → ltZ x y ≡ not (leZ y x)
+lt-le x y = go (ltZ x y) refl
+  where
+    go : (b : Bool) → ltZ x y ≡ b → b ≡ not (leZ y x)
+    go true h = rw (lt-not x y h)
+    go false h = rw (not-lt x y h)
+
 -- hi − lo is not negative
 pub ordered : (lo hi : ℤ) → leZ lo hi ≡ true → T (nonNeg (hi -ℤ lo))
 ordered (pos zero) (pos b) h = tt
@@ -134,10 +145,18 @@ neg-le (negsuc a) (pos zero) = leb·suc-zero a
 neg-le (negsuc a) (pos (suc b)) = refl
 neg-le (negsuc a) (negsuc b) = leb·suc-suc a b
 
-pub neg-lt-zero : (x : ℤ) → ltZ (pos 0) (negℤ x) ≡ ltZ x (pos 0)
-neg-lt-zero (pos zero) = refl
-neg-lt-zero (pos (suc a)) = sym (leb·suc-zero (suc a))
-neg-lt-zero (negsuc a) = leb·suc-suc 0 a ∙ leb·zero a
+pub neg-lt : (x y : ℤ) → ltZ (negℤ x) (negℤ y) ≡ ltZ y x
+neg-lt x y = lt-le (negℤ x) (negℤ y) ∙ ap not (neg-le y x) ∙ sym (lt-le y x)
+
+pub admitted-neg : (z : ℤ) → wholeAdmitted (negℤ z) ≡ wholeAdmitted z
+admitted-neg z = ap (λ (n : ℕ). leb n 1_000_000_000) (neg-far z)
+
+pub minus-shift : (a x y : ℤ) → (a +ℤ x) -ℤ (a +ℤ y) ≡ x -ℤ y
+minus-shift a x y =
+    ap (λ (z : ℤ). a +ℤ x +ℤ z) (negℤ-+ℤ a y)
+    ∙ ap (λ (z : ℤ). z +ℤ (negℤ a +ℤ negℤ y)) (+ℤ-comm a x)
+    ∙ sym (+ℤ-assoc (x +ℤ a) (negℤ a) (negℤ y))
+    ∙ ap (λ (z : ℤ). z +ℤ negℤ y) (+ℤ-negℤ-cancel x a)
 
 pub neg-times : (x : ℤ) (s : ℕ) → negℤ x *ℤ pos s ≡ negℤ (x *ℤ pos s)
 neg-times (pos zero) s = ap pos (zero-mul s) ∙ sym (ap (λ (n : ℕ). negℤ (pos n)) (zero-mul s))

@@ -10,6 +10,7 @@ use lib.IntN.{ℤ}
 use lib.ListN.{length, take, drop, replicate, length-replicate}
 use lib.Seq.{drop-drop, drop-at}
 use borrow.Author.Tests.{ltb-true, lt-ltb, le-ltb}
+use Rattle.ranged1d.proofs.Bools.{both-true}
 use Rattle.numeric.specs.declared.KeyPoints.{KeyPoints}
 use Rattle.numeric.specs.Marks.{listOf}
 use Rattle.numeric.specs.Calls.{planOf, element}
@@ -27,7 +28,7 @@ use Rattle.ruler.proofs.Lists.{drop-take}
 use Rattle.ruler.proofs.Records.{run-at}
 use Rattle.ruler.proofs.Index.{index-found}
 use Rattle.ruler.proofs.Drawn.{ruler-rest}
-use Rattle.ruler.proofs.Reader.{and-true, ruler-in, Known, known-long, known-marks}
+use Rattle.ruler.proofs.Reader.{ruler-in, Known, known-long, known-marks}
 
 -- ---- where the record of v lies
 module _ {l : List ℕ} {d : Draft} {p : KeyPoints} (v : ℤ) (k : Known l d p) where
@@ -58,7 +59,7 @@ pub record Marked (l : List ℕ) (v : ℤ) : Type 0 where
 pub marked : (l : List ℕ) (v : ℤ) → hasMark l v ≡ true → Marked l v
 unfolding hasMark
 marked l v h =
-    let both = and-true (isRuler l) (ltb (indexOf v (marksIn l)) (length (marksIn l))) h in
+    let both = both-true (isRuler l) (ltb (indexOf v (marksIn l)) (length (marksIn l))) h in
     record {
       known = record { ruler = both .0; draft = refl; plan = ruler-in l (both .0) .0; bytes = ruler-in l (both .0) .1 };
       index = ltb-true _ _ (both .1);
@@ -179,6 +180,6 @@ index-in v (x ∷ xs) w = go (eqZ x v) refl (List·Memᴰ·cases-cons w) (index-
 pub marks-found : (l : List ℕ) (v : ℤ) → (hasMark l v ≡ true) ↔ ((isRuler l ≡ true) × List·Memᴰ v (marksIn l))
 unfolding hasMark
 marks-found l v = (
-  λ h. let both = and-true (isRuler l) (ltb (indexOf v (marksIn l)) (length (marksIn l))) h in (both .0, found-in v (marksIn l) (ltb-true _ _ (both .1))),
+  λ h. let both = both-true (isRuler l) (ltb (indexOf v (marksIn l)) (length (marksIn l))) h in (both .0, found-in v (marksIn l) (ltb-true _ _ (both .1))),
   λ h. rw (h .0, lt-ltb _ _ (index-in v (marksIn l) (h .1))),
 )

@@ -5,15 +5,16 @@ use mathlib.Core.List.{List, [], _∷_, _++_, map, reverse, reverse-cons, map-ap
 use mathlib.Core.Logic.{_⊎_, inl, inr}
 use Prim.Native.Nat.{ℕ, _+_, _*_, _%_}
 use native.Mathlib.Omega.{arith}
-use lib.Dec.{T, leb, eqb}
+use lib.Dec.{T, eqb}
 use lib.IntN.{ℤ, pos, negℤ, natAbs, negℤ-negℤ}
-use lib.ListN.{length, length-append, length-map, length-reverse}
+use lib.ListN.{length, length-append}
 use lib.Signed.{_<ℤ_}
 use borrow.Author.Tests.{eqb-true, eqb-false}
 use Rattle.ranged1d.specs.Answer.{Answer, given, none, refused, _when_, lowest}
 use Rattle.ranged1d.specs.Admitted.{wholeAdmitted, limitAdmitted}
 use Rattle.ranged1d.specs.declared.Limit.{Limit}
-use Rattle.ranged1d.proofs.Whole.{neg-far}
+use Rattle.ranged1d.proofs.Bools.{both-true}
+use Rattle.ranged1d.proofs.Whole.{admitted-neg}
 use Rattle.numeric.specs.Marks.{low, high, noStep, stepOf, marks}
 use Rattle.numeric.specs.Mirror.{mirrored, nearestZero, Divides}
 use Rattle.numeric.specs.Mirror as of-marks
@@ -21,13 +22,13 @@ use Rattle.numeric.proofs.Mirror as marks
 use Rattle.real.specs.Place.{wholePlace}
 use Rattle.real.specs.Mirror as film
 use Rattle.real.proofs.Mirror as places
+use Rattle.real.proofs.Readings.{limit-neg}
 use Rattle.ruler.specs.Bytes.{Record, axis, mark, laid, joined}
 use Rattle.ruler.specs.Place.{placeIn, placeOf}
 use Rattle.ruler.specs.Rule.{markAt, recordsOf, rulerBytes, rulerWrite, hasRuler}
 use Rattle.ruler.specs.Mirror.{negated, turned, Verdict, verdict, accepted, stopped, tooShort, OneMore, Mirrored}
 use Rattle.ruler.proofs.Records.{mark-long, axis-long}
 use Rattle.ruler.proofs.Drawn.{has-plan, ruler-long}
-use Rattle.ruler.proofs.Reader.{and-true}
 
 -- ---- the place of the mirror is the negated place
 place-turned : (r : Answer ℤ) → placeIn (film.negated r) ≡ negℤ (placeIn r)
@@ -87,29 +88,17 @@ marks-long a b limit (v ∷ l) =
     length-append (laid (markAt a b limit v)) (joined (map (markAt a b limit) l))
     ∙ omega (arith, mark-long v (placeOf a b limit v), marks-long a b limit l)
 
-length-mirrored : (l : List ℤ) → length (mirrored l) ≡ length l
-length-mirrored l = length-reverse (map negℤ l) ∙ length-map l negℤ
-
-one-longer : {s : ℕ} {z : ℤ} {more fewer : List ℤ} → of-marks.OneMore s z more fewer → length more ≡ length fewer + 1
-one-longer {s} {z} {more} {fewer} o = ap length (o .others-match) ∙ length-append (mirrored fewer) (o .extra ∷ []) ∙ ap (λ (n : ℕ). n + 1) (length-mirrored fewer)
-
 -- ---- refusals
 module _ (a b : ℤ) (limit : Limit) (m : ℕ) where
   abbrev −limit : Limit
   −limit = film.mirrored limit
 
-  whole-same : (z : ℤ) → wholeAdmitted (negℤ z) ≡ wholeAdmitted z
-  whole-same z = ap (λ (n : ℕ). leb n 1_000_000_000) (neg-far z)
-
-  film-same : limitAdmitted −limit ≡ limitAdmitted limit
-  film-same = ap₂ (λ (x y : ℕ). leb x 1_000_000 && leb y 1_000_000) (neg-far (limit .0)) (neg-far (limit .1))
-
   ends-same : (wholeAdmitted (negℤ a) && wholeAdmitted (negℤ b)) ≡ (wholeAdmitted a && wholeAdmitted b)
-  ends-same = ap₂ _&&_ (whole-same a) (whole-same b)
+  ends-same = ap₂ _&&_ (admitted-neg a) (admitted-neg b)
 
   ruler-same : hasRuler (negℤ a) (negℤ b) −limit m ≡ hasRuler a b limit m
   unfolding hasRuler
-  ruler-same = ap₂ (λ (x y : Bool). x && y) ends-same (ap₂ (λ (x y : Bool). x && not y) film-same (marks.mirror a b m .same-refusal))
+  ruler-same = ap₂ (λ (x y : Bool). x && y) ends-same (ap₂ (λ (x y : Bool). x && not y) (limit-neg limit) (marks.mirror a b m .same-refusal))
 
   by : Bool → Bool → Bool → Bool → Verdict
   by t u v w = cond t (stopped 1) (cond u (stopped 2) (cond v (stopped 3) (cond w (stopped 13) accepted)))
@@ -126,7 +115,7 @@ module _ (a b : ℤ) (limit : Limit) (m : ℕ) where
   unfolding rulerWrite
   verdict-same old old′ e =
       by-tests (not (wholeAdmitted (negℤ a) && wholeAdmitted (negℤ b))) (not (limitAdmitted −limit)) (noStep (negℤ a) (negℤ b) m) (tooShort (negℤ a) (negℤ b) −limit m old′) _ _
-      ∙ ap₂ (λ (x y : Bool). by (not x) (not y) (noStep (negℤ a) (negℤ b) m) (tooShort (negℤ a) (negℤ b) −limit m old′)) ends-same film-same
+      ∙ ap₂ (λ (x y : Bool). by (not x) (not y) (noStep (negℤ a) (negℤ b) m) (tooShort (negℤ a) (negℤ b) −limit m old′)) ends-same (limit-neg limit)
       ∙ ap₂ (λ (x y : Bool). by (not (wholeAdmitted a && wholeAdmitted b)) (not (limitAdmitted limit)) x y) (marks.mirror a b m .same-refusal) (sym e)
       ∙ sym (by-tests (not (wholeAdmitted a && wholeAdmitted b)) (not (limitAdmitted limit)) (noStep a b m) (tooShort a b limit m old) _ _)
 
@@ -134,7 +123,7 @@ module _ (a b : ℤ) (limit : Limit) (m : ℕ) where
   module _ (h : hasRuler a b limit m ≡ true) where
     served : noStep a b m ≡ false
     unfolding hasRuler
-    served = go (noStep a b m) (and-true (limitAdmitted limit) (not (noStep a b m)) (and-true (wholeAdmitted a && wholeAdmitted b) (limitAdmitted limit && not (noStep a b m)) h .1) .1)
+    served = go (noStep a b m) (both-true (limitAdmitted limit) (not (noStep a b m)) (both-true (wholeAdmitted a && wholeAdmitted b) (limitAdmitted limit && not (noStep a b m)) h .1) .1)
       where
         go : (t : Bool) → not t ≡ true → t ≡ false
         go true e = absurd (subst T (sym e) tt)
@@ -161,7 +150,7 @@ module _ (a b : ℤ) (limit : Limit) (m : ℕ) where
     turned-long =
         let l = marks a b m in
         length-append (laid (axis (negℤ a) (negℤ b) −limit m (pos (stepOf a b m)))) (joined (reverse (map negated (map (markAt a b limit) l))))
-        ∙ ap₂ (λ (x y : ℕ). x + y) (axis-long (negℤ a) (negℤ b) −limit m (pos (stepOf a b m))) (ap (λ (rs : List Record). length (joined rs)) (sym (marks-turned a b limit l)) ∙ marks-long (negℤ a) (negℤ b) −limit (mirrored l) ∙ ap (λ (n : ℕ). 20 * n) (length-mirrored l))
+        ∙ ap₂ (λ (x y : ℕ). x + y) (axis-long (negℤ a) (negℤ b) −limit m (pos (stepOf a b m))) (ap (λ (rs : List Record). length (joined rs)) (sym (marks-turned a b limit l)) ∙ marks-long (negℤ a) (negℤ b) −limit (mirrored l) ∙ ap (λ (n : ℕ). 20 * n) (marks.length-mirrored l))
 
     lengths : rulerBytes (negℤ a) (negℤ b) −limit m ≡ joined (turned (recordsOf a b limit m)) → length (marks (negℤ a) (negℤ b) m) ≡ length (marks a b m)
     lengths e = omega (arith, ap length e, turned-long, ruler-long (negℤ a) (negℤ b) −limit m (has-plan (negℤ a) (negℤ b) −limit m (ruler-same ∙ h)))
@@ -170,8 +159,8 @@ module _ (a b : ℤ) (limit : Limit) (m : ℕ) where
     divided e = go (eqb (natAbs (nearestZero a b) % stepOf a b m) 0) refl
       where
         no-half : (Divides (stepOf a b m) (nearestZero a b) → ⊥) → (high a b <ℤ pos 0) ⊎ (pos 0 <ℤ low a b) → ⊥
-        no-half f (inl l) = let n = one-longer (marks.mirror a b m .one-more-below served f l) in omega (arith, lengths e)
-        no-half f (inr l) = let n = one-longer (marks.mirror a b m .one-more-above served f l) in omega (arith, lengths e)
+        no-half f (inl l) = let n = marks.one-longer (marks.mirror a b m .one-more-below served f l) in omega (arith, lengths e)
+        no-half f (inr l) = let n = marks.one-longer (marks.mirror a b m .one-more-above served f l) in omega (arith, lengths e)
 
         go : (t : Bool) → eqb (natAbs (nearestZero a b) % stepOf a b m) 0 ≡ t → Divides (stepOf a b m) (nearestZero a b)
         go true q = eqb-true _ _ q

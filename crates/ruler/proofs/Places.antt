@@ -9,6 +9,7 @@ use lib.ListN.{length, getD}
 use Rattle.ranged1d.specs.Answer.{Answer, given, _when_, lowest}
 use Rattle.ranged1d.specs.Admitted.{wholeAdmitted, limitAdmitted}
 use Rattle.ranged1d.specs.declared.Limit.{Limit}
+use Rattle.ranged1d.proofs.Bools.{both-true}
 use Rattle.numeric.specs.Marks.{marks, noStep}
 use Rattle.numeric.specs.Calls.{wholePlan, planOf, element}
 use Rattle.numeric.proofs.Lists.{entry}
@@ -17,12 +18,11 @@ use Rattle.numeric.proofs.Places.{mark-placed}
 use Rattle.real.specs.Place.{wholePlace}
 use Rattle.ruler.specs.Place.{placeIn, placeOf}
 use Rattle.ruler.specs.Rule.{hasRuler}
-use Rattle.ruler.proofs.Reader.{and-true}
 
 module _ (a b : ℤ) (limit : Limit) (m : ℕ) (h : hasRuler a b limit m ≡ true) where
   pub film : limitAdmitted limit ≡ true
   unfolding hasRuler
-  film = and-true (limitAdmitted limit) (not (noStep a b m)) (and-true (wholeAdmitted a && wholeAdmitted b) (limitAdmitted limit && not (noStep a b m)) h .1) .0
+  film = both-true (limitAdmitted limit) (not (noStep a b m)) (both-true (wholeAdmitted a && wholeAdmitted b) (limitAdmitted limit && not (noStep a b m)) h .1) .0
 
   plan : wholePlan a b m ≡ given (planOf a b m)
   unfolding hasRuler wholePlan

@@ -4,9 +4,9 @@ use mathlib.Core.Bool.{Bool, true, false, cond, _&&_}
 use mathlib.Core.List.{List}
 use Prim.Native.Nat.{ℕ, _+_, _*_, _<_}
 use native.Mathlib.Omega.{arith}
-use lib.Dec.{T}
 use lib.ListN.{length}
 use Rattle.ranged1d.specs.Answer.{Answer, given, refused}
+use Rattle.ranged1d.proofs.Bools.{both-true}
 use Rattle.numeric.specs.declared.KeyPoints.{KeyPoints}
 use Rattle.numeric.specs.Marks.{listOf}
 use Rattle.numeric.specs.Calls.{planOf, element}
@@ -19,11 +19,6 @@ use Rattle.ruler.specs.Rule.{aIn, bIn, limitIn, mIn, marksIn, rulerBytes
 use Rattle.ruler.specs.Steps.{seenBy, draftIn, seenOf}
 use Rattle.ruler.proofs.Lists.{same-yes, same-no}
 use Rattle.ruler.proofs.Drawn.{Drawn, is-drawn, none-drawn, has-plan, ruler-long}
-
-pub and-true : (x y : Bool) → (x && y) ≡ true → (x ≡ true) × (y ≡ true)
-and-true true true h = (refl, refl)
-and-true true false h = absurd (subst T (sym h) tt)
-and-true false y h = absurd (subst T (sym h) tt)
 
 abbrev pub bytesOf : Draft → List ℕ
 bytesOf d = rulerBytes (d .a) (d .b) (d .limit) (d .m)
@@ -61,7 +56,7 @@ seen-in l = refl
 pub ruler-in : (l : List ℕ) → isRuler l ≡ true → (planFor (draftIn l) ≡ given (planOf (aIn l) (bIn l) (mIn l))) × (l ≡ bytesOf (draftIn l))
 unfolding isRuler
 ruler-in l h =
-    let both = and-true (hasRuler (aIn l) (bIn l) (limitIn l) (mIn l)) (sameBytes l (bytesOf (draftIn l))) h in
+    let both = both-true (hasRuler (aIn l) (bIn l) (limitIn l) (mIn l)) (sameBytes l (bytesOf (draftIn l))) h in
     (has-plan _ _ _ _ (both .0), same-equal l (bytesOf (draftIn l)) (both .1))
 
 -- what is known of bytes that were seen to be a ruler

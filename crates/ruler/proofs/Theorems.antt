@@ -16,6 +16,7 @@ use borrow.Author.Tests.{leb-true}
 use Rattle.ranged1d.specs.Answer.{Answer, given, none, refused}
 use Rattle.ranged1d.specs.Admitted.{pixelAdmitted, limitAdmitted}
 use Rattle.ranged1d.specs.declared.Limit.{Limit}
+use Rattle.ranged1d.proofs.Bools.{both-true}
 use Rattle.ranged1d.proofs.Whole.{fits32}
 use Rattle.numeric.specs.declared.KeyPoints.{KeyPoints}
 use Rattle.numeric.specs.Marks.{stepOf, marks}
@@ -30,12 +31,12 @@ use Rattle.ruler.proofs.Numbers.{word-back, number-back}
 use Rattle.ruler.proofs.Lists.{same-yes}
 use Rattle.ruler.proofs.Drawn.{is-drawn, has-plan, ruler-is, ruler-long, marks-long, marksRun, write-refused, write-none, write-short, write-fits}
 use Rattle.ruler.proofs.Places.{film}
-use Rattle.ruler.proofs.Reader.{and-true, bytesOf, Known, ruler-in, read-known, read-nothing}
+use Rattle.ruler.proofs.Reader.{bytesOf, Known, ruler-in, read-known, read-nothing}
 
 -- ---- the numbers in a ruler are its own
 limit-fits : (limit : Limit) → limitAdmitted limit ≡ true → SFits w32 (limit .0) × SFits w32 (limit .1)
 limit-fits limit h =
-    let both = and-true (pixelAdmitted (limit .0)) (pixelAdmitted (limit .1)) h in
+    let both = both-true (pixelAdmitted (limit .0)) (pixelAdmitted (limit .1)) h in
     (fits32 (limit .0) (omega (arith, leb-true (natAbs (limit .0)) 1000000 (both .0))), fits32 (limit .1) (omega (arith, leb-true (natAbs (limit .1)) 1000000 (both .1))))
 
 abbrev drawnFor : ℤ → ℤ → Limit → ℕ → Draft

@@ -3,15 +3,15 @@ use mathlib.Core.Path.{_≡_, refl, sym, ap, _∙_, subst}
 use mathlib.Core.List.{List}
 use Prim.Native.Nat.{ℕ, _+_, _-_, _≤_}
 use native.Mathlib.Omega.{arith}
-use lib.IntN.{ℤ}
 use lib.ListN.{length, take, drop, set, length-set, length-drop}
 use lib.Seq.{drop-drop}
 use mir.Facts.{toZ-ofZ}
-use Rattle.ranged1d.specs.Answer.{given, none}
+use Rattle.ranged1d.specs.Answer.{given}
 use Rattle.line.specs.Line.{wholeField, wholeFields}
 use Rattle.line.specs.Steps.{tellPart, Inside}
 use Rattle.line.specs.declared.Part.{Part}
-use Rattle.line.proofs.Fields.{rest-is, prepend, prepend-none, more-fields, no-fields, all-fields}
+use Rattle.ranged1d.proofs.Pieces.{rest-is}
+use Rattle.line.proofs.Fields.{prepend, prepend-none, more-fields, no-fields, all-fields}
 use borrow.Author.Needs.{needs}
 use Rattle.line.proofs.four_fields.Statement.{statement}
 use Rattle.line.proofs.four_fields.Tie as tie

@@ -1,8 +1,7 @@
 -- `line::read_line` meets its contract. Assumes nothing.
 use mathlib.Core.Path.{_≡_, sym, ap, _∙_}
-use mathlib.Core.Bool.{Bool, true, false}
-use mathlib.Core.List.{List}
-use Prim.Native.Nat.{ℕ, suc, _+_, _-_}
+use mathlib.Core.Bool.{true}
+use Prim.Native.Nat.{ℕ, suc, _+_}
 use native.Mathlib.Nat.{sub-zero}
 use native.Mathlib.Numerals.{add-one}
 use native.Mathlib.Omega.{arith}
@@ -13,7 +12,7 @@ use Rattle.decimal.specs.Read.{sameBytes}
 use Rattle.decimal.proofs.Texts.{same-is}
 use Rattle.line.specs.Line.{keyword, word, parseNumbers, parseLine}
 use Rattle.line.proofs.Words.{word-front}
-use Rattle.line.proofs.Fields.{rest-is}
+use Rattle.ranged1d.proofs.Pieces.{rest-is}
 use borrow.Author.Needs.{needs}
 use Rattle.line.proofs.read_line.Statement.{statement}
 use Rattle.line.proofs.read_line.Tie as tie

@@ -1,19 +1,17 @@
 -- `line::read_numbers` meets its contract. Assumes nothing.
 use mathlib.Core.Path.{_≡_, sym, ap, _∙_}
-use mathlib.Core.Bool.{Bool, true, false, cond}
+use mathlib.Core.Bool.{Bool, false, cond}
 use mathlib.Core.List.{List}
 use Prim.Native.Nat.{ℕ}
-use native.Mathlib.Omega.{arith}
 use borrow.Author.Tests.{not-true, not-false}
-use lib.IntN.{ℤ, pos}
+use lib.IntN.{pos}
 use lib.ListN.{getD, drop}
 use mir.Facts.{toZ-ofZ}
 use Rattle.ranged1d.specs.Answer.{given, none}
 use Rattle.decimal.specs.declared.Natural.{Natural}
 use Rattle.decimal.specs.Read.{tellNatural, readU32}
 use Rattle.line.specs.Line.{andThen, wholeFields, requestOf, parseNumbers}
-use Rattle.line.specs.Steps.{tellFour}
-use Rattle.line.proofs.Fields.{rest-is}
+use Rattle.ranged1d.proofs.Pieces.{rest-is}
 use borrow.Author.Needs.{needs}
 use Rattle.line.proofs.read_numbers.Statement.{statement}
 use Rattle.line.proofs.read_numbers.Tie as tie

@@ -1,0 +1,11 @@
+-- What a test that is put together of two says of each. Assumes nothing.
+use mathlib.Core.Path.{_≡_, refl, sym}
+use mathlib.Core.Bool.{Bool, true, false, true≢false, _&&_, _||_}
+
+pub both-true : (x y : Bool) → (x && y) ≡ true → (x ≡ true) × (y ≡ true)
+both-true true y h = (refl, h)
+both-true false y h = absurd (true≢false (sym h))
+
+pub both-false : (x y : Bool) → (x || y) ≡ false → (x ≡ false) × (y ≡ false)
+both-false true y h = absurd (true≢false h)
+both-false false y h = (refl, h)
