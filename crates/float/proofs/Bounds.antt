@@ -1,20 +1,21 @@
 -- A shortened number stays near the number: from a size below 2 ^ 53 it goes no further than 2 ^ 53 + 2, since each level
 -- adds at most 2 to a floor. Assumes nothing.
 use mathlib.Core.Path.{_≡_, refl, sym, ap, _∙_, subst}
-use mathlib.Core.Bool.{Bool, true, false, not, cond, _&&_, _||_, true≢false}
+use mathlib.Core.Bool.{Bool, true, false, not, cond, true≢false}
 use Prim.Native.Nat.{ℕ, zero, suc, _+_, _-_, _*_, _^_, _≤_, _<_}
-use native.Mathlib.Nat.{mul-one, mul-comm, mul-assoc, mul-right-comm, mul-pos, mul-le-mul-right, le-of-mul-le-mul-right, le-trans, le-of-eq, zero-lt-suc}
+use native.Mathlib.Nat.{mul-one, mul-right-comm, mul-pos, mul-le-mul-right, le-trans, le-of-eq}
 use native.Mathlib.Omega.{arith}
-use lib.Dec.{T, ltb, eqb, ltb→lt, eqb→eq}
+use lib.Dec.{ltb}
 use lib.IntN.{ℤ}
-use lib.Ieee.{Float, nan, inf, fin, up, down, binary64, Format, prec, emax, low, lt, le, eq, neg, round, odd, units, sum, add, sub, mul, div, ofBits, isNan, fits}
-use lib.Ieee.Fits.{down-pos, round-is, mul-fits}
+use lib.Ieee.{Float, nan, inf, fin, up, down, binary64, lt, le, neg, round, sum, add, sub, mul, div, ofBits, isNan, fits}
+use lib.Ieee.Fits.{down-pos, mul-fits}
+use lib.Ieee.Bits.{is-true}
 use lib.Ieee.Exact.{HasValue}
 use lib.Ieee.Back.{round-whole}
-use lib.Ieee.Order.{round-mono}
 use borrow.Author.Tests.{ltb-true}
 use Rattle.rounding.specs.Integral.{Way, floors, ceils, sized, integral, floorOf, ceilOf}
-use Rattle.rounding.proofs.Laws.{round-neg}
+use Rattle.rounding.proofs.Small as small
+use Rattle.rounding.proofs.Small.{chosen, rounded, add-small}
 use Rattle.rounding.proofs.Quotients.{sized-le}
 use Rattle.rounding.proofs.Value.{integral-value, floor-value, Floor}
 use Rattle.float.specs.declared.Shortened.{Shortened}
@@ -27,59 +28,20 @@ use Rattle.float.specs.Steps.{AtMost}
 abbrev pub Small : ℕ → Float → Type 0
 Small C x = (signOf x ≡ false) × AtMost C x
 
+-- the same, of either sign, as rounding/proofs/Small has it
+held : (C : ℕ) (x : Float) → small.Small C x → AtMost C x
+held C (fin s m e) w = w
+
+back : (C : ℕ) (x : Float) → AtMost C x → small.Small C x
+back C (fin s m e) w = w
+
 -- ---- a rounded fraction of at most C, where C rounds to itself
-sign-cond : (b : Bool) (x y : Float) (s : Bool) → signOf x ≡ s → signOf y ≡ s → signOf (cond b x y) ≡ s
-sign-cond true x y s p q = p
-sign-cond false x y s p q = q
-
-sign-odd : (d : ℕ) (s : Bool) (q k l : ℕ) → signOf (odd d s q k l) ≡ s
-unfolding odd
-sign-odd d s zero k l = refl
-sign-odd d s (suc q) k l = refl
-
-sign-units : (f : Format) (s : Bool) (q k : ℕ) → signOf (units f s q k) ≡ s
-unfolding units
-sign-units f s q k = sign-cond (ltb (q * 2 ^ k) (2 ^ (low f + suc (emax f)))) (odd (suc (prec f)) s q k (low f)) (inf s) s (sign-odd (suc (prec f)) s q k (low f)) refl
-
 sign-round : (s : Bool) (a b : ℕ) → signOf (round binary64 s a b) ≡ s
-sign-round s a b = rw (round-is binary64 s a b) (sign-units binary64 s _ _)
-
-or-le : (x y : ℕ) (b : Bool) → T (ltb x y || (eqb x y && b)) → x ≤ y
-or-le x y b t = go (ltb x y) (eqb x y) (ltb→lt x y) (eqb→eq x y) t
-  where
-    go : (p q : Bool) → (T p → x < y) → (T q → x ≡ y) → T (p || (q && b)) → x ≤ y
-    go true q f g t = let h = f tt in omega arith
-    go false true f g t = let h = g tt in omega arith
-    go false false f g t = absurd t
-
-under : (C : ℕ) (x y : Float) → signOf x ≡ false → HasValue y false C 1 → T (le x y) → AtMost C x
-unfolding le lt eq
-under C x nan s v t = absurd v
-under C x (inf u) s v t = absurd v
-under C nan (fin u n d) s v t = absurd t
-under C (inf true) (fin u n d) s v t = absurd (true≢false s)
-under C (inf false) (fin u n d) s v t = absurd t
-under C (fin true m e) (fin u n d) s v t = absurd (true≢false s)
-under C (fin false m e) (fin true n d) s v t = absurd (true≢false (v .0))
-under C (fin false m e) (fin false n d) s v t =
-    let l : m * up e * down d ≤ n * up d * down e = or-le (m * up e * down d) (n * up d * down e) _ t in
-    let q : n * up d * down e ≡ C * down e * down d = ap (λ (z : ℕ). z * down e) (sym (mul-one (n * up d)) ∙ v .1) ∙ mul-right-comm C (down d) (down e) in
-    le-of-mul-le-mul-right (le-trans l (le-of-eq q)) (down-pos d)
+sign-round s = rounded (λ (x : Float). signOf x ≡ s) binary64 s (λ m e. refl) refl
 
 module _ (C : ℕ) (exact : HasValue (round binary64 false C 1) false C 1) where
   pub round-small : (a b : ℕ) → 0 < b → a ≤ C * b → Small C (round binary64 false a b)
-  round-small a b p h =
-      (sign-round false a b, under C (round binary64 false a b) (round binary64 false C 1) (sign-round false a b) exact (round-mono binary64 a b C 1 p (zero-lt-suc 0) (rw (mul-one a) h)))
-
-within-neg : (C : ℕ) (x : Float) → AtMost C x → AtMost C (neg x)
-unfolding neg
-within-neg C nan w = w
-within-neg C (inf s) w = w
-within-neg C (fin s m e) w = w
-
-round-within : (C : ℕ) → HasValue (round binary64 false C 1) false C 1 → (s : Bool) (a b : ℕ) → 0 < b → a ≤ C * b → AtMost C (round binary64 s a b)
-round-within C v false a b p h = round-small C v a b p h .1
-round-within C v true a b p h = subst (AtMost C) (sym (round-neg binary64 false a b)) (within-neg C (round binary64 false a b) (round-small C v a b p h .1))
+  round-small a b p h = (sign-round false a b, held C (round binary64 false a b) (small.round-small binary64 C exact false a b p h))
 
 pub wider : (C D : ℕ) (x : Float) → C ≤ D → AtMost C x → AtMost D x
 wider C D nan l w = w
@@ -123,9 +85,6 @@ near-floor : (s : Bool) (n d k : ℕ) → Floor s n d k → (s ≡ false → k *
 near-floor false n d k f = ((λ h. f .0), (λ h. absurd (true≢false (sym h))), omega (arith, f .1), omega (arith, f .0))
 near-floor true n d k f = ((λ h. absurd (true≢false h)), (λ h. f .0), omega (arith, f .0), omega (arith, f .1))
 
-scale-le : (a b c : ℕ) → a ≤ b → a * c ≤ b * c
-scale-le a b c h = mul-le-mul-right c h
-
 less-floor : (s : Bool) (m : ℕ) (e : ℤ) (y : Float) (k : ℕ) → HasValue y s k 1 → Floor s (m * up e) (down e) k → Small 1 (sub binary64 (fin s m e) y)
 unfolding sub add neg
 less-floor s m e nan k v f = absurd v
@@ -140,9 +99,9 @@ less-floor s m e (fin t n d) k v f =
     let x2 : (N + E) * D ≡ N * D + E * D = native.Mathlib.Nat.add-mul N E D in
     subst (λ (u : Bool). Small 1 (sum binary64 s (N * D) (not u) (n * up d * E) (E * D))) (sym (v .0))
     (subst (λ (z : ℕ). Small 1 (sum binary64 s (N * D) (not s) z (E * D))) (sym q)
-    (minus-small s (N * D) (k * E * D) (E * D) (mul-pos (down-pos e) (down-pos d)) (λ h. scale-le (k * E) N D (w .0 h)) (λ h. scale-le N (k * E) D (w .1 h))
-    (le-trans (scale-le N (k * E + E) D (w .2)) (le-of-eq x1))
-    (le-trans (scale-le (k * E) (N + E) D (w .3)) (le-of-eq x2))))
+    (minus-small s (N * D) (k * E * D) (E * D) (mul-pos (down-pos e) (down-pos d)) (λ h. mul-le-mul-right D (w .0 h)) (λ h. mul-le-mul-right D (w .1 h))
+    (le-trans (mul-le-mul-right D (w .2)) (le-of-eq x1))
+    (le-trans (mul-le-mul-right D (w .3)) (le-of-eq x2))))
 
 pub part-small : (C : ℕ) (x : Float) → fits binary64 x ≡ true → AtMost C x → Small 1 (sub binary64 x (floorOf x))
 part-small C nan t w = absurd w
@@ -167,38 +126,8 @@ tenth (fin false m e) w =
     round-small 2 (small-bound 2 (omega arith)) (m * up e * 1) (10 * down e) (omega (arith, down-pos e)) (omega (arith, w .1))
 
 -- ---- a sum
-sum-within : (C : ℕ) → HasValue (round binary64 false C 1) false C 1 → (s : Bool) (a : ℕ) (t : Bool) (b c : ℕ) → 0 < c → a + b ≤ C * c → AtMost C (sum binary64 s a t b c)
-unfolding sum
-sum-within C v true a true b c p h = round-within C v true (a + b) c p h
-sum-within C v false a false b c p h = round-within C v false (a + b) c p h
-sum-within C v true a false b c p h = go (ltb a b)
-  where
-    go : (x : Bool) → AtMost C (cond x (round binary64 false (b - a) c) (round binary64 (ltb b a) (a - b) c))
-    go true = round-within C v false (b - a) c p (omega arith)
-    go false = round-within C v (ltb b a) (a - b) c p (omega arith)
-sum-within C v false a true b c p h = go (ltb a b)
-  where
-    go : (x : Bool) → AtMost C (cond x (round binary64 true (b - a) c) (round binary64 false (a - b) c))
-    go true = round-within C v true (b - a) c p (omega arith)
-    go false = round-within C v false (a - b) c p (omega arith)
-
-cross : (n d C D : ℕ) → n ≤ C * d → n * D ≤ C * (d * D)
-cross n d C D h = le-trans (mul-le-mul-right D h) (le-of-eq (mul-assoc C d D))
-
 add-within : (A B C : ℕ) (x y : Float) → HasValue (round binary64 false C 1) false C 1 → A + B ≤ C → AtMost A x → AtMost B y → AtMost C (add binary64 x y)
-unfolding add
-add-within A B C nan y v h p q = absurd p
-add-within A B C (inf s) y v h p q = absurd p
-add-within A B C (fin s m e) nan v h p q = absurd q
-add-within A B C (fin s m e) (inf t) v h p q = absurd q
-add-within A B C (fin s m e) (fin t n d) v h p q =
-    let D = down d in
-    let E = down e in
-    let a : m * up e * D ≤ A * (E * D) = cross (m * up e) E A D p in
-    let b : n * up d * E ≤ B * (E * D) = le-trans (cross (n * up d) D B E q) (le-of-eq (ap (λ (z : ℕ). B * z) (mul-comm D E))) in
-    let c : (A + B) * (E * D) ≡ A * (E * D) + B * (E * D) = native.Mathlib.Nat.add-mul A B (E * D) in
-    sum-within C v s (m * up e * D) t (n * up d * E) (E * D) (mul-pos (down-pos e) (down-pos d))
-    (le-trans (omega arith) (mul-le-mul-right (E * D) h))
+add-within A B C x y v h p q = held C (add binary64 x y) (add-small binary64 C v A B x y h (back A x p) (back B y q))
 
 sign-sum : (a b c : ℕ) → signOf (sum binary64 false a false b c) ≡ false
 unfolding sum
@@ -216,18 +145,13 @@ add-sign A B (fin false m e) (fin false n d) p q = sign-sum (m * up e * down d) 
 
 -- ---- shortening
 choose : (P : Float → Type 0) (b : Bool) (r s : Shortened) → P (r .value) → P (s .value) → P (cond b r s .value)
-choose P true r s p q = p
-choose P false r s p q = q
+choose P b r s p q = chosen (λ (x : Shortened). P (x .value)) b p q
 
 inner-small : (C : ℕ) (x : Float) → fits binary64 x ≡ true → AtMost C x → Small 10 (inner x)
 inner-small C x t w = times-ten (sub binary64 x (floorOf x)) (part-small C x t w)
 
-pub T≡ : (b : Bool) → T b → b ≡ true
-T≡ true t = refl
-T≡ false t = absurd t
-
 inner-fits : (x : Float) → fits binary64 (inner x) ≡ true
-inner-fits x = T≡ (fits binary64 (inner x)) (mul-fits binary64 (sub binary64 x (floorOf x)) ten)
+inner-fits x = is-true (fits binary64 (inner x)) (mul-fits binary64 (sub binary64 x (floorOf x)) ten)
 
 below-ten : (k : ℕ) (x eps : Float) → fits binary64 x ≡ true → Small 10 x → Small 16 (shorten k x eps .value)
 unfolding shorten

@@ -1,7 +1,7 @@
 -- The definitions, opened case by case. Assumes nothing.
 use mathlib.Core.Path.{_≡_, refl, sym, ap, _∙_}
-use mathlib.Core.Bool.{Bool, true, false, cond, _&&_}
-use Prim.Native.Nat.{ℕ, zero, suc, _+_, _-_, _*_, _/_, _%_, _^_, _≤_, _<_, max}
+use mathlib.Core.Bool.{Bool, true, false, cond, _&&_, and-false}
+use Prim.Native.Nat.{ℕ, zero, suc, _+_, _-_, _*_, _/_, _%_, _^_, _≤_, _<_}
 use native.Mathlib.Nat.{pow-suc, pow-le-pow-right, zero-lt-suc}
 use native.Mathlib.Numerals.{sub-one}
 use native.Mathlib.Omega.{arith}
@@ -9,6 +9,7 @@ use lib.Dec.{eqb}
 use lib.Ieee.{Float, binary64, sub, mul, lt, le}
 use borrow.Author.Tests.{eq-eqb, ne-eqb, le-leb, lt-leb}
 use Rattle.rounding.specs.Integral.{floorOf, ceilOf}
+use Rattle.rounding.proofs.Small.{chosen}
 use Rattle.decimal.proofs.Digits.{tenth-small}
 use Rattle.float.specs.declared.Shortened.{Shortened}
 use Rattle.float.specs.declared.Parts.{Parts}
@@ -105,25 +106,14 @@ parts-trim n zero h l = absurd (h refl)
 parts-trim n (suc p) h l = rw (lt-leb (10 ^ suc p) (decimalsOf n (suc p)) l)
 
 -- ---- how long the tail is
-and-no : (a b : Bool) → b ≡ false → a && b ≡ false
-and-no true b h = h
-and-no false b h = refl
-
-no-and : (a b : Bool) → a ≡ false → a && b ≡ false
-no-and a b h = ap (λ (x : Bool). x && b) h
-
 pub length-e : (k e : ℕ) → k < e → tailLength k e ≡ 1 + e
-length-e k e h = rw (and-no (eqb k 0) (eqb e 0) (ne-eqb e 0 (λ z. omega arith))) (omega arith)
+length-e k e h = rw (ne-eqb e 0 (λ z. omega arith), and-false (eqb k 0)) (omega arith)
 
 pub length-0 : (k e : ℕ) → e ≤ k → k ≡ 0 → tailLength k e ≡ 0
 length-0 k e h z = let w : e ≡ 0 = omega arith in rw (eq-eqb k 0 z, eq-eqb e 0 w)
 
 pub length-k : (k e : ℕ) → e ≤ k → (k ≡ 0 → ⊥) → tailLength k e ≡ 1 + k
-length-k k e h z = rw (no-and (eqb k 0) (eqb e 0) (ne-eqb k 0 z)) (omega arith)
-
-choose-le : (b : Bool) (x y k : ℕ) → x ≤ k → y ≤ k → cond b x y ≤ k
-choose-le true x y k p q = p
-choose-le false x y k p q = q
+length-k k e h z = rw (ne-eqb k 0 z) (omega arith)
 
 pub tail-le : (k e : ℕ) → k ≤ 10 → e ≤ 20 → tailLength k e ≤ 21
-tail-le k e h l = choose-le (eqb k 0 && eqb e 0) 0 (1 + max k e) 21 (omega arith) (omega arith)
+tail-le k e h l = chosen (λ (n : ℕ). n ≤ 21) (eqb k 0 && eqb e 0) (omega arith) (omega arith)

@@ -8,6 +8,7 @@ use native.Mathlib.Omega.{arith}
 use lib.IntN.{pos, natAbs}
 use lib.Ieee.{Float, nan, inf, fin, up, down, binary64, sub, mul, ofInt, toUnsigned, fits}
 use Rattle.float.proofs.Cases.{pow-small}
+use lib.Ieee.Bits.{is-true}
 use lib.Ieee.Fits.{down-pos, mul-fits}
 use lib.Ieee.Exact.{HasValue}
 use Rattle.rounding.specs.Integral.{floors, halves, sized, floorOf, roundOf}
@@ -16,7 +17,7 @@ use Rattle.rounding.proofs.Quotients.{sized-le, sized-whole}
 use Rattle.rounding.proofs.Value.{integral-value}
 use Rattle.float.specs.Text.{sizeOf, wholePart, decimalsOf}
 use Rattle.float.specs.Steps.{AtMost}
-use Rattle.float.proofs.Bounds.{near, Small, round-small, wider, small-bound, part-small, T≡}
+use Rattle.float.proofs.Bounds.{near, Small, round-small, wider, small-bound, part-small}
 
 -- ---- the whole part
 quotient-le : (n d C : ℕ) → 0 < d → n ≤ C * d → n / d ≤ C
@@ -99,5 +100,5 @@ decimals-exact x p h t w =
     let m : N ≤ 2 ^ 53 = omega arith in
     let f = part-small near (sizeOf x) (size-fits x t) (size-at-most near x w) in
     let y = mul binary64 (sub binary64 (sizeOf x) (floorOf (sizeOf x))) (ofInt binary64 (pos N)) in
-    round-exact y (T≡ (fits binary64 y) (mul-fits binary64 (sub binary64 (sizeOf x) (floorOf (sizeOf x))) (ofInt binary64 (pos N))))
+    round-exact y (is-true (fits binary64 y) (mul-fits binary64 (sub binary64 (sizeOf x) (floorOf (sizeOf x))) (ofInt binary64 (pos N))))
     (small-wider N (2 ^ 53) y m (times N (sub binary64 (sizeOf x) (floorOf (sizeOf x))) (ofInt binary64 (pos N)) m f (small-bound N m)))

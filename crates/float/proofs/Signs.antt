@@ -1,21 +1,19 @@
 -- Signs and sizes from the tests of the code. Assumes nothing.
 use mathlib.Core.Path.{_≡_, refl, sym, _∙_}
-use mathlib.Core.Bool.{Bool, true, false, _&&_, true≢false}
-use Prim.Native.Nat.{ℕ, zero, suc, _+_, _*_, _^_, _≤_, _<_}
+use mathlib.Core.Bool.{Bool, true, false, true≢false}
+use Prim.Native.Nat.{ℕ, _+_, _*_, _^_, _≤_, _<_}
 use native.Mathlib.Omega.{arith}
 use lib.Dec.{eqb}
 use lib.IntN.{ℤ, pos}
 use lib.Ieee.{Float, nan, inf, fin, up, down, binary64, lt, eq, neg, div, isNan}
 use lib.Ieee.Fits.{up-pos, down-pos}
 use borrow.Author.Tests.{ltb-true, ltb-false, lt-ltb, le-ltb, eqb-true, eq-eqb}
+use Rattle.ranged1d.proofs.Bools.{both-true}
+use Rattle.rounding.proofs.Order.{eq-zero}
+use Rattle.rounding.proofs.Signs.{zeroF}
+use Rattle.rounding.proofs.Steps.{oneF}
 use Rattle.float.specs.Text.{signOf, sizeOf}
 use Rattle.float.specs.Calls.{printable}
-
-abbrev zeroF : Float
-zeroF = fin false 0 (pos 0)
-
-abbrev oneF : Float
-oneF = fin false 1 (pos 0)
 
 -- 2 ^ 53 and its negation
 abbrev high : Float
@@ -33,14 +31,6 @@ sign-below (inf false) h = sym h
 sign-below (fin true m e) h = refl
 sign-below (fin false m e) h = let l : m * up e * 1 < 0 * down e = ltb-true (m * up e * 1) (0 * down e) h in absurd (omega arith)
 
-and-first : (a b : Bool) → a && b ≡ true → a ≡ true
-and-first true b h = refl
-and-first false b h = h
-
-no-factor : (m u : ℕ) → 0 < u → m * u ≡ 0 → m ≡ 0
-no-factor zero u p h = refl
-no-factor (suc m) u p h = absurd (omega (arith, native.Mathlib.Nat.mul-pos (native.Mathlib.Nat.zero-lt-suc m) p))
-
 one-over : (s : Bool) (m : ℕ) (e : ℤ) → m ≡ 0 → lt (div binary64 oneF (fin s m e)) zeroF ≡ s
 unfolding lt div
 one-over true m e h = rw (eq-eqb m 0 h)
@@ -51,8 +41,8 @@ unfolding isNan eq
 sign-zero nan g h = absurd (true≢false g)
 sign-zero (inf s) g h = absurd (true≢false (sym h))
 sign-zero (fin s m e) g h =
-    let z : m * up e * 1 ≡ 0 * down e = eqb-true (m * up e * 1) (0 * down e) (and-first (eqb (m * up e * 1) (0 * down e)) _ h) in
-    one-over s m e (no-factor m (up e) (up-pos e) (omega arith))
+    let z : m * up e * 1 ≡ 0 * down e = eqb-true (m * up e * 1) (0 * down e) (both-true (eqb (m * up e * 1) (0 * down e)) _ h .0) in
+    one-over s m e (eq-zero m (up e) (up-pos e) (omega arith))
 
 pub sign-above : (n : Float) → isNan n ≡ false → lt n zeroF ≡ false → eq n zeroF ≡ false → false ≡ signOf n
 unfolding isNan lt eq

@@ -1,6 +1,6 @@
 -- The rules case by case, from the tests that the code makes. Assumes nothing.
 use mathlib.Core.Path.{_≡_, refl, sym, ap, _∙_}
-use mathlib.Core.Bool.{Bool, true, false, cond, _&&_, _||_, true≢false}
+use mathlib.Core.Bool.{Bool, true, false, _&&_, true≢false}
 use mathlib.Core.List.{[], _∷_}
 use Prim.Native.Nat.{ℕ, zero, suc, _*_, _^_, _≤_, _<_, zero-le}
 use native.Mathlib.Nat.{le-refl, zero-mul, mul-pos}
@@ -14,6 +14,7 @@ use borrow.Author.Tests.{ltb-true, le-leb, leb-true, ne-eqb}
 use Rattle.ranged1d.specs.Answer.{Answer, given, _when_, lowest}
 use Rattle.ranged1d.specs.declared.Limit.{Limit}
 use Rattle.ranged1d.specs.Admitted.{pixelAdmitted, limitAdmitted}
+use Rattle.ranged1d.proofs.Bools.{both-true, both-false}
 use Rattle.ranged1d.proofs.Whole.{both-ways, not-lt}
 use Rattle.rounding.specs.Integral.{Way}
 use Rattle.rounding.specs.Within.{within}
@@ -21,6 +22,7 @@ use Rattle.rounding.specs.declared.Whole.{Whole}
 use Rattle.rounding.specs.declared.Whole.the-variants.{Number, Beyond}
 use Rattle.rounding.proofs.Bounds.{Held, within-held}
 use Rattle.rounding.proofs.Signs.{negated}
+use Rattle.rounding.proofs.Small.{chosen}
 use Rattle.real.specs.Place.{farthest, along, product, isBeyond, number}
 use Rattle.real.specs.Reading.{lower, upper, outside, same}
 use Rattle.real.proofs.Signs.{int-value}
@@ -104,14 +106,9 @@ answered w = lowest (5 when isBeyond w ∷ []) (given (number w))
 pub near : (x : ℤ) → pixelAdmitted x ≡ true → natAbs x ≤ 1_000_000
 near x h = leb-true (natAbs x) 1_000_000 h
 
-both : (a b : Bool) → a && b ≡ true → (a ≡ true) × (b ≡ true)
-both true true h = (refl, refl)
-both true false h = absurd (true≢false (sym h))
-both false b h = absurd (true≢false (sym h))
-
 pub near-limits : (limit : Limit) → limitAdmitted limit ≡ true → (natAbs (limit .0) ≤ 1_000_000) × (natAbs (limit .1) ≤ 1_000_000)
 near-limits limit h =
-    let w = both (pixelAdmitted (limit .0)) (pixelAdmitted (limit .1)) h in
+    let w = both-true (pixelAdmitted (limit .0)) (pixelAdmitted (limit .1)) h in
     (near (limit .0) (w .0), near (limit .1) (w .1))
 
 -- ---- `same`
@@ -137,20 +134,13 @@ between-far k lo (pos n) (negsuc m) g h a b = absurd (true≢false (sym h))
 between-far k (negsuc m) (negsuc n) hi g h a b = omega (arith, leb-true n m g)
 between-far k (pos m) (negsuc n) hi g h a b = absurd (true≢false (sym g))
 
-neither : (a b : Bool) → a || b ≡ false → (a ≡ false) × (b ≡ false)
-neither true b h = absurd (true≢false h)
-neither false b h = (refl, h)
-
-chosen-far : (k : ℕ) (c : Bool) (x y : ℤ) → natAbs x ≤ k → natAbs y ≤ k → natAbs (cond c x y) ≤ k
-chosen-far k true x y a b = a
-chosen-far k false x y a b = b
-
 pub inside-admitted : (x : ℤ) (limit : Limit) → limitAdmitted limit ≡ true → outside x (limit .0) (limit .1) ≡ false → pixelAdmitted x ≡ true
 inside-admitted x limit h o =
     let p = limit .0 in
     let q = limit .1 in
     let n = near-limits limit h in
-    let w = neither (ltZ x (lower p q)) (ltZ (upper p q) x) o in
+    let near-zero : ℤ → Type 0 = λ z. natAbs z ≤ 1_000_000 in
+    let w = both-false (ltZ x (lower p q)) (ltZ (upper p q) x) o in
     le-leb (natAbs x) 1_000_000
     (between-far 1_000_000 (lower p q) x (upper p q) (not-lt x (lower p q) (w .0)) (not-lt (upper p q) x (w .1))
-    (chosen-far 1_000_000 (ltZ p q) p q (n .0) (n .1)) (chosen-far 1_000_000 (ltZ p q) q p (n .1) (n .0)))
+    (chosen near-zero (ltZ p q) (n .0) (n .1)) (chosen near-zero (ltZ p q) (n .1) (n .0)))

@@ -6,7 +6,7 @@ use mathlib.Core.Logic.{_⊎_, inl, inr}
 use Prim.Native.Nat.{ℕ, zero, suc, _+_, _-_, _*_, _/_, _%_, _^_, _≤_, _<_}
 use native.Mathlib.Nat.{add-zero, mul-one, zero-mul, mul-right-comm, eq-of-mul-eq-mul-right}
 use native.Mathlib.Omega.{arith}
-use lib.IntN.{ℤ, pos, negsuc, natAbs, negℤ, _+ℤ_, _-ℤ_, -ℤ-+ℤ-cancel, +ℤ-idl, +ℤ-idr, +ℤ-comm, +ℤ-assoc, +ℤ-invr, negℤ-+ℤ}
+use lib.IntN.{ℤ, pos, negsuc, natAbs, _+ℤ_, _-ℤ_, -ℤ-+ℤ-cancel, +ℤ-idl, +ℤ-idr}
 use lib.Dec.{T, eqb, eqb→eq}
 use lib.Ieee.{Float, nan, inf, fin, binary64, up, down, odd, round, neg, sum, add, sub, div, eq, ofInt, ofBits, ofFields, nanBits, isNan}
 use lib.Pow.{pow-pos}
@@ -16,6 +16,7 @@ use lib.Ieee.Back.{round-whole, whole-unique}
 use lib.Ieee.Fits.{down-pos, round-fits}
 use mir.Facts.{and-yes, or-yes}
 use borrow.Author.Tests.{le-ltb, lt-leb}
+use Rattle.ranged1d.proofs.Whole.{minus-shift}
 use Rattle.rounding.proofs.Signs.{round-neg}
 use Rattle.rounding.proofs.Sums.{ones, add-whole, whole-sum}
 use Rattle.real.specs.Place.{share}
@@ -69,12 +70,7 @@ low-no-nan k h =
 pub low-less : (k j : ℕ) → Low k → Low j → sub binary64 (ofInt binary64 (pos (4503599627370496 + k))) (ofBits binary64 (4841369599423283200 + j)) ≡ ofInt binary64 (pos k -ℤ pos j)
 low-less k j h g =
     let c = pos 4503599627370496 in
-    rw (low-bits j g) (less-int (c +ℤ pos k) (c +ℤ pos j) (omega arith) (omega arith) ∙ ap (ofInt binary64) (both-more c (pos k) (pos j)))
-  where
-    both-more : (c x y : ℤ) → (c +ℤ x) -ℤ (c +ℤ y) ≡ x -ℤ y
-    both-more c x y =
-        ap (λ (z : ℤ). z -ℤ (c +ℤ y)) (+ℤ-comm c x) ∙ ap (λ (z : ℤ). (x +ℤ c) +ℤ z) (negℤ-+ℤ c y) ∙ +ℤ-assoc x c (negℤ c +ℤ negℤ y)
-        ∙ ap (λ (z : ℤ). x +ℤ z) (sym (+ℤ-assoc c (negℤ c) (negℤ y)) ∙ ap (λ (z : ℤ). z +ℤ negℤ y) (+ℤ-invr c) ∙ +ℤ-idl (negℤ y))
+    rw (low-bits j g) (less-int (c +ℤ pos k) (c +ℤ pos j) (omega arith) (omega arith) ∙ ap (ofInt binary64) (minus-shift c (pos k) (pos j)))
 
 -- every number but NaN equals itself
 pub eq-self : (x : Float) → T (not (isNan x)) → eq x x ≡ true

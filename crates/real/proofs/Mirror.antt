@@ -4,7 +4,6 @@ use mathlib.Core.Logic.{inl, inr}
 use mathlib.Core.Bool.{Bool, true, false, not, cond, _&&_, true≢false}
 use Prim.Native.Nat.{ℕ, zero, suc, _≤_, _^_}
 use native.Mathlib.Omega.{arith}
-use lib.Dec.{leb}
 use lib.IntN.{ℤ, pos, negsuc, negℤ, negℤ-negℤ, negℤ-+ℤ, natAbs, _+ℤ_, _-ℤ_}
 use lib.Signed.{quotZ}
 use lib.Ieee.{Float, inf, binary64, neg, add, sub, mul, eq, ofInt, ofBits}
@@ -12,7 +11,7 @@ use borrow.Author.Tests.{leb-true}
 use Rattle.ranged1d.specs.Answer.{refused}
 use Rattle.ranged1d.specs.Admitted.{wholeAdmitted, limitAdmitted}
 use Rattle.ranged1d.specs.declared.Limit.{Limit}
-use Rattle.ranged1d.proofs.Whole.{neg-far}
+use Rattle.ranged1d.proofs.Whole.{neg-far, admitted-neg}
 use Rattle.rounding.specs.Integral.{Way, floors, ceils}
 use Rattle.rounding.specs.Within.{wholeOf, within, floorWithin, ceilWithin}
 use Rattle.rounding.specs.declared.Whole.{Whole}
@@ -47,12 +46,8 @@ falls n t =
     let l = ofInt binary64 (pos (suc n)) in
     rw (int-neg binary64 (pos (suc n)) (λ e. omega (arith, ap natAbs e)), mul-neg l t) (sum-turn (mul binary64 l t))
 
-twice : (w : Whole) → whole.negated (whole.negated w) ≡ w
-twice (Number z) = ap Number (negℤ-negℤ z)
-twice Beyond = refl
-
 rises : (n : ℕ) (t : Float) → rising (pos (suc n)) t ≡ whole.negated (falling (negsuc n) t)
-rises n t = sym (ap whole.negated (falls n t) ∙ twice (rising (pos (suc n)) t))
+rises n t = sym (ap whole.negated (falls n t) ∙ whole.negated-twice (rising (pos (suc n)) t))
 
 -- ---- the place at a share
 -- by the steps of the film that runs upward
@@ -172,9 +167,6 @@ whole-alike : (a b v : ℤ) → Near a → Near b → Near v → eq (ofInt binar
 whole-alike a b v ha hb hv n =
     rw (whole-share a b v ha hb hv, whole-share (negℤ a) (negℤ b) (negℤ v) (near-neg a ha) (near-neg b hb) (near-neg v hv), length-neg a v, length-neg a b)
     (div-alike (ofInt binary64 (v -ℤ a)) (ofInt binary64 (b -ℤ a)) (int-alike (v -ℤ a)) (int-neg binary64 (b -ℤ a) (λ e. differ a b ha n (no-difference a b e))))
-
-admitted-neg : (z : ℤ) → wholeAdmitted (negℤ z) ≡ wholeAdmitted z
-admitted-neg z = ap (λ (n : ℕ). leb n 1_000_000_000) (neg-far z)
 
 admitted-near : (z : ℤ) → wholeAdmitted z ≡ true → Near z
 admitted-near z h = omega (arith, leb-true (natAbs z) 1_000_000_000 h)

@@ -1,15 +1,15 @@
 -- The whole number of a NaN t is 0, and no other t makes a NaN of the sum whose floor or ceiling is taken. Assumes nothing.
-use mathlib.Core.Path.{_≡_, refl, ap, _∙_}
+use mathlib.Core.Path.{_≡_, refl, ap}
 use mathlib.Core.Bool.{Bool, true, false, cond, _&&_, Bool·beq}
-use Prim.Native.Nat.{ℕ, zero, suc, _+_, _-_, _*_, _^_, _≤_}
+use Prim.Native.Nat.{ℕ, _+_, _-_, _*_, _^_, _≤_}
 use lib.Dec.{ltb}
 use lib.IntN.{ℤ, pos, natAbs}
-use lib.Ieee.{Float, nan, inf, fin, binary64, up, down, unlike, odd, units, round, neg, sum, add, sub, mul, ofInt, ofBits, isNan}
-use lib.Ieee.Fits.{round-is}
+use lib.Ieee.{Float, nan, inf, fin, binary64, up, down, unlike, round, neg, sum, add, sub, mul, ofInt, ofBits, isNan}
 use lib.Ieee.Exact.{HasValue}
 use Rattle.rounding.specs.Integral.{Way, floors, ceils}
 use Rattle.rounding.specs.Within.{within}
 use Rattle.rounding.specs.declared.Whole.the-variants.{Number}
+use Rattle.rounding.proofs.Small.{chosen, rounded}
 use Rattle.real.specs.Place.{farthest, milli, product, rising, falling}
 use Rattle.real.proofs.Cases.{steps}
 use Rattle.real.proofs.Signs.{int-value}
@@ -34,31 +34,15 @@ unfolding falling sub
 falling-nan = steps-nan ceils (neg milli)
 
 -- ---- a finite t
-choice : (b : Bool) (x y : Float) → isNan x ≡ false → isNan y ≡ false → isNan (cond b x y) ≡ false
-choice true x y p q = p
-choice false x y p q = q
-
-odd-number : (d : ℕ) (s : Bool) (q k l : ℕ) → isNan (odd d s q k l) ≡ false
-unfolding odd isNan
-odd-number d s zero k l = refl
-odd-number d s (suc q) k l = refl
-
-inf-number : (s : Bool) → isNan (inf s) ≡ false
-unfolding isNan
-inf-number s = refl
-
-units-number : (s : Bool) (q k : ℕ) → isNan (units binary64 s q k) ≡ false
-unfolding units
-units-number s q k = choice (ltb (q * 2 ^ k) (2 ^ 2098)) (odd 54 s q k 1074) (inf s) (odd-number 54 s q k 1074) (inf-number s)
-
 round-number : (s : Bool) (n d : ℕ) → isNan (round binary64 s n d) ≡ false
-round-number s n d = ap isNan (round-is binary64 s n d) ∙ units-number s _ _
+unfolding isNan
+round-number s = rounded (λ (x : Float). isNan x ≡ false) binary64 s (λ m e. refl) refl
 
 sum-number : (s : Bool) (a : ℕ) (t : Bool) (b c : ℕ) → isNan (sum binary64 s a t b c) ≡ false
 unfolding sum
 sum-number s a t b c =
-    choice (Bool·beq s t) _ _ (round-number s (a + b) c)
-    (choice (ltb a b) _ _ (round-number t (b - a) c) (round-number (s && ltb b a) (a - b) c))
+    chosen (λ (x : Float). isNan x ≡ false) (Bool·beq s t) (round-number s (a + b) c)
+    (chosen (λ (x : Float). isNan x ≡ false) (ltb a b) (round-number t (b - a) c) (round-number (s && ltb b a) (a - b) c))
 
 -- with a finite number added
 plus-number : (x : Float) (t : Bool) (n : ℕ) (d : ℤ) → isNan x ≡ false → isNan (add binary64 x (fin t n d)) ≡ false

@@ -3,12 +3,13 @@
 use mathlib.Core.Path.{_≡_, refl, ap}
 use mathlib.Core.Bool.{Bool, true, false, not, cond, _&&_}
 use mathlib.Core.List.{[], _∷_}
-use Prim.Native.Nat.{ℕ, zero, suc, _+_, _*_, _≤_, zero-le}
+use Prim.Native.Nat.{ℕ, zero, suc, _*_, _≤_, zero-le}
 use native.Mathlib.Omega.{arith}
 use lib.Dec.{lit≤}
 use lib.IntN.{ℤ, pos, negsuc, natAbs, _+ℤ_, _-ℤ_}
 use lib.Signed.{quotZ}
 use lib.Ieee.{Float, inf, binary64, neg, add, sub, eq, ofInt, ofBits}
+use lib.Ieee.Back.{round-whole}
 use borrow.Author.Tests.{leb-true}
 use Rattle.ranged1d.specs.Answer.{Answer, given, refused, _when_, lowest}
 use Rattle.ranged1d.specs.Admitted.{wholeAdmitted, limitAdmitted}
@@ -18,10 +19,11 @@ use Rattle.rounding.specs.Integral.{Way, floors, ceils}
 use Rattle.rounding.specs.declared.Whole.{Whole}
 use Rattle.rounding.specs.declared.Whole.the-variants.{Number, Beyond}
 use Rattle.rounding.proofs.Value.{Told}
+use Rattle.rounding.proofs.Small.{Small, small-neg, add-small, mul-small}
 use Rattle.real.specs.Place.{farthest, milli, share, product, rising, falling, plus, orEnd, along, spot, number, realPlace, wholePlace}
 use Rattle.real.proofs.Cases.{answered, near-limits, some-size, steps, steps-near}
 use Rattle.real.proofs.Exact.{differ, no-difference, whole-share}
-use Rattle.real.proofs.Sizes.{Small, small-neg, small-int, small-add, small-mul, small-quotient, small-told}
+use Rattle.real.proofs.Sizes.{small-int, small-quotient, small-told}
 
 -- ---- a fact of the place, from what it is in each case: a whole number near 0, or p and a number of steps
 thousandth : Small 1 milli
@@ -98,12 +100,12 @@ pub record Placed (r : Answer ℤ) : Type 0 where
 module _ (l : ℤ) (t : Float) (hl : natAbs l ≤ 2_000_000) (ht : Small 11 t) where
   product-small : Small 22_000_000 (product l t)
   product-small =
-      small-mul binary64 22_000_000 (lit≤ tt) 2_000_000 11 (ofInt binary64 l) t (lit≤ tt) (small-int binary64 2_000_000 (lit≤ tt) l hl) ht
+      mul-small binary64 22_000_000 (round-whole binary64 false 22_000_000 (lit≤ tt)) 2_000_000 11 (ofInt binary64 l) t (lit≤ tt) (small-int binary64 2_000_000 (lit≤ tt) l hl) ht
 
   steps-told : (w : Way) (d : Float) → Small 1 d → Told (steps w farthest d l t) 22_000_001
   steps-told w d h =
       small-told w farthest 22_000_001 (add binary64 (product l t) d) (lit≤ tt)
-      (small-add binary64 22_000_001 (lit≤ tt) 22_000_000 1 (product l t) d (lit≤ tt) product-small h)
+      (add-small binary64 22_000_001 (round-whole binary64 false 22_000_001 (lit≤ tt)) 22_000_000 1 (product l t) d (lit≤ tt) product-small h)
 
 plus-told : (p : ℤ) (w : Whole) → natAbs p ≤ 1_000_000 → Told w 22_000_001 → Told (plus p w) 23_000_001
 plus-told p w hp n = (p +ℤ n .0, ap (plus p) (n .1), omega (arith, add-far p (n .0), n .2))

@@ -1,19 +1,19 @@
 -- The mirror of a real reading. Assumes nothing.
 use mathlib.Core.Path.{_≡_, refl, sym, ap, _∙_, subst}
 use mathlib.Core.Logic.{inl, inr}
-use mathlib.Core.Bool.{Bool, true, false, not, cond, _&&_, _||_, true≢false}
+use mathlib.Core.Bool.{Bool, true, false, not, cond, _&&_, _||_, true≢false, and-comm, or-comm}
 use Prim.Native.Nat.{ℕ}
 use lib.Dec.{leb}
-use lib.IntN.{ℤ, pos, negℤ, negℤ-negℤ, negℤ-+ℤ, _-ℤ_}
+use lib.IntN.{ℤ, negℤ, negℤ-negℤ, negℤ-+ℤ, _-ℤ_}
 use lib.Signed.{ltZ, leZ}
-use lib.Ieee.{Float, nan, inf, fin, binary64, neg, add, sub, mul, eq, ofInt, isNan}
+use lib.Ieee.{Float, nan, inf, fin, binary64, neg, add, sub, mul, ofInt, isNan}
 use Rattle.ranged1d.specs.Answer.{given, none, refused}
 use Rattle.ranged1d.specs.Admitted.{pixelAdmitted, limitAdmitted}
 use Rattle.ranged1d.specs.declared.Limit.{Limit}
-use Rattle.ranged1d.proofs.Whole.{neg-far, neg-le, not-lt, lt-not, other-way, both-ways}
+use Rattle.ranged1d.proofs.Whole.{neg-far, neg-le, neg-lt, not-lt, lt-not, other-way, both-ways}
 use Rattle.real.specs.Reading.{lower, upper, outside, same, offset, valueAt, realReading}
 use Rattle.real.specs.Mirror.{mirrored, Same, Opposite, values, both-none, both-refused}
-use Rattle.real.proofs.Signs.{Alike, alike-on, alike-through, turns-alike, add-turns, sub-turns, mul-neg, mul-alike, div-alike, add-left, int-neg, int-alike}
+use Rattle.real.proofs.Signs.{Alike, zeros-equal, alike-on, alike-through, turns-alike, add-turns, sub-turns, mul-neg, mul-alike, div-alike, add-left, int-neg, int-alike}
 use Rattle.real.proofs.Cases.{same-yes}
 use Rattle.real.proofs.Exact.{eq-self, no-difference}
 
@@ -25,16 +25,6 @@ pub limit-neg : (limit : Limit) → limitAdmitted (mirrored limit) ≡ limitAdmi
 limit-neg limit = rw (pixel-neg (limit .0), pixel-neg (limit .1))
 
 -- ---- which pixels can be read
-lt-le : (x y : ℤ) → ltZ x y ≡ not (leZ y x)
-lt-le x y = go (ltZ x y) refl
-  where
-    go : (b : Bool) → ltZ x y ≡ b → b ≡ not (leZ y x)
-    go true h = rw (lt-not x y h)
-    go false h = rw (not-lt x y h)
-
-neg-lt : (x y : ℤ) → ltZ (negℤ x) (negℤ y) ≡ ltZ y x
-neg-lt x y = lt-le (negℤ x) (negℤ y) ∙ ap not (neg-le y x) ∙ sym (lt-le y x)
-
 -- the lower of the mirrored limits is the upper one's mirror
 lower-neg : (p q : ℤ) → lower (negℤ p) (negℤ q) ≡ negℤ (upper p q)
 lower-neg p q = rw (neg-lt p q) (go (ltZ q p) (ltZ p q) refl refl)
@@ -50,24 +40,12 @@ upper-neg p q =
     let e : lower p q ≡ negℤ (upper (negℤ p) (negℤ q)) = rw (negℤ-negℤ p, negℤ-negℤ q) at (lower-neg (negℤ p) (negℤ q)) in
     sym (ap negℤ e ∙ negℤ-negℤ (upper (negℤ p) (negℤ q)))
 
-or-swap : (a b : Bool) → a || b ≡ b || a
-or-swap true true = refl
-or-swap true false = refl
-or-swap false true = refl
-or-swap false false = refl
-
-and-swap : (a b : Bool) → a && b ≡ b && a
-and-swap true true = refl
-and-swap true false = refl
-and-swap false true = refl
-and-swap false false = refl
-
 outside-neg : (x p q : ℤ) → outside (negℤ x) (negℤ p) (negℤ q) ≡ outside x p q
 outside-neg x p q =
-    rw (lower-neg p q, upper-neg p q, neg-lt x (upper p q), neg-lt (lower p q) x) (or-swap (ltZ (upper p q) x) (ltZ x (lower p q)))
+    rw (lower-neg p q, upper-neg p q, neg-lt x (upper p q), neg-lt (lower p q) x) (or-comm (ltZ (upper p q) x) (ltZ x (lower p q)))
 
 same-neg : (p q : ℤ) → same (negℤ p) (negℤ q) ≡ same p q
-same-neg p q = rw (neg-le p q, neg-le q p) (and-swap (leZ q p) (leZ p q))
+same-neg p q = rw (neg-le p q, neg-le q p) (and-comm (leZ q p) (leZ p q))
 
 -- ---- the value
 pub length-neg : (p q : ℤ) → negℤ q -ℤ negℤ p ≡ negℤ (q -ℤ p)
@@ -94,15 +72,8 @@ same-self (inf s) = inr (eq-self (inf s) tt)
 same-self (fin s m e) = inr (eq-self (fin s m e) tt)
 
 pub alike-same : {x y : Float} → Alike x y → Same x y
-unfolding eq
 alike-same {x} (inl e) = subst (Same x) e (same-self x)
 alike-same (inr w) = rw (w .0 .1, w .1 .1) (inr (zeros-equal (w .0 .0) (w .1 .0)))
-  where
-    zeros-equal : (s t : Bool) → eq (fin s 0 (pos 0)) (fin t 0 (pos 0)) ≡ true
-    zeros-equal true true = refl
-    zeros-equal true false = refl
-    zeros-equal false true = refl
-    zeros-equal false false = refl
 
 pub readings : (limit : Limit) (a b : Float) (x : ℤ) → Opposite (realReading (neg a) (neg b) (negℤ x) (mirrored limit)) (realReading a b x limit)
 unfolding realReading

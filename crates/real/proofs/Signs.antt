@@ -2,7 +2,7 @@
 -- what an operation gives for a zero does not turn on its sign, again up to the sign of a zero. Assumes nothing.
 use mathlib.Core.Path.{_≡_, refl, sym, ap, _∙_, subst}
 use mathlib.Core.Logic.{_⊎_, inl, inr}
-use mathlib.Core.Bool.{Bool, true, false, not, cond, _&&_, _||_, Bool·beq}
+use mathlib.Core.Bool.{Bool, true, false, not, cond, _&&_, _||_, or-true, Bool·beq}
 use Prim.Native.Nat.{ℕ, zero, suc, _+_, _-_, _*_, _^_, _≤_, _<_}
 use native.Mathlib.Nat.{zero-add, zero-mul, mul-zero, mul-pos}
 use native.Mathlib.Omega.{arith}
@@ -23,7 +23,7 @@ unlike-both true false = refl
 unlike-both false true = refl
 unlike-both false false = refl
 
-unlike-one : (s t : Bool) → unlike (not s) t ≡ not (unlike s t)
+pub unlike-one : (s t : Bool) → unlike (not s) t ≡ not (unlike s t)
 unlike-one true true = refl
 unlike-one true false = refl
 unlike-one false true = refl
@@ -245,9 +245,12 @@ add-left (fin u n d) s t =
     rw (zero-mul (down d)) (alike-on (zero-sum s u b c p) (alike-back (zero-sum t u b c p)))
 
 -- ---- equality with a zero of either sign
-or-true : (b : Bool) → b || true ≡ true
-or-true true = refl
-or-true false = refl
+pub zeros-equal : (s t : Bool) → eq (zeroOf s) (zeroOf t) ≡ true
+unfolding eq
+zeros-equal true true = refl
+zeros-equal true false = refl
+zeros-equal false true = refl
+zeros-equal false false = refl
 
 eq-left : (y : Float) (s t : Bool) → eq (zeroOf s) y ≡ eq (zeroOf t) y
 unfolding eq

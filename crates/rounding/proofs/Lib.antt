@@ -3,6 +3,7 @@ pub mod Quotients
 pub mod Compare
 pub mod Signs
 pub mod Sums
+pub mod Small
 pub mod Steps
 pub mod Sizes
 pub mod Cuts

@@ -99,7 +99,7 @@ module _ (s : Bool) (m : ℕ) (e : ℤ) where
 none-sized : (w : Way) (s : Bool) (n d : ℕ) → 0 < d → n ≡ 0 → sized w s n d ≡ 0
 none-sized w s n d p h = let l = sized-le w s n d 0 p (rw (zero-mul d) (omega arith)) in omega arith
 
-eq-zero : (a c : ℕ) → 0 < c → a * c ≡ 0 → a ≡ 0
+pub eq-zero : (a c : ℕ) → 0 < c → a * c ≡ 0 → a ≡ 0
 eq-zero a c p h = let l : a < 1 = lt-of-mul-lt-mul-right c (rw (one-mul c) (omega arith)) in omega arith
 
 -- a y that is not below x, both finite

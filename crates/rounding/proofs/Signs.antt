@@ -110,13 +110,13 @@ within-neg w b (fin s m e) = ap (kept b) (at s m e) ∙ kept-neg b (wholeOf (tur
     at : (s : Bool) (m : ℕ) (e : ℤ) → wholeOf w (fin (not s) m e) ≡ negℤ (wholeOf (turned w) (fin s m e))
     at s m e = whole-neg w (fin s m e)
 
+pub negated-twice : (v : Whole) → negated (negated v) ≡ v
+negated-twice (Number z) = ap Number (negℤ-negℤ z)
+negated-twice Beyond = refl
+
 -- the way back
 pub within-turned : (w : Way) (b : ℕ) (x : Float) → within (turned w) b x ≡ negated (within w b (neg x))
-within-turned w b x = sym (twice (within (turned w) b x)) ∙ ap negated (sym (within-neg w b x))
-  where
-    twice : (v : Whole) → negated (negated v) ≡ v
-    twice (Number z) = ap Number (negℤ-negℤ z)
-    twice Beyond = refl
+within-turned w b x = sym (negated-twice (within (turned w) b x)) ∙ ap negated (sym (within-neg w b x))
 
 -- ---- a number below zero, negated, is not
 abbrev pub zeroF : Float

@@ -8,6 +8,7 @@ use lib.Dec.{T, ltb, leb, lit≤}
 use lib.IntN.{ℤ, pos, negsuc, negℤ, natAbs}
 use lib.Ieee.{Float, nan, inf, fin, Format, binary32, binary64, prec, up, down, fits, round, ofInt, lt, ne, isNan}
 use lib.Ieee.Fits.{down-pos, cond-fits, round-fits, fits-widens}
+use lib.Ieee.Bits.{is-true}
 use lib.Ieee.Compare.{differs-from-itself}
 use lib.Ieee.Exact.{HasValue}
 use lib.Ieee.Back.{round-whole, whole-unique}
@@ -73,10 +74,6 @@ unfolding integral
 integral-fits f w nan t = t
 integral-fits f w (inf s) t = t
 integral-fits f w (fin s m e) t = cond-fits f (isWhole m e) (fin s m e) (round f s (sized w s (m * up e) (down e)) 1) t (round-fits f s (sized w s (m * up e) (down e)) 1)
-
-pub is-true : (b : Bool) → T b → b ≡ true
-is-true true t = refl
-is-true false t = absurd t
 
 -- an f32 has the same answer as the f64 of its value
 pub both-widths : (w : Way) (x : Float) → T (fits binary32 x) → integral binary64 w x ≡ integral binary32 w x

@@ -15,7 +15,8 @@ use lib.Ieee.Nearest.{div-same}
 use lib.Ieee.Scale.{grid, finite, round-same, round-val, round-under, grid-scale, normal-of-fraction}
 use Rattle.rounding.specs.Integral.{halves}
 use Rattle.rounding.specs.Within.{wholeOf}
-use Rattle.real.proofs.Sizes.{Small, Plus, plus-div, small-quotient}
+use Rattle.rounding.proofs.Small.{Small, Plus}
+use Rattle.real.proofs.Sizes.{plus-div, small-quotient}
 use Rattle.segmented.specs.Segments.{shared}
 use Rattle.segmented.proofs.Margin.{quotient, int-plus, share-least, no-share}
 

@@ -2,12 +2,12 @@
 -- film. Assumes nothing.
 use mathlib.Core.Path.{_≡_, refl, sym, ap, _∙_, subst}
 use mathlib.Core.Bool.{Bool, true, false, cond, not, true≢false}
-use Prim.Native.Nat.{ℕ, zero, suc, _+_, _-_, _*_, _^_, _≤_, _<_}
+use Prim.Native.Nat.{ℕ, zero, suc, _+_, _-_, _*_, _≤_}
 use native.Mathlib.Nat.{zero-mul, mul-pos, mul-suc, le-trans}
 use native.Mathlib.Omega.{arith}
 use lib.Dec.{T, eqb, eqb·suc-zero}
 use lib.IntN.{ℤ, pos, negsuc, natAbs, negℤ, _+ℤ_, _-ℤ_, negℤ-negℤ, negℤ-+ℤ, -ℤ-+ℤ-cancel, +ℤ-negℤ-cancel, +ℤ-comm, +ℤ-assoc, +ℤ-idl}
-use lib.Ieee.{Format, prec, Float, nan, inf, fin, binary32, up, down, unlike, round, neg, div, ofInt, inFloat}
+use lib.Ieee.{Format, Float, nan, inf, fin, binary32, up, down, unlike, round, neg, div, ofInt, inFloat}
 use lib.Ieee.Fits.{down-pos, up-pos}
 use lib.Ieee.Exact.{HasValue}
 use lib.Ieee.Back.{round-whole}
@@ -25,8 +25,9 @@ use Rattle.rounding.proofs.Signs.{round-neg, whole-neg}
 use Rattle.real.specs.Mirror.{mirrored}
 use Rattle.real.proofs.Cases.{near-limits}
 use Rattle.real.proofs.Readings.{length-neg}
-use Rattle.real.proofs.Signs.{zeroOf, zero-one, round-zero, int-neg}
-use Rattle.real.proofs.Sizes.{Small, Plus, plus-div, small-quotient}
+use Rattle.real.proofs.Signs.{unlike-one, zeroOf, zero-one, round-zero, int-neg}
+use Rattle.rounding.proofs.Small.{Small, Plus}
+use Rattle.real.proofs.Sizes.{plus-div, small-quotient}
 use Rattle.segmented.specs.Segments.{half, shared, margin, narrowed}
 
 -- l ÷ n in f32, and its nearest whole number
@@ -41,21 +42,15 @@ unfolding margin shared
 margin-is n limit = refl
 
 -- ---- negation
-unlike-neg : (s t : Bool) → unlike (not s) t ≡ not (unlike s t)
-unlike-neg true true = refl
-unlike-neg true false = refl
-unlike-neg false true = refl
-unlike-neg false false = refl
-
 div-neg : (f : Format) (x y : Float) → div f (neg x) y ≡ neg (div f x y)
 unfolding div neg
 div-neg f nan y = refl
 div-neg f (inf s) nan = refl
 div-neg f (inf s) (inf t) = refl
-div-neg f (inf s) (fin t n d) = ap inf (unlike-neg s t)
+div-neg f (inf s) (fin t n d) = ap inf (unlike-one s t)
 div-neg f (fin s m e) nan = refl
-div-neg f (fin s m e) (inf t) = ap zeroOf (unlike-neg s t)
-div-neg f (fin s m e) (fin t n d) = rw (unlike-neg s t) (go (eqb n 0) (eqb m 0))
+div-neg f (fin s m e) (inf t) = ap zeroOf (unlike-one s t)
+div-neg f (fin s m e) (fin t n d) = rw (unlike-one s t) (go (eqb n 0) (eqb m 0))
   where
     u : Bool
     u = unlike s t

@@ -3,10 +3,11 @@ use borrow.Author.Needs.{needs}
 use mathlib.Core.Path.{sym, ap, _∙_, subst}
 use lib.Dec.{T}
 use lib.Ieee.{binary64, fits}
+use lib.Ieee.Bits.{is-true}
 use lib.Ieee.Fits.{fits-widens}
 use Rattle.rounding.specs.Integral.{floors, halves, roundOf}
 use Rattle.rounding.specs.Within.{floorWithin}
-use Rattle.rounding.proofs.Value.{is-true, within-integral}
+use Rattle.rounding.proofs.Value.{within-integral}
 use Rattle.rounding.proofs.round_within.Statement.{statement}
 use Rattle.rounding.proofs.round_within.Tie as tie
 
