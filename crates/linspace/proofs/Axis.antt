@@ -1,6 +1,6 @@
 -- A real stepped axis: when its step leads away, which way its list runs, and what each call answers, return by return. Assumes nothing.
 use mathlib.Core.Path.{_≡_, refl, sym, ap, _∙_}
-use mathlib.Core.Bool.{Bool, true, false, cond, true≢false, _||_}
+use mathlib.Core.Bool.{Bool, true, false, cond, true≢false, _||_, or-false}
 use mathlib.Core.List.{List, [], _∷_}
 use Prim.Native.Nat.{ℕ, _+_, _-_, _≤_, _<_}
 use native.Mathlib.Omega.{arith}
@@ -15,10 +15,6 @@ use Rattle.linspace.specs.Calls.{hasEntries, nth, stepSize, stepFromInde
 use Rattle.linspace.specs.RealSteps.{plusStep, Walked}
 use Rattle.linspace.proofs.Walks.{nth-is, nth-past, entries-on, entries-few, entry-is, total-ends}
 
-or-none : (b : Bool) → (b || false) ≡ b
-or-none true = refl
-or-none false = refl
-
 -- the same axis told twice
 pub same-axis : {A : Type 0} (f : Float → Float → Float → A) {a a' b b' d d' : Float} → (a ≡ a') × (b ≡ b') × (d ≡ d') → f a b d ≡ f a' b' d'
 same-axis f e = rw (e .0, e .1, e .2) refl
@@ -27,7 +23,7 @@ module _ (a b d : Float) where
   -- ---- 6
   pub against-up : lt a b ≡ true → le d (real .nil) ≡ against real a b d
   unfolding against le
-  against-up h = rw (h, real-order .asym a b h) (sym (or-none (lt d (real .nil) || eq d (real .nil))))
+  against-up h = rw (h, real-order .asym a b h) (sym (or-false (lt d (real .nil) || eq d (real .nil))))
 
   pub against-down : lt a b ≡ false → lt b a ≡ true → le (real .nil) d ≡ against real a b d
   unfolding against le

@@ -8,13 +8,14 @@ use native.Mathlib.Nat.{zero-min, min-zero, suc-min-suc}
 use native.Mathlib.Omega.{arith}
 use borrow.Author.Tests.{lt-ltb}
 use lib.Dec.{ltb, leb·suc-suc}
-use lib.ListN.{length, getD}
-use Rattle.ranged1d.specs.Answer.{Answer, given, none}
+use lib.ListN.{length, getD, List·getD-eq-default}
+use Rattle.ranged1d.specs.Answer.{given, none}
 use Rattle.numeric.specs.Marks.{listOf}
-use Rattle.numeric.proofs.Lists.{list-cons}
+use Rattle.numeric.proofs.Lists.{entry, length-of, list-cons}
 use Rattle.search.specs.Lists.{goesOn, ascends}
 use Rattle.linspace.specs.List.{entries}
 use Rattle.linspace.specs.Calls.{nth, hasEntries}
+use Rattle.linspace.proofs.Walks.{nth-is, nth-past}
 
 -- steps from f 0 to f 1 and so on, of which exactly the first m pass
 pub entries-list : {A : Type 0} (passes : A → Bool) (next : A → A) (f : ℕ → A) (n m : ℕ)
@@ -35,19 +36,13 @@ entries-some passes next n x e = rw e (lt-ltb 0 (suc (length (entries passes nex
 
 module _ {A : Type 0} where
   pub nth-list : (f : ℕ → A) (n k : ℕ) → k < n → given (f k) ≡ nth (listOf f n) k
-  nth-list f zero k h = absurd (omega (arith, h))
-  nth-list f (suc n) zero h = rw (list-cons f n) refl
-  nth-list f (suc n) (suc k) h = rw (list-cons f n) (nth-list (λ j. f (suc j)) n k (omega (arith, h)))
+  nth-list f n k h = sym (nth-is (listOf f n) k (f k) (rw (length-of f n) h) ∙ ap given (entry f (f k) n k h))
 
-  pub nth-past : (f : ℕ → A) (n k : ℕ) → n ≤ k → _≡_ {A = Answer A} none (nth (listOf f n) k)
-  nth-past f zero k h = refl
-  nth-past f (suc n) zero h = absurd (omega (arith, h))
-  nth-past f (suc n) (suc k) h = rw (list-cons f n) (nth-past (λ j. f (suc j)) n k (omega (arith, h)))
+  pub nth-beyond : (f : ℕ → A) (n k : ℕ) → n ≤ k → none ≡ nth (listOf f n) k
+  nth-beyond f n k h = sym (nth-past (listOf f n) k (rw (length-of f n) h))
 
   pub past-list : (f : ℕ → A) (n k : ℕ) (x : A) → n ≤ k → x ≡ getD (listOf f n) k x
-  past-list f zero k x h = refl
-  past-list f (suc n) zero x h = absurd (omega (arith, h))
-  past-list f (suc n) (suc k) x h = rw (list-cons f n) (past-list (λ j. f (suc j)) n k x (omega (arith, h)))
+  past-list f n k x h = sym (List·getD-eq-default (listOf f n) x (rw (length-of f n) h))
 
   goes-list : (lt : A → A → Bool) (f : ℕ → A) (n : ℕ) → ((k : ℕ) → lt (f k) (f (suc k)) ≡ true) → goesOn lt (f 0) (listOf (λ k. f (suc k)) n) ≡ true
   goes-list lt f zero s = refl

@@ -2,7 +2,7 @@
 use mathlib.Core.Path.{_≡_, refl, sym, ap, subst, _∙_}
 use mathlib.Core.Bool.{Bool, true, false, true≢false, not, _&&_, _||_}
 use mathlib.Core.List.{List, [], _∷_}
-use Prim.Native.Nat.{ℕ, zero, suc, _-_, _≤_, _<_}
+use Prim.Native.Nat.{ℕ, zero, suc, _≤_, _<_}
 use native.Mathlib.Omega.{arith}
 use borrow.Author.Tests.{lt-ltb, le-ltb}
 use lib.Dec.{T}
@@ -10,8 +10,9 @@ use lib.IntN.{ℤ}
 use lib.ListN.{length, getD}
 use lib.Ieee.{Float, nan, inf, fin, binary64, fits, isNan, add, lt, le, eq}
 use Rattle.ranged1d.specs.Answer.{Answer, refused, _when_, lowest}
+use Rattle.ranged1d.proofs.Bools.{both-false}
 use Rattle.real.proofs.Exact.{eq-self}
-use Rattle.real.proofs.Signs.{zeroOf}
+use Rattle.real.proofs.Signs.{zeroOf, zeros-equal}
 use Rattle.search.specs.Search.{reals}
 use Rattle.search.specs.Search as rule
 use Rattle.search.specs.Lists.{every, ascends, searchable, realSearch}
@@ -20,10 +21,10 @@ use Rattle.search.specs.Steps.{PlaceOf}
 use Rattle.search.specs.Steps as search-steps
 use Rattle.search.specs.declared.RoundingMethod.{RoundingMethod}
 use Rattle.search.specs.declared.RoundingMethod.the-variants.{Exact, Ceil, Floor, Round}
-use Rattle.search.proofs.Orders.{Order}
+use Rattle.search.proofs.Orders.{Order, way}
 use Rattle.search.proofs.RealOrder.{real-order}
 use Rattle.search.proofs.Settles.{settles}
-use Rattle.search.proofs.Lists.{way, sorted, ordinary}
+use Rattle.search.proofs.Lists.{sorted, ordinary}
 use Rattle.search.proofs.Halves.{enclosed, beneath}
 use Rattle.search.proofs.Rules.{nan-answered}
 use Rattle.linspace.specs.List.{real, entries, toward, stepped, against}
@@ -31,21 +32,12 @@ use Rattle.linspace.specs.Calls.{hasEntries, stepIndexOf}
 use Rattle.linspace.specs.RealSteps.{plusStep, after, Parted}
 use Rattle.linspace.proofs.Walks.{entries-on, entries-off, entries-few, entry-is, entry-passes}
 use Rattle.linspace.proofs.Axis.{against-up, against-down, has-up, has-down, has-none, stepped-run, stepped-empty, stepped-total}
-use Rattle.linspace.proofs.RealSums.{zeros-equal}
 use Rattle.linspace.proofs.RealList.{run-ascends}
 
 -- ---- a step that does not lead away, on a list with entries, leads on
-or-left : (x y : Bool) → (x || y) ≡ false → x ≡ false
-or-left true y h = h
-or-left false y h = refl
-
-or-right : (x y : Bool) → (x || y) ≡ false → y ≡ false
-or-right true y h = absurd (true≢false h)
-or-right false y h = h
-
 neither : (x y : Float) → le x y ≡ false → (lt x y ≡ false) × (eq x y ≡ false)
 unfolding le
-neither x y h = (or-left (lt x y) (eq x y) h, or-right (lt x y) (eq x y) h)
+neither x y h = both-false (lt x y) (eq x y) h
 
 -- a sum that is a number is one of numbers
 itself : (s : Bool) (m : ℕ) (e : ℤ) → eq (fin s m e) (fin s m e) ≡ true
@@ -103,7 +95,7 @@ module _ (a b d : Float) where
   rises = lt a b
 
   abbrev w : Order Float (search-steps.toward rises lt) eq
-  w = way reals real-order rises
+  w = way real-order rises
 
   module _ (f : T (fits binary64 a)) (e : against real a b d ≡ false) (s : hasEntries l ≡ true) (few : length l ≤ 65536) where
     list-ascends : ascends (search-steps.toward rises lt) l ≡ true

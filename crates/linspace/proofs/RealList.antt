@@ -2,25 +2,23 @@
 -- then so do all that follow, and the list does not end. Assumes nothing.
 use mathlib.Core.Path.{_≡_, refl, sym, ap, subst, _∙_}
 use mathlib.Core.Logic.{_⊎_, inl, inr}
-use mathlib.Core.Bool.{Bool, true, false, not}
+use mathlib.Core.Bool.{Bool, true, false}
 use mathlib.Core.List.{List, [], _∷_}
-use Prim.Native.Nat.{ℕ, zero, suc, _-_, _≤_, _<_}
+use Prim.Native.Nat.{ℕ, zero, suc, _≤_, _<_}
 use native.Mathlib.Omega.{arith}
 use lib.Dec.{T}
 use lib.ListN.{length}
 use lib.Ieee.{Float, binary64, fits, lt, eq}
 use lib.Ieee.Fits.{add-fits}
-use Rattle.real.proofs.Signs.{zeroOf, Alike, alike-through, add-left}
-use Rattle.search.specs.Search.{reals}
+use Rattle.real.proofs.Signs.{zeroOf, zeros-equal, Alike, alike-through, add-left}
 use Rattle.search.specs.Lists.{goesOn, ascends}
 use Rattle.search.specs.Steps as search-steps
-use Rattle.search.proofs.Orders.{Order}
+use Rattle.search.proofs.Orders.{Order, way}
 use Rattle.search.proofs.RealOrder.{real-order}
-use Rattle.search.proofs.Lists.{way}
-use Rattle.linspace.specs.List.{real, entries, toward, stepped}
+use Rattle.linspace.specs.List.{real, entries, toward}
 use Rattle.linspace.specs.RealSteps.{plusStep}
 use Rattle.linspace.proofs.Walks.{entries-on, entries-off, entries-few}
-use Rattle.linspace.proofs.RealSums.{eq-written, zeros-equal, never-back, never-on}
+use Rattle.linspace.proofs.RealSums.{eq-written, never-back, never-on}
 
 -- ---- any walk: where a step leads on, or else no end is reached, a list with an end is ordered
 module _ {A : Type 0} (passes : A → Bool) (next : A → A) (lt : A → A → Bool) where
@@ -66,7 +64,7 @@ module _ (rises : Bool) (b d : Float) where
   p = toward real rises b
 
   abbrev pub w : Order Float (search-steps.toward rises lt) eq
-  w = way reals real-order rises
+  w = way real-order rises
 
   alike-passes : (x y : Float) → Alike x y → p x ≡ true → p y ≡ true
   alike-passes x y (inl e) h = subst (λ (z : Float). p z ≡ true) e h

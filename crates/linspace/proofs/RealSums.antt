@@ -2,7 +2,7 @@
 -- the number that was added to stays there. Assumes nothing.
 use mathlib.Core.Path.{_≡_, refl, sym, ap, subst, _∙_}
 use mathlib.Core.Logic.{_⊎_, inl, inr}
-use mathlib.Core.Bool.{Bool, true, false, cond, true≢false, not, _&&_, _||_, Bool·beq}
+use mathlib.Core.Bool.{Bool, true, false, cond, true≢false, _&&_, _||_, Bool·beq}
 use Prim.Native.Nat.{ℕ, zero, suc, _+_, _-_, _*_, _/_, _%_, _^_, _≤_, _<_}
 use native.Mathlib.Nat.{zero-mul, one-mul, mul-one, mul-assoc, mul-comm, mul-right-comm, mul-pos, mul-le-mul-right, mul-lt-mul-of-pos-right, lt-of-mul-lt-mul-right}
 use native.Mathlib.Omega.{arith}
@@ -17,9 +17,11 @@ use lib.Ieee.Bits.{ofBits-toBits}
 use lib.Ieee.Exact.{HasValue, round-exact}
 use lib.Ieee.Fits.{up-pos, down-pos, and-l, and-r, neg-fits}
 use lib.Ieee.Order.{round-mono, le-of-values}
+use Rattle.rounding.proofs.Order.{eq-zero}
 use Rattle.rounding.proofs.Signs.{round-neg}
 use Rattle.real.proofs.Signs.{zeroOf, Alike, same-through, turns-alike, add-turns}
-use Rattle.search.proofs.RealOrder.{real-order, lt-neg}
+use Rattle.search.proofs.RealOrder.{never, real-order, lt-neg}
+use Rattle.search.proofs.Mirror.{lt-zero}
 
 -- ---- numbers that fit are written in one way
 abbrev bitsOf : Format → Bool → ℕ → ℕ
@@ -43,13 +45,6 @@ zero-written : (s : Bool) (m : ℕ) (e : ℤ) → m ≡ 0 → T (fits binary64 (
 zero-written s m e z x =
     same-written binary64 s m 0 e (pos 0) x (zero-fits s) (ap (λ (k : ℕ). k * up e * 1) z ∙ simp zero-mul)
 
-nothing : (x y : ℕ) → 0 < y → x * y ≡ 0 → x ≡ 0
-nothing zero y h e = refl
-nothing (suc x) y h e = let m : 0 < suc x * y = mul-pos (omega arith) h in absurd (omega (arith, m, e))
-
-never : {A : Type 0} → _≡_ {A = Bool} false true → A
-never e = absurd (true≢false (sym e))
-
 -- equal numbers that fit are the same, or zeros
 pub eq-written : (x y : Float) → T (fits binary64 x) → T (fits binary64 y) → eq x y ≡ true → Alike x y
 unfolding eq
@@ -66,8 +61,8 @@ eq-written (fin s m e) (fin t n d) f g h = go (eqb (m * up e * down d) (n * up d
   where
     zeros : m * up e * down d ≡ n * up d * down e → m * up e * down d ≡ 0 → Alike (fin s m e) (fin t n d)
     zeros q z =
-        let x : m ≡ 0 = nothing m (up e) (up-pos e) (nothing (m * up e) (down d) (down-pos d) z) in
-        let y : n ≡ 0 = nothing n (up d) (up-pos d) (nothing (n * up d) (down e) (down-pos e) (sym q ∙ z)) in
+        let x : m ≡ 0 = eq-zero m (up e) (up-pos e) (eq-zero (m * up e) (down d) (down-pos d) z) in
+        let y : n ≡ 0 = eq-zero n (up d) (up-pos d) (eq-zero (n * up d) (down e) (down-pos e) (sym q ∙ z)) in
         inr ((s, zero-written s m e x f), (t, zero-written t n d y g))
 
     side : (s t : Bool) → T (fits binary64 (fin s m e)) → T (fits binary64 (fin t n d)) → (m * up e * down d ≡ 0 → Alike (fin s m e) (fin t n d)) → m * up e * down d ≡ n * up d * down e
@@ -242,22 +237,6 @@ never-back (fin s m e) (fin true n d) f h = never h
 never-back (fin s m e) (fin false n d) f h = sum-back s m e f (down d) (n * up d * down e) (down-pos d)
 
 -- ---- downward, by the mirror
-same-test : (p q : Bool) → (p ≡ true → q ≡ true) → (q ≡ true → p ≡ true) → p ≡ q
-same-test true q f g = sym (f refl)
-same-test false true f g = g refl
-same-test false false f g = refl
-
-pub zeros-equal : (s t : Bool) → eq (zeroOf s) (zeroOf t) ≡ true
-unfolding eq
-zeros-equal true true = refl
-zeros-equal true false = refl
-zeros-equal false true = refl
-zeros-equal false false = refl
-
-lt-zero : (y : Float) (s t : Bool) → lt (zeroOf s) y ≡ lt (zeroOf t) y
-lt-zero y s t =
-    same-test (lt (zeroOf s) y) (lt (zeroOf t) y) (real-order .follow (zeroOf t) (zeroOf s) y (zeros-equal t s)) (real-order .follow (zeroOf s) (zeroOf t) y (zeros-equal s t))
-
 neg-zero : neg (zeroOf false) ≡ zeroOf true
 unfolding neg
 neg-zero = refl

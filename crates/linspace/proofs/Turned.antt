@@ -1,14 +1,13 @@
 -- Stepped axes that mirror each other, of either kind of number. Assumes nothing.
 use mathlib.Core.Path.{_≡_, refl, sym, ap, subst, _∙_}
-use mathlib.Core.Bool.{Bool, true, false, cond, true≢false, not, _&&_, _||_}
+use mathlib.Core.Bool.{Bool, true, false, cond, true≢false, not, _&&_, _||_, or-comm}
 use mathlib.Core.List.{List, [], _∷_, map}
 use Prim.Native.Nat.{ℕ, zero, suc, _-_}
-use lib.Dec.{ltb, eqb}
+use lib.Dec.{ltb}
 use lib.ListN.{length, getD}
-use Rattle.ranged1d.specs.Answer.{Answer, given, none, refused}
+use Rattle.ranged1d.proofs.Bools.{both-true}
 use Rattle.numeric.specs.Calls.{indexMarks}
 use Rattle.search.specs.Search as rule
-use Rattle.search.specs.Lists.{isExact}
 use Rattle.search.specs.Mirror.{turned}
 use Rattle.search.specs.declared.RoundingMethod.{RoundingMethod}
 use Rattle.search.proofs.Turned.{Turns, Each, end, more, each-length, search-turned, exact-stays}
@@ -45,16 +44,6 @@ map-each : {A : Type 0} (R : A → A → Type 0) (f f' : ℕ → A) → ((k : �
 map-each R f f' h [] = end
 map-each R f f' h (k ∷ ks) = more (h k) (map-each R f f' h ks)
 
-and-left : (x y : Bool) → (x && y) ≡ true → x ≡ true
-and-left true y h = refl
-and-left false y h = h
-
-or-turns : (x y : Bool) → (x || y) ≡ (y || x)
-or-turns true true = refl
-or-turns true false = refl
-or-turns false true = refl
-or-turns false false = refl
-
 module _ {A : Type 0} (kind : Kind A) (R : A → A → Type 0) (K : KindTurns kind R) (a b d a' b' d' : A) (ra : R a a') (rb : R b b') (rd : R d d') where
   abbrev N : rule.Numbers A
   N = kind .numbers
@@ -81,7 +70,7 @@ module _ {A : Type 0} (kind : Kind A) (R : A → A → Type 0) (K : KindTurns ki
     where
       -- an axis does not run both ways
       clash : upward kind a b d ≡ true → downward kind a b d ≡ true → ⊥
-      clash u v = true≢false (sym (and-left (N .less b a) (N .less b (kind .plus a d)) v) ∙ K .one-way a b (and-left (N .less a b) (N .less (kind .plus a d) b) u))
+      clash u v = true≢false (sym (both-true (N .less b a) (N .less b (kind .plus a d)) v .0) ∙ K .one-way a b (both-true (N .less a b) (N .less (kind .plus a d) b) u .0))
 
       go : (u v : Bool) → upward kind a b d ≡ u → downward kind a b d ≡ v
           → Each R (cond (upward kind a b d) (run kind a b d true) (cond (downward kind a b d) (run kind a b d false) [])) (cond (upward kind a' b' d') (run kind a' b' d' true) (cond (downward kind a' b' d') (run kind a' b' d' false) []))
@@ -97,7 +86,7 @@ module _ {A : Type 0} (kind : Kind A) (R : A → A → Type 0) (K : KindTurns ki
   unfolding against
   against-turned =
       rw (T .less-turns ra rb, T .less-turns rb ra, T .less-turns rd (K .nil-turns), T .less-turns (K .nil-turns) rd, T .equal-turns rd (K .nil-turns), T .equal-turns (K .nil-turns) rd, K .even (kind .nil) d')
-      (or-turns (N .less b' a' && (N .less (kind .nil) d' || N .equal d' (kind .nil))) (N .less a' b' && (N .less d' (kind .nil) || N .equal d' (kind .nil))))
+      (or-comm (N .less b' a' && (N .less (kind .nil) d' || N .equal d' (kind .nil))) (N .less a' b' && (N .less d' (kind .nil) || N .equal d' (kind .nil))))
 
   pub admitted-turned : axisAdmitted kind a b d ≡ axisAdmitted kind a' b' d'
   admitted-turned = rw (K .admitted-turns ra, K .admitted-turns rb, K .admitted-turns rd) refl

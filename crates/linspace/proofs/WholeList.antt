@@ -1,7 +1,7 @@
 -- The list of a whole stepped axis: entry k is a + k · d, and their number is the distance of the ends over the step's size, rounded up.
 -- Assumes nothing.
 use mathlib.Core.Path.{_≡_, refl, sym, ap, subst, _∙_}
-use mathlib.Core.Bool.{Bool, true, false, cond, true≢false, not, _&&_, _||_}
+use mathlib.Core.Bool.{Bool, true, false, cond, true≢false, _&&_, _||_}
 use mathlib.Core.List.{[]}
 use Prim.Native.Nat.{ℕ, zero, suc, _+_, _-_, _*_, _/_, _≤_, _<_, min, max}
 use native.Mathlib.Nat.{le-div-iff-mul-le, add-zero, mul-zero, zero-mul, one-mul, min-zero, min-eq-left, min-eq-right}
@@ -13,7 +13,8 @@ use lib.ListN.{length}
 use lib.Signed.{ltZ, leZ, pos-natAbs}
 use mir.Facts.{and-yes, leb-yes}
 use Rattle.ranged1d.specs.Admitted.{wholeAdmitted}
-use Rattle.ranged1d.proofs.Whole.{sub-cases, minus-far, ordered, not-lt, both-ways, neg-far}
+use Rattle.ranged1d.proofs.Bools.{both-false}
+use Rattle.ranged1d.proofs.Whole.{sub-cases, minus-far, turned-far, minus-shift, ordered, not-lt, both-ways, neg-far, neg-lt}
 use Rattle.numeric.specs.Marks.{listOf}
 use Rattle.numeric.specs.Calls.{element}
 use Rattle.numeric.proofs.Lists.{length-of}
@@ -33,21 +34,8 @@ lt-minus (negsuc a) (pos zero) = ap (λ (z : ℤ). ltZ z (pos 0)) (sym (+ℤ-idr
 lt-minus (negsuc a) (pos (suc b)) = refl
 lt-minus (negsuc a) (negsuc b) = sub-cases (suc b) (suc a) (λ z. ltb b a ≡ ltZ z (pos 0)) (λ h. lt-ltb b a (omega (arith, h))) (λ h. le-ltb b a (omega (arith, h)) ∙ sym (le-ltb (suc b - suc a) 0 (omega arith)))
 
-minus-shift : (a x y : ℤ) → (a +ℤ x) -ℤ (a +ℤ y) ≡ x -ℤ y
-minus-shift a x y =
-    ap (λ (z : ℤ). a +ℤ x +ℤ z) (negℤ-+ℤ a y)
-    ∙ ap (λ (z : ℤ). z +ℤ (negℤ a +ℤ negℤ y)) (+ℤ-comm a x)
-    ∙ sym (+ℤ-assoc (x +ℤ a) (negℤ a) (negℤ y))
-    ∙ ap (λ (z : ℤ). z +ℤ negℤ y) (+ℤ-negℤ-cancel x a)
-
 pub lt-shift : (a x y : ℤ) → ltZ (a +ℤ x) (a +ℤ y) ≡ ltZ x y
 lt-shift a x y = lt-minus (a +ℤ x) (a +ℤ y) ∙ ap (λ (z : ℤ). ltZ z (pos 0)) (minus-shift a x y) ∙ sym (lt-minus x y)
-
-pub lt-turned : (x y : ℤ) → ltZ (negℤ x) (negℤ y) ≡ ltZ y x
-lt-turned x y =
-    lt-minus (negℤ x) (negℤ y)
-    ∙ ap (λ (z : ℤ). ltZ z (pos 0)) (ap (λ (z : ℤ). negℤ x +ℤ z) (negℤ-negℤ y) ∙ +ℤ-comm (negℤ x) y)
-    ∙ sym (lt-minus y x)
 
 -- ---- a direction: z on the way, as a number to add
 abbrev pub way : Bool → ℤ → ℤ
@@ -56,7 +44,7 @@ way rises z = cond rises z (negℤ z)
 -- of two numbers on the way from a, which comes first is the order of how far they lie
 pub along : (rises : Bool) (a x y : ℤ) → toward rises ltZ (a +ℤ way rises x) (a +ℤ way rises y) ≡ ltZ x y
 along true a x y = lt-shift a x y
-along false a x y = lt-shift a (negℤ y) (negℤ x) ∙ lt-turned y x
+along false a x y = lt-shift a (negℤ y) (negℤ x) ∙ neg-lt y x
 
 way-far : (rises : Bool) (n : ℕ) → natAbs (way rises (pos n)) ≡ n
 way-far true n = refl
@@ -130,13 +118,10 @@ module _ {rises : Bool} {a b d : ℤ} {p s : ℕ} (x : Sloped rises a b d p s) w
       ∙ entries-list (λ y. toward rises ltZ y b) (λ y. y +ℤ d) (element a d) (suc most) ((p - 1) / s + 1) (element-next a d) (λ k. element-before k ∙ rounded-up k p s (x .moves) (x .apart))
 
 -- ---- the list of such an axis
-no-less : (x y : ℤ) → ltZ x y ≡ true → ltZ y x ≡ false
-no-less = whole-order .asym
-
 stepped-run : (rises : Bool) {a b d : ℤ} {p s : ℕ} → Sloped rises a b d p s → stepped whole a b d ≡ cond (ltb s p) (run whole a b d rises) []
 unfolding stepped
-stepped-run true {a} {b} x = rw (first-before x, second-before x, no-less a b (first-before x)) refl
-stepped-run false {a} {b} x = rw (no-less b a (first-before x), first-before x, second-before x) refl
+stepped-run true {a} {b} x = rw (first-before x, second-before x, whole-order .asym a b (first-before x)) refl
+stepped-run false {a} {b} x = rw (whole-order .asym b a (first-before x), first-before x, second-before x) refl
 
 stepped-sloped : {rises : Bool} {a b d : ℤ} {p s : ℕ} → Sloped rises a b d p s → stepped whole a b d ≡ listOf (element a d) (min (suc most) (wholeCount a b d))
 stepped-sloped {rises} {a} {b} {d} {p} {s} x = stepped-run rises x ∙ go (ltb s p) refl
@@ -151,15 +136,12 @@ stepped-sloped {rises} {a} {b} {d} {p} {s} x = stepped-run rises x ∙ go (ltb s
 -- ---- every axis that is not refused with 6 is such an axis, or its ends are equal
 -- y lies so far after x
 after : (x y : ℤ) → ltZ x y ≡ true → y ≡ x +ℤ pos (natAbs (y -ℤ x))
-after x y h = sym (-ℤ-+ℤ-cancel y x) ∙ ap (λ (z : ℤ). z +ℤ x) (sym (pos-natAbs (y -ℤ x) (ordered x y (not-lt y x (no-less x y h))))) ∙ +ℤ-comm (pos (natAbs (y -ℤ x))) x
+after x y h = sym (-ℤ-+ℤ-cancel y x) ∙ ap (λ (z : ℤ). z +ℤ x) (sym (pos-natAbs (y -ℤ x) (ordered x y (not-lt y x (whole-order .asym x y h))))) ∙ +ℤ-comm (pos (natAbs (y -ℤ x))) x
 
 apart-some : (x y : ℤ) → ltZ x y ≡ true → 0 < natAbs (y -ℤ x)
 apart-some x y h =
     let p = natAbs (y -ℤ x) in
     ltb-true 0 p (sym (lt-shift x (pos 0) (pos p)) ∙ ap (λ (z : ℤ). ltZ z (x +ℤ pos p)) (+ℤ-idr x) ∙ ap (λ (z : ℤ). ltZ x z) (sym (after x y h)) ∙ h)
-
-turned-far : (x y : ℤ) → natAbs (y -ℤ x) ≡ natAbs (x -ℤ y)
-turned-far x y = sym (neg-far (y -ℤ x)) ∙ ap natAbs (negℤ-+ℤ y (negℤ x) ∙ ap (λ (z : ℤ). negℤ y +ℤ z) (negℤ-negℤ x) ∙ +ℤ-comm (negℤ y) x)
 
 step-up : (d : ℤ) → (ltZ d (pos 0) || (leZ d (pos 0) && leZ (pos 0) d)) ≡ false → (d ≡ pos (natAbs d)) × (0 < natAbs d)
 step-up (pos zero) h = absurd (true≢false h)
@@ -171,16 +153,12 @@ step-down (pos zero) h = absurd (true≢false h)
 step-down (pos (suc n)) h = absurd (true≢false (sym (rw (lt-ltb 0 (suc n) (omega arith)) refl) ∙ h))
 step-down (negsuc n) h = (refl, omega arith)
 
-or-none : (x y : Bool) → (x || y) ≡ false → (x ≡ false) × (y ≡ false)
-or-none true y h = absurd (true≢false h)
-or-none false y h = (refl, h)
-
 -- equal ends
 less-self : (x : ℤ) → ltZ x x ≡ false
 less-self x = go (ltZ x x) refl
   where
     go : (t : Bool) → ltZ x x ≡ t → ltZ x x ≡ false
-    go true e = no-less x x e
+    go true e = whole-order .asym x x e
     go false e = e
 
 level-count : (a d : ℤ) → wholeCount a a d ≡ 0
@@ -206,16 +184,16 @@ module _ (a b d : ℤ) (h : against whole a b d ≡ false) where
   up-of : ltZ a b ≡ true → Sloped true a b d (natAbs (b -ℤ a)) (natAbs d)
   unfolding against
   up-of e =
-      let u = step-up d (subst (λ (t : Bool). (t && wrong) ≡ false) e (or-none (ltZ a b && wrong) (ltZ b a && other) h .0)) in
+      let u = step-up d (subst (λ (t : Bool). (t && wrong) ≡ false) e (both-false (ltZ a b && wrong) (ltZ b a && other) h .0)) in
       record { end = after a b e; step = u .0; apart = apart-some a b e; moves = u .1 }
 
   down-of : ltZ b a ≡ true → Sloped false a b d (natAbs (b -ℤ a)) (natAbs d)
   unfolding against
   down-of e =
-      let u = step-down d (subst (λ (t : Bool). (t && other) ≡ false) e (or-none (ltZ a b && wrong) (ltZ b a && other) h .1)) in
+      let u = step-down d (subst (λ (t : Bool). (t && other) ≡ false) e (both-false (ltZ a b && wrong) (ltZ b a && other) h .1)) in
       let p = natAbs (a -ℤ b) in
       let far : b ≡ a +ℤ negℤ (pos p) = sym (+ℤ-negℤ-cancel b (pos p)) ∙ ap (λ (z : ℤ). z +ℤ negℤ (pos p)) (sym (after b a e)) in
-      record { end = rw (turned-far a b) far; step = u .0; apart = rw (turned-far a b) (apart-some b a e); moves = u .1 }
+      record { end = rw (turned-far b a) far; step = u .0; apart = rw (turned-far b a) (apart-some b a e); moves = u .1 }
 
   pub sloped : (a ≡ b → ⊥) → Sloped (ltZ a b) a b d (natAbs (b -ℤ a)) (natAbs d)
   sloped n = go (ltZ a b) refl (ltZ b a) refl

@@ -1,6 +1,6 @@
 -- The steps of the calls on whole stepped axes, by the tests that lead to each answer. Assumes nothing.
 use mathlib.Core.Path.{_≡_, refl, sym, ap, subst, _∙_}
-use mathlib.Core.Bool.{Bool, true, false, cond, true≢false, _&&_, _||_}
+use mathlib.Core.Bool.{Bool, true, false, cond, true≢false, _&&_, _||_, or-false}
 use mathlib.Core.List.{List, []}
 use Prim.Native.Nat.{ℕ, zero, suc, _+_, _-_, _/_, _≤_, _<_}
 use native.Mathlib.Decide.{decLt}
@@ -14,7 +14,7 @@ use Rattle.ranged1d.specs.Answer.{Answer, given, refused}
 use Rattle.ranged1d.specs.declared.Limit.{Limit}
 use Rattle.real.specs.Place.{wholePlace}
 use Rattle.search.proofs.WholeOrder.{whole-order}
-use Rattle.linspace.specs.List.{whole, most, toward, entries, run, stepped, against, axisAdmitted}
+use Rattle.linspace.specs.List.{whole, most, toward, run, stepped, against, axisAdmitted}
 use Rattle.linspace.specs.Calls.{hasEntries}
 use Rattle.linspace.specs.WholeSteps.{wholeCount, Known}
 use Rattle.linspace.proofs.Entries.{entries-some}
@@ -32,10 +32,6 @@ not-below : (d : ℤ) → leZ (pos 0) d ≡ (ltZ (pos 0) d || (leZ (pos 0) d && 
 not-below (pos zero) = refl
 not-below (pos (suc n)) = leb·zero (suc n) ∙ sym (rw (lt-ltb 0 (suc n) (omega arith)) refl)
 not-below (negsuc n) = refl
-
-or-false : (x : Bool) → (x || false) ≡ x
-or-false true = refl
-or-false false = refl
 
 module _ (a b d : ℤ) where
   pub against-up : ltZ a b ≡ true → leZ d (pos 0) ≡ against whole a b d

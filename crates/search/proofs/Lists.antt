@@ -1,32 +1,17 @@
 -- Lists that are walked: their entries, their order, and which of them can be searched. Assumes nothing.
-use mathlib.Core.Path.{_≡_, refl, sym, ap, subst, _∙_}
-use mathlib.Core.Bool.{Bool, true, false, cond, true≢false, not, _&&_, _||_}
+use mathlib.Core.Path.{_≡_, refl, sym, ap, _∙_}
+use mathlib.Core.Bool.{Bool, true, false, true≢false, _&&_, _||_, and-true, and-false, and-self, and-assoc, or-false}
 use mathlib.Core.List.{List, [], _∷_}
 use Prim.Native.Nat.{ℕ, zero, suc, _+_, _-_, _≤_, _<_}
 use native.Mathlib.Omega.{arith}
 use lib.ListN.{length, getD, take, drop, length-drop}
 use lib.Seq.{take-all, drop-drop}
+use Rattle.ranged1d.proofs.Bools.{both-true}
 use Rattle.search.specs.Search.{Numbers}
 use Rattle.search.specs.Lists.{every, goesOn, ascends, searchable}
 use Rattle.search.specs.Steps.{toward, risesFirst}
-use Rattle.search.proofs.Orders.{Order, Between, turned}
+use Rattle.search.proofs.Orders.{Order, Between, way}
 use Rattle.search.proofs.Settles.{Sorted, Ordinary}
-
-and-left : (x y : Bool) → (x && y) ≡ true → x ≡ true
-and-left true y h = refl
-and-left false y h = h
-
-and-right : (x y : Bool) → (x && y) ≡ true → y ≡ true
-and-right true y h = h
-and-right false y h = absurd (true≢false (sym h))
-
-and-regroup : (x y z : Bool) → (x && (y && z)) ≡ ((x && y) && z)
-and-regroup true y z = refl
-and-regroup false y z = refl
-
-and-true : (x : Bool) → (x && true) ≡ x
-and-true true = refl
-and-true false = refl
 
 module _ {A : Type 0} where
   -- an entry that there is does not depend on what stands for none
@@ -69,19 +54,19 @@ module _ {A : Type 0} where
     ascends-cut (x ∷ []) (suc n) h = absurd (omega (arith, h))
     ascends-cut (x ∷ (y ∷ ys)) (suc n) h =
         ap (λ (b : Bool). lt x y && b) (ascends-cut (y ∷ ys) n (omega (arith, h)))
-        ∙ and-regroup (lt x y) (ascends lt (take (suc n) (y ∷ ys))) (ascends lt (drop n (y ∷ ys)))
+        ∙ sym (and-assoc (lt x y) (ascends lt (take (suc n) (y ∷ ys))) (ascends lt (drop n (y ∷ ys))))
 
 -- ---- what an ordered list is: each entry comes before every later one, and where there are two, every entry equals itself
 module _ {A : Type 0} {lt eq : A → A → Bool} (o : Order A lt eq) (d : A) where
   goes-before : (x : A) (l : List A) → goesOn lt x l ≡ true → (k : ℕ) → k < length l → lt x (getD l k d) ≡ true
   goes-before x [] g k h = absurd (omega (arith, h))
-  goes-before x (y ∷ ys) g zero h = and-left (lt x y) (goesOn lt y ys) g
+  goes-before x (y ∷ ys) g zero h = both-true (lt x y) (goesOn lt y ys) g .0
   goes-before x (y ∷ ys) g (suc k) h =
-      o .trans x y (getD ys k d) (and-left (lt x y) (goesOn lt y ys) g) (goes-before y ys (and-right (lt x y) (goesOn lt y ys) g) k (omega (arith, h)))
+      o .trans x y (getD ys k d) (both-true (lt x y) (goesOn lt y ys) g .0) (goes-before y ys (both-true (lt x y) (goesOn lt y ys) g .1) k (omega (arith, h)))
 
   goes-on : (x : A) (l : List A) → goesOn lt x l ≡ true → ascends lt l ≡ true
   goes-on x [] g = refl
-  goes-on x (y ∷ ys) g = and-right (lt x y) (goesOn lt y ys) g
+  goes-on x (y ∷ ys) g = both-true (lt x y) (goesOn lt y ys) g .1
 
   pub sorted : (l : List A) → ascends lt l ≡ true → Sorted lt l d
   sorted [] a j k h m = absurd (omega (arith, h, m))
@@ -92,27 +77,23 @@ module _ {A : Type 0} {lt eq : A → A → Bool} (o : Order A lt eq) (d : A) whe
   selves : (x : A) (l : List A) → eq x x ≡ true → goesOn lt x l ≡ true → every (λ z. eq z z) l ≡ true
   selves x [] e g = refl
   selves x (y ∷ ys) e g =
-      let r : eq y y ≡ true = o .right x y (and-left (lt x y) (goesOn lt y ys) g) in
-      rw (r, selves y ys r (and-right (lt x y) (goesOn lt y ys) g)) refl
+      let r : eq y y ≡ true = o .right x y (both-true (lt x y) (goesOn lt y ys) g .0) in
+      rw (r, selves y ys r (both-true (lt x y) (goesOn lt y ys) g .1)) refl
 
   pub all-selves : (x y : A) (l : List A) → ascends lt (x ∷ (y ∷ l)) ≡ true → every (λ z. eq z z) (x ∷ (y ∷ l)) ≡ true
   all-selves x y l a =
-      let e : eq x x ≡ true = o .left x y (and-left (lt x y) (goesOn lt y l) a) in
+      let e : eq x x ≡ true = o .left x y (both-true (lt x y) (goesOn lt y l) a .0) in
       rw (e, selves x (y ∷ l) e a) refl
 
 pub ordinary : {A : Type 0} (eq : A → A → Bool) (d : A) (l : List A) → every (λ z. eq z z) l ≡ true → Ordinary eq l d
 ordinary eq d [] e k h = absurd (omega (arith, h))
-ordinary eq d (x ∷ xs) e zero h = and-left (eq x x) (every (λ z. eq z z) xs) e
-ordinary eq d (x ∷ xs) e (suc k) h = ordinary eq d xs (and-right (eq x x) (every (λ z. eq z z) xs) e) k (omega (arith, h))
+ordinary eq d (x ∷ xs) e zero h = both-true (eq x x) (every (λ z. eq z z) xs) e .0
+ordinary eq d (x ∷ xs) e (suc k) h = ordinary eq d xs (both-true (eq x x) (every (λ z. eq z z) xs) e .1) k (omega (arith, h))
 
 -- ---- 8: a list can be searched exactly where it goes on as its first two entries do, and its one entry, if it has one, equals itself
 module _ {A : Type 0} (num : Numbers A) (o : Order A (num .less) (num .equal)) where
   abbrev own : A → Bool
   own z = num .equal z z
-
-  pub way : (rises : Bool) → Order A (toward rises (num .less)) (num .equal)
-  way true = o
-  way false = turned o
 
   -- one entry
   pub searchable-one : (l : List A) (d : A) → length l ≡ 1 → searchable num l ≡ own (getD l 0 d)
@@ -128,11 +109,7 @@ module _ {A : Type 0} (num : Numbers A) (o : Order A (num .less) (num .equal)) w
   -- more than one
   two : (x y : A) (ys : List A) (rises : Bool) → num .less x y ≡ rises
       → (ascends (num .less) (x ∷ (y ∷ ys)) || ascends (λ v w. num .less w v) (x ∷ (y ∷ ys))) ≡ ascends (toward rises (num .less)) (x ∷ (y ∷ ys))
-  two x y ys true e = rw (e, o .asym x y e) (go (goesOn (num .less) y ys))
-    where
-      go : (b : Bool) → (b || false) ≡ b
-      go true = refl
-      go false = refl
+  two x y ys true e = rw (e, o .asym x y e) (or-false (goesOn (num .less) y ys))
   two x y ys false e = rw e refl
 
   pub searchable-is : (l : List A) → (length l ≡ 1 → ⊥) → searchable num l ≡ ascends (toward (risesFirst (num .less) l) (num .less)) l
@@ -143,17 +120,13 @@ module _ {A : Type 0} (num : Numbers A) (o : Order A (num .less) (num .equal)) w
       ap (λ (b : Bool). every own (x ∷ (y ∷ ys)) && b) (two x y ys (num .less x y) refl) ∙ go (ascends (toward (num .less x y) (num .less)) (x ∷ (y ∷ ys))) refl
     where
       go : (b : Bool) → ascends (toward (num .less x y) (num .less)) (x ∷ (y ∷ ys)) ≡ b → (every own (x ∷ (y ∷ ys)) && b) ≡ b
-      go true a = rw (all-selves (way (num .less x y)) x x y ys a) refl
-      go false a = none-of (every own (x ∷ (y ∷ ys)))
-        where
-          none-of : (b : Bool) → (b && false) ≡ false
-          none-of true = refl
-          none-of false = refl
+      go true a = rw (all-selves (way o (num .less x y)) x x y ys a) refl
+      go false a = and-false (every own (x ∷ (y ∷ ys)))
 
   -- every entry of a list that can be searched equals itself
   pub searchable-own : (l : List A) → searchable num l ≡ true → every own l ≡ true
   unfolding searchable
-  searchable-own l h = and-left (every own l) (ascends (num .less) l || ascends (λ v w. num .less w v) l) h
+  searchable-own l h = both-true (every own l) (ascends (num .less) l || ascends (λ v w. num .less w v) l) h .0
 
 -- ---- the first two entries
 pub rises-short : {A : Type 0} (lt : A → A → Bool) (l : List A) → length l < 2 → risesFirst lt l ≡ true
@@ -181,7 +154,7 @@ module _ {A : Type 0} (lt : A → A → Bool) (d : A) (l : List A) where
       rw (e, less-one j, more-one j)
       (rw (less-one j) at a
       ∙ ap (λ (b : Bool). ok && b) (ascends-step lt d l j m)
-      ∙ and-regroup ok (lt (getD l j d) (getD l (suc j) d)) (ascends lt (drop (suc j) l)))
+      ∙ sym (and-assoc ok (lt (getD l j d) (getD l (suc j) d)) (ascends lt (drop (suc j) l))))
 
   pub walk-done : {ok : Bool} (k : ℕ) → 1 ≤ k → length l ≤ k → ascends lt l ≡ (ok && ascends lt (drop (k - 1) l)) → ok ≡ ascends lt l
   walk-done zero h m a = absurd (omega (arith, h))
@@ -208,17 +181,13 @@ module _ {A : Type 0} {lt eq : A → A → Bool} (o : Order A lt eq) (d : A) (p 
   second : (x y : A) (ys : List A) → goesOn lt x (y ∷ ys) ≡ true → p x ≡ true → p (getD (y ∷ ys) (length ys) d) ≡ true → p y ≡ true
   second x y [] g f e = e
   second x y (z ∷ zs) g f e =
-      between x y (getD (z ∷ zs) (length zs) d) (and-left (lt x y) (goesOn lt y (z ∷ zs)) g)
-      (goes-before o d y (z ∷ zs) (and-right (lt x y) (goesOn lt y (z ∷ zs)) g) (length zs) (omega arith)) f e
+      between x y (getD (z ∷ zs) (length zs) d) (both-true (lt x y) (goesOn lt y (z ∷ zs)) g .0)
+      (goes-before o d y (z ∷ zs) (both-true (lt x y) (goesOn lt y (z ∷ zs)) g .1) (length zs) (omega arith)) f e
 
   ends-of : (x : A) (l : List A) → goesOn lt x l ≡ true → every p (x ∷ l) ≡ (p x && p (getD (x ∷ l) (length l) d))
-  ends-of x [] g = go (p x)
-    where
-      go : (b : Bool) → (b && true) ≡ (b && b)
-      go true = refl
-      go false = refl
+  ends-of x [] g = and-true (p x) ∙ sym (and-self (p x))
   ends-of x (y ∷ ys) g =
-      ap (λ (b : Bool). p x && b) (ends-of y ys (and-right (lt x y) (goesOn lt y ys) g))
+      ap (λ (b : Bool). p x && b) (ends-of y ys (both-true (lt x y) (goesOn lt y ys) g .1))
       ∙ go (p x) (p y) (p (getD (y ∷ ys) (length ys) d)) (second x y ys g)
     where
       go : (a b c : Bool) → (a ≡ true → c ≡ true → b ≡ true) → (a && (b && c)) ≡ (a && c)

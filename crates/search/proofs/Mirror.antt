@@ -1,24 +1,23 @@
 -- The mirror theorem for searches of lent lists. Assumes nothing.
 use mathlib.Core.Path.{_≡_, refl, sym, ap, subst, _∙_}
-use mathlib.Core.Bool.{Bool, true, false, cond, not, _&&_, _||_, Bool·beq}
-use mathlib.Core.Logic.{_⊎_, inl, inr}
+use mathlib.Core.Bool.{Bool, true, false, cond, not, and-comm, Bool·beq}
+use mathlib.Core.Logic.{inl, inr}
 use mathlib.Core.List.{List, [], _∷_, map}
-use Prim.Native.Nat.{ℕ, zero, suc, _+_, _-_, _*_, _≤_, _<_}
+use Prim.Native.Nat.{ℕ, _+_, _-_, _*_, _≤_, _<_}
 use native.Mathlib.Nat.{add-comm, mul-comm, zero-mul}
 use native.Mathlib.Omega.{arith}
 use native.Mathlib.Decide.{decLt}
 use borrow.Author.Tests.{lt-ltb, le-ltb}
 use lib.Dec.{ltb}
-use lib.IntN.{ℤ, pos, negsuc, negℤ, natAbs, _+ℤ_, _-ℤ_, negℤ-negℤ, +ℤ-comm}
-use lib.ListN.{length}
-use lib.Signed.{ltZ, leZ}
-use lib.Ieee.{Float, nan, inf, fin, binary64, up, down, below, round, neg, sum, add, sub, lt, eq}
+use lib.IntN.{ℤ, negℤ, _+ℤ_, _-ℤ_, negℤ-negℤ, +ℤ-comm}
+use lib.Signed.{leZ}
+use lib.Ieee.{Float, nan, inf, fin, binary64, up, down, below, round, neg, sum, add, sub, lt}
 use Rattle.ranged1d.specs.Admitted.{wholeAdmitted}
-use Rattle.ranged1d.proofs.Whole.{neg-far, neg-le, not-lt, lt-not}
+use Rattle.ranged1d.proofs.Whole.{neg-le, neg-lt, admitted-neg}
 use Rattle.rounding.proofs.Signs.{neg-neg}
-use Rattle.real.proofs.Signs.{Alike, zeroOf, eq-neg, eq-alike, alike-back, alike-on, alike-through, same-through, add-left}
+use Rattle.real.proofs.Signs.{Alike, zeroOf, eq-neg, eq-alike, alike-on, alike-through, same-through, add-left}
 use Rattle.search.specs.Search.{wholes, reals, search}
-use Rattle.search.specs.Lists.{every, isExact, isNan, wholeSearch, realSearch}
+use Rattle.search.specs.Lists.{every, wholeSearch, realSearch}
 use Rattle.search.specs.Mirror.{turned, Mirrored}
 use Rattle.search.specs.declared.RoundingMethod.{RoundingMethod}
 use Rattle.search.specs.declared.RoundingMethod.the-variants.{Exact, Ceil, Floor, Round}
@@ -29,31 +28,15 @@ use Rattle.search.proofs.Turned.{Turns, Each, end, more, each-length, s
 abbrev pub Opposite : ℤ → ℤ → Type 0
 Opposite x x' = x ≡ negℤ x'
 
-not-le : (x y : ℤ) → ltZ x y ≡ not (leZ y x)
-not-le x y = go (ltZ x y) refl
-  where
-    go : (b : Bool) → ltZ x y ≡ b → ltZ x y ≡ not (leZ y x)
-    go true e = e ∙ sym (ap not (lt-not x y e))
-    go false e = e ∙ sym (ap not (not-lt x y e))
-
-neg-lt : (x y : ℤ) → ltZ (negℤ x) (negℤ y) ≡ ltZ y x
-neg-lt x y = not-le (negℤ x) (negℤ y) ∙ ap not (neg-le y x) ∙ sym (not-le y x)
-
 less-opposite : (x y : ℤ) → negℤ x -ℤ negℤ y ≡ y -ℤ x
 less-opposite x y = ap (λ (z : ℤ). negℤ x +ℤ z) (negℤ-negℤ y) ∙ +ℤ-comm (negℤ x) y
 
 pub whole-turns : Turns wholes Opposite
 whole-turns = record {
   less-turns = λ {x} {x'} {y} {y'} r s. rw (r, s) (neg-lt x' y');
-  equal-turns = λ {x} {x'} {y} {y'} r s. rw (r, s, neg-le x' y', neg-le y' x') (and-turns (leZ y' x') (leZ x' y'));
+  equal-turns = λ {x} {x'} {y} {y'} r s. rw (r, s, neg-le x' y', neg-le y' x') (and-comm (leZ y' x') (leZ x' y'));
   apart-turns = λ {x} {x'} {y} {y'} {z} {z'} {w} {w'} r s u v. rw (r, s, u, v, less-opposite x' y', less-opposite z' w') refl;
 }
-  where
-    and-turns : (s t : Bool) → (s && t) ≡ (t && s)
-    and-turns true true = refl
-    and-turns true false = refl
-    and-turns false true = refl
-    and-turns false false = refl
 
 -- ---- floats: negated, up to the sign of a zero
 abbrev pub Across : Float → Float → Type 0
@@ -119,7 +102,7 @@ below-zero false u b = refl
 below-zero true false b = let e : 0 + b ≡ b = omega arith in ap (ltb 0) e
 below-zero true true b = let l : 0 ≤ b = omega arith in le-ltb b 0 l
 
-lt-zero : (y : Float) (s t : Bool) → lt (zeroOf s) y ≡ lt (zeroOf t) y
+pub lt-zero : (y : Float) (s t : Bool) → lt (zeroOf s) y ≡ lt (zeroOf t) y
 unfolding lt
 lt-zero nan s t = refl
 lt-zero (inf u) s t = refl
@@ -151,9 +134,6 @@ opposites (x ∷ xs) = more refl (opposites xs)
 across : (l : List Float) → Each Across (map neg l) l
 across [] = end
 across (x ∷ xs) = more (inl refl) (across xs)
-
-admitted-neg : (z : ℤ) → wholeAdmitted (negℤ z) ≡ wholeAdmitted z
-admitted-neg z = rw (neg-far z) refl
 
 all-admitted : (l : List ℤ) → every wholeAdmitted (map negℤ l) ≡ every wholeAdmitted l
 all-admitted [] = refl

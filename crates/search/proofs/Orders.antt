@@ -1,7 +1,6 @@
 -- What the proofs on searches ask of an order and its equality, in either direction. Assumes nothing.
-use mathlib.Core.Path.{_≡_, refl, sym, ap, subst, _∙_}
+use mathlib.Core.Path.{_≡_, _∙_}
 use mathlib.Core.Bool.{Bool, true, false}
-use Prim.Native.Nat.{ℕ}
 use Rattle.search.specs.Steps.{toward}
 
 -- `total` is asked of numbers that equal themselves: a NaN does not
@@ -29,6 +28,11 @@ turned o = record {
   right = λ x y p. o .left y x p;
   total = λ x y p q l e. o .total y x q p l (o .even y x ∙ e);
 }
+
+-- the order of a list that rises or falls
+pub way : {A : Type 0} {lt eq : A → A → Bool} → Order A lt eq → (rises : Bool) → Order A (toward rises lt) eq
+way o true = o
+way o false = turned o
 
 -- ---- a test that is passed by whatever lies between two that pass it, in either direction
 abbrev pub Between : {A : Type 0} → (A → A → Bool) → (A → Bool) → Type 0

@@ -7,25 +7,22 @@ use native.Mathlib.Omega.{arith}
 use native.Mathlib.Decide.{decLt}
 use borrow.Author.Tests.{lt-ltb, le-ltb, eq-eqb, ne-eqb, ltb-true, ltb-false, eqb-true, eqb-false}
 use lib.Dec.{ltb, eqb, T}
-use lib.IntN.{ℤ, pos, negsuc}
 use lib.Ieee as Ieee
 use lib.Ieee.{Float, nan, inf, fin, up, down, below, level, lt, eq, neg}
 use lib.Ieee.Fits.{down-pos}
+use Rattle.ranged1d.proofs.Bools.{both-true}
+use Rattle.rounding.proofs.Order.{eq-zero}
 use Rattle.real.proofs.Signs.{eq-neg}
 use Rattle.real.proofs.Exact.{eq-self}
 use Rattle.search.proofs.Orders.{Order}
 
-never : {A : Type 0} → _≡_ {A = Bool} false true → A
+pub never : {A : Type 0} → _≡_ {A = Bool} false true → A
 never e = absurd (true≢false (sym e))
 
 -- ---- fractions a ÷ p, b ÷ q, c ÷ r
 positive : (x y : ℕ) → 0 < x * y → 0 < x
 positive zero y h = absurd (omega (arith, h, zero-mul y))
 positive (suc x) y h = omega arith
-
-nothing : (x y : ℕ) → 0 < y → x * y ≡ 0 → x ≡ 0
-nothing zero y h e = refl
-nothing (suc x) y h e = let m : 0 < suc x * y = mul-pos (omega arith) h in absurd (omega (arith, m, e))
 
 less-across : (a b c p q r : ℕ) → 0 < p → 0 < r → a * q < b * p → b * r < c * q → a * r < c * p
 less-across a b c p q r P R h k =
@@ -76,10 +73,6 @@ below-asym false false a b h = let l : a < b = ltb-true a b h in le-ltb b a (ome
 below-asym false true a b h = never h
 below-asym true false a b h = refl
 below-asym true true a b h = let l : b < a = ltb-true b a h in le-ltb a b (omega (arith, l))
-
-and-no : (x : Bool) → (x && false) ≡ false
-and-no true = refl
-and-no false = refl
 
 below-apart : (s t : Bool) (a b : ℕ) → below s a t b ≡ true → level s a t b ≡ false
 below-apart false false a b h = let l : a < b = ltb-true a b h in rw (ne-eqb a b (λ e. omega (arith, l, e))) refl
@@ -164,8 +157,8 @@ level-follow s t u a b c p q r P Q R h k = go (levelled s t (a * q) (b * p) h)
     go : Level s t (a * q) (b * p) → below s (a * r) u (c * p) ≡ true
     go (signs e d) = subst (λ (w : Bool). below w (a * r) u (c * p) ≡ true) (sym e) (like t u d k)
     go (zeros x y) =
-        let z = zero-to t u (nothing a q Q x) (nothing b p P y) k in
-        subst (λ (w : Bool). below s (a * r) w (c * p) ≡ true) (sym (z .0)) (zero-from s (nothing a q Q x) (z .1))
+        let z = zero-to t u (eq-zero a q Q x) (eq-zero b p P y) k in
+        subst (λ (w : Bool). below s (a * r) w (c * p) ≡ true) (sym (z .0)) (zero-from s (eq-zero a q Q x) (z .1))
 
 below-total : (s t : Bool) (a b : ℕ) → below s a t b ≡ false → level s a t b ≡ false → below t b s a ≡ true
 below-total false false a b h k =
@@ -197,7 +190,7 @@ below-total true true a b h k =
     other (no g) l = let e : a ≡ b = omega (arith, g, l) in absurd (true≢false (sym (rw (eq-eqb a b e) refl) ∙ k))
 
 -- ---- floats
--- nothing lies past infinity
+-- eq-zero lies past infinity
 past-top : (t : Bool) (z : Float) → not t ≡ true → lt (inf t) z ≡ true → ⊥
 unfolding lt
 past-top true z h k = never h
@@ -205,15 +198,11 @@ past-top false nan h k = never k
 past-top false (inf u) h k = never k
 past-top false (fin u c g) h k = never k
 
-last-of : (s t : Bool) → (s && t) ≡ true → t ≡ true
-last-of true t h = h
-last-of false t h = never h
-
 lt-trans : (x y z : Float) → lt x y ≡ true → lt y z ≡ true → lt x z ≡ true
 unfolding lt
 lt-trans nan y z h k = never h
 lt-trans (inf s) nan z h k = never h
-lt-trans (inf s) (inf t) z h k = absurd (past-top t z (last-of s (not t) h) k)
+lt-trans (inf s) (inf t) z h k = absurd (past-top t z (both-true s (not t) h .1) k)
 lt-trans (inf s) (fin t b d) nan h k = never k
 lt-trans (inf s) (fin t b d) (inf u) h k = rw (h, k) refl
 lt-trans (inf s) (fin t b d) (fin u c g) h k = h

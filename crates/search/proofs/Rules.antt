@@ -1,29 +1,29 @@
 -- The searches of lent lists, return by return. Assumes nothing.
-use mathlib.Core.Path.{_≡_, refl, sym, ap, subst, _∙_}
-use mathlib.Core.Bool.{Bool, true, false, cond, true≢false, not, _&&_, _||_}
+use mathlib.Core.Path.{_≡_, refl, sym, _∙_}
+use mathlib.Core.Bool.{Bool, true, false, cond, not, _&&_}
 use mathlib.Core.List.{List, [], _∷_}
-use Prim.Native.Nat.{ℕ, zero, suc, _-_, _≤_, _<_}
+use Prim.Native.Nat.{ℕ, suc, _-_, _<_}
 use native.Mathlib.Omega.{arith}
 use borrow.Author.Tests.{lt-ltb, not-false}
-use lib.Dec.{ltb}
 use lib.IntN.{ℤ, pos}
 use lib.ListN.{length, getD}
 use lib.Signed.{ltZ}
 use lib.Ieee as Ieee
 use lib.Ieee.{Float, nan, inf, fin}
-use Rattle.ranged1d.specs.Answer.{Answer, given, none, refused}
+use Rattle.ranged1d.specs.Answer.{Answer, none, refused}
 use Rattle.ranged1d.specs.Admitted.{wholeAdmitted}
 use Rattle.search.specs.Search.{Numbers, wholes, reals, best, search}
-use Rattle.search.specs.Lists.{every, ascends, searchable, isExact, wholeSearch, realSearch}
+use Rattle.search.specs.Lists.{every, ascends, searchable, wholeSearch, realSearch}
 use Rattle.search.specs.Settled.{settled, settledNan}
 use Rattle.search.specs.Steps.{toward, risesFirst, PlaceOf}
 use Rattle.search.specs.declared.RoundingMethod.{RoundingMethod}
 use Rattle.search.specs.declared.RoundingMethod.the-variants.{Exact, Ceil, Floor, Round}
 use Rattle.search.proofs.Best.{best-none}
-use Rattle.search.proofs.Orders.{Order, between-toward}
-use Rattle.search.proofs.WholeOrder.{whole-order, whole-between, equal-self}
+use Rattle.real.proofs.Cases.{same-yes}
+use Rattle.search.proofs.Orders.{Order, way, between-toward}
+use Rattle.search.proofs.WholeOrder.{whole-order, whole-between}
 use Rattle.search.proofs.Settles.{settles}
-use Rattle.search.proofs.Lists.{way, sorted, ordinary, searchable-one, searchable-is, searchable-own, ends}
+use Rattle.search.proofs.Lists.{sorted, ordinary, searchable-one, searchable-is, ends}
 use Rattle.search.proofs.Halves.{place-any}
 
 -- ---- a list that can be searched, by the target's place in it
@@ -33,7 +33,7 @@ module _ {A : Type 0} (num : Numbers A) (o : Order A (num .less) (num .equal)) w
       → PlaceOf (toward rises (num .less)) l d t i → ((j : ℕ) → suc j ≡ i → x ≡ getD l j t) → y ≡ getD l i t
       → settled num method rises (length l) i x t y ≡ search num t method l
   found rises l t d method i x y a e self p xi yi =
-      sym (settles num t o rises method l i x y (sorted (way num o rises) t l a) (ordinary (num .equal) t l e) self (place-any (toward rises (num .less)) l d t t i p) (λ h. yi) xi)
+      sym (settles num t o rises method l i x y (sorted (way o rises) t l a) (ordinary (num .equal) t l e) self (place-any (toward rises (num .less)) l d t t i p) (λ h. yi) xi)
 
   pub searched-ascends : (l : List A) (r : Bool) → r ≡ risesFirst (num .less) l → searchable num l ≡ true → ascends (toward r (num .less)) l ≡ true
   searched-ascends [] r e s = refl
@@ -43,23 +43,23 @@ module _ {A : Type 0} (num : Numbers A) (o : Order A (num .less) (num .equal)) w
 -- ---- whole lists
 whole-selves : (l : List ℤ) → every (λ z. wholes .equal z z) l ≡ true
 whole-selves [] = refl
-whole-selves (x ∷ xs) = rw (equal-self x, whole-selves xs) refl
+whole-selves (x ∷ xs) = rw (same-yes x x refl, whole-selves xs) refl
 
 pub whole-found : (rises : Bool) (l : List ℤ) (t d : ℤ) (method : RoundingMethod) (i : ℕ) (x y : ℤ)
     → ascends (toward rises ltZ) l ≡ true → PlaceOf (toward rises ltZ) l d t i → ((j : ℕ) → suc j ≡ i → x ≡ getD l j t) → y ≡ getD l i t
     → settled wholes method rises (length l) i x t y ≡ search wholes t method l
-whole-found rises l t d method i x y a p xi yi = found wholes whole-order rises l t d method i x y a (whole-selves l) (equal-self t) p xi yi
+whole-found rises l t d method i x y a p xi yi = found wholes whole-order rises l t d method i x y a (whole-selves l) (same-yes t t refl) p xi yi
 
 pub whole-searchable : (l : List ℤ) → searchable wholes l ≡ ascends (toward (risesFirst ltZ l) ltZ) l
 whole-searchable [] = searchable-is wholes whole-order [] (λ e. omega (arith, e))
-whole-searchable (x ∷ []) = searchable-one wholes whole-order (x ∷ []) x refl ∙ equal-self x
+whole-searchable (x ∷ []) = searchable-one wholes whole-order (x ∷ []) x refl ∙ same-yes x x refl
 whole-searchable (x ∷ (y ∷ ys)) = searchable-is wholes whole-order (x ∷ (y ∷ ys)) (λ e. omega (arith, e))
 
 -- what is admitted reaches from one number to another, so that the first and the last entry tell of all
 pub whole-ends : (l : List ℤ) → (length l ≡ 0 → ⊥) → searchable wholes l ≡ true → every wholeAdmitted l ≡ (wholeAdmitted (getD l 0 (pos 0)) && wholeAdmitted (getD l (length l - 1) (pos 0)))
 whole-ends l h s =
     let r = risesFirst ltZ l in
-    ends (way wholes whole-order r) (pos 0) wholeAdmitted (between-toward r (whole-between 1_000_000_000)) l h (sym (whole-searchable l) ∙ s)
+    ends (way whole-order r) (pos 0) wholeAdmitted (between-toward r (whole-between 1_000_000_000)) l h (sym (whole-searchable l) ∙ s)
 
 module _ (l : List ℤ) (t : ℤ) (method : RoundingMethod) where
   pub whole-entry-refused : every wholeAdmitted l ≡ false → _≡_ {A = Answer ℕ} (refused 1) (wholeSearch l t method)

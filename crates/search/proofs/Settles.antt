@@ -1,21 +1,21 @@
 -- The four searches, by the place of the target in an ordered list. Assumes nothing.
 use mathlib.Core.Path.{_≡_, refl, sym, ap, subst, _∙_}
-use mathlib.Core.Bool.{Bool, true, false, cond, true≢false, _&&_, _||_}
-use mathlib.Core.List.{List, [], _∷_}
+use mathlib.Core.Bool.{Bool, true, false, cond, true≢false, _||_}
+use mathlib.Core.List.{List}
 use Prim.Native.Nat.{ℕ, zero, suc, _≤_, _<_}
 use native.Mathlib.Omega.{arith}
 use native.Mathlib.Decide.{decLt}
 use borrow.Author.Tests.{lt-ltb, le-ltb}
 use lib.Dec.{ltb}
 use lib.ListN.{length, getD}
-use Rattle.ranged1d.specs.Answer.{Answer, given, none, refused}
-use Rattle.search.specs.Search.{Numbers, best, exact, up, down, nearer, between, indexOf, search}
-use Rattle.search.specs.Settled.{ahead, behind, nearest, closer, unequal, settled}
+use Rattle.ranged1d.specs.Answer.{Answer, given, none}
+use Rattle.search.specs.Search.{Numbers, best, exact, up, down, between, indexOf, search}
+use Rattle.search.specs.Settled.{closer, unequal, settled}
 use Rattle.search.specs.Steps.{toward, PlaceOf}
 use Rattle.search.specs.declared.RoundingMethod.{RoundingMethod}
 use Rattle.search.specs.declared.RoundingMethod.the-variants.{Exact, Ceil, Floor, Round}
 use Rattle.search.proofs.Best.{Beats, best-none, best-is}
-use Rattle.search.proofs.Orders.{Order, turned}
+use Rattle.search.proofs.Orders.{Order, way}
 
 -- each entry comes before every later one
 abbrev pub Sorted : {A : Type 0} → (A → A → Bool) → List A → A → Type 0
@@ -235,10 +235,6 @@ module _ {A : Type 0} (num : Numbers A) (t : A) where
 
   -- ---- the search of an ordered list, by the target's place in it
   module _ (o : Order A (num .less) (num .equal)) where
-    way : (rises : Bool) → Order A (toward rises (num .less)) (num .equal)
-    way true = o
-    way false = turned o
-
     -- what is found ahead of the target and behind it, in the list's own direction
     module _ (rises : Bool) (l : List A) where
       abbrev ahead-of : Answer (ℕ × A)
@@ -263,7 +259,7 @@ module _ {A : Type 0} (num : Numbers A) (t : A) where
         search-from rises method l (exact num t l) (ahead-of rises l) (behind-of rises l) refl (up-is rises l) (down-is rises l) ∙ go (decLt i (length l))
       where
         w : Order A (toward rises (num .less)) (num .equal)
-        w = way rises
+        w = way o rises
 
         told : (e a b e' a' b' : Answer (ℕ × A)) → e ≡ e' → a ≡ a' → b ≡ b' → from rises method e a b ≡ from rises method e' a' b'
         told e a b e' a' b' p q r = rw (p, q, r) refl

@@ -1,14 +1,14 @@
 -- A search of two lists that mirror each other. What mirrors what is any relation that turns comparisons round. Assumes nothing.
 use mathlib.Core.Path.{_≡_, refl, sym, ap, subst, _∙_}
-use mathlib.Core.Bool.{Bool, true, false, cond, true≢false, not, _&&_, _||_}
+use mathlib.Core.Bool.{Bool, true, false, cond, _&&_, _||_, or-comm}
 use mathlib.Core.List.{List, [], _∷_}
-use Prim.Native.Nat.{ℕ, zero, suc, _≤_, _<_}
+use Prim.Native.Nat.{ℕ, suc, _≤_, _<_}
 use native.Mathlib.Omega.{arith}
 use native.Mathlib.Decide.{decLt}
 use borrow.Author.Tests.{lt-ltb, le-ltb}
 use lib.Dec.{ltb}
 use lib.ListN.{length}
-use Rattle.ranged1d.specs.Answer.{Answer, given, none, refused}
+use Rattle.ranged1d.specs.Answer.{Answer, given, none}
 use Rattle.search.specs.Search.{Numbers, further, unlessBetter, best, exact, up, down, nearer, between, indexOf, search}
 use Rattle.search.specs.Lists.{every, goesOn, ascends, searchable, isExact}
 use Rattle.search.specs.Mirror.{turned}
@@ -130,14 +130,8 @@ module _ {A : Type 0} (num : Numbers A) (R : A → A → Type 0) (T : Turns num 
   ascends-turned a b h [] [] end = refl
   ascends-turned a b h (x ∷ xs) (x' ∷ xs') (more r e) = goes-turned a b h x x' xs xs' r e
 
-  or-turns : (x y : Bool) → (x || y) ≡ (y || x)
-  or-turns true true = refl
-  or-turns true false = refl
-  or-turns false true = refl
-  or-turns false false = refl
-
   pub searchable-turned : (l l' : List A) → Each R l l' → searchable num l' ≡ searchable num l
   unfolding searchable
   searchable-turned l l' e =
       rw (every-turned l l' e, ascends-turned (λ x y. num .less y x) (num .less) (λ x x' y y' r s. T .less-turns s r) l l' e, ascends-turned (num .less) (λ x y. num .less y x) (λ x x' y y' r s. T .less-turns r s) l l' e)
-      (ap (λ (b : Bool). every (λ x. num .equal x x) l && b) (or-turns (ascends (λ x y. num .less y x) l) (ascends (num .less) l)))
+      (ap (λ (b : Bool). every (λ x. num .equal x x) l && b) (or-comm (ascends (λ x y. num .less y x) l) (ascends (num .less) l)))

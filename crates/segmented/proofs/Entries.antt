@@ -1,6 +1,6 @@
 -- What is known of entries and their places: they are admitted, and near 0. Assumes nothing.
 use mathlib.Core.Path.{_≡_, refl, sym, ap, subst, _∙_}
-use mathlib.Core.Bool.{Bool, true, false, cond, true≢false}
+use mathlib.Core.Bool.{true, false}
 use mathlib.Core.List.{List}
 use Prim.Native.Nat.{ℕ, suc, _≤_, _<_}
 use native.Mathlib.Decide.{decLt}
@@ -17,15 +17,15 @@ use Rattle.numeric.specs.Marks.{listOf}
 use Rattle.numeric.specs.Calls.{element}
 use Rattle.real.specs.Place.{number, spot}
 use Rattle.real.proofs.Placed.{spot-near}
-use Rattle.search.proofs.WholeOrder.{equal-self}
+use Rattle.real.proofs.Cases.{same-yes}
 use Rattle.search.specs.declared.RoundingMethod.{RoundingMethod}
-use Rattle.linspace.specs.List.{Kind, whole, real, stepped}
+use Rattle.linspace.specs.List.{whole, stepped}
 use Rattle.linspace.specs.Calls.{nth}
 use Rattle.linspace.specs.WholeSteps.{Known}
-use Rattle.linspace.proofs.Entries.{nth-list, nth-past}
+use Rattle.linspace.proofs.Entries.{nth-list, nth-beyond}
 use Rattle.linspace.proofs.WholeList.{list-is, lies}
 use Rattle.linspace.proofs.WholeRules.{known-of}
-use Rattle.segmented.specs.Segments.{Axis, narrowed, start, entryAfter, successor, afterBeyond}
+use Rattle.segmented.specs.Segments.{Axis, narrowed, start, entryAfter}
 use Rattle.segmented.specs.Axes.{steppedAxis, steppedFinder}
 use Rattle.segmented.specs.Steps.{Stands, nextAnswer}
 use Rattle.segmented.proofs.Margin.{narrowed-admitted}
@@ -42,7 +42,7 @@ start-near axis first second float is {n} s limit h v {z} e =
 -- ---- whole numbers
 -- none of them is a NaN
 pub whole-sought : (a b d : ℤ) (method : RoundingMethod) (v : ℤ) → steppedFinder whole a b d method .unsought v ≡ false
-whole-sought a b d method v = rw (equal-self v) refl
+whole-sought a b d method v = rw (same-yes v v refl) refl
 
 module _ (a b d : ℤ) {n : ℕ} (s : Stands (steppedAxis whole a b d) n) where
   known : Known a b d n
@@ -58,7 +58,7 @@ module _ (a b d : ℤ) {n : ℕ} (s : Stands (steppedAxis whole a b d) n) where
       go (yes l) =
           let is : element a d k ≡ w = given-is (nth-list (element a d) n k l ∙ sym by-index ∙ e) in
           le-leb (natAbs w) 1_000_000_000 (omega (arith, ap natAbs is, lies known k l .near))
-      go (no l) = absurd (not-none (nth-past (element a d) n k (omega (arith, l)) ∙ sym by-index ∙ e))
+      go (no l) = absurd (not-none (nth-beyond (element a d) n k (omega (arith, l)) ∙ sym by-index ∙ e))
 
   pub next-admitted : (method : RoundingMethod) (v : ℤ) {w : ℤ} → nextAnswer (steppedAxis whole a b d) (steppedFinder whole a b d method) v ≡ given w → wholeAdmitted w ≡ true
   unfolding nextAnswer

@@ -10,6 +10,7 @@ use lib.Ieee.{Float, neg}
 use Rattle.ranged1d.specs.Answer.{Answer, given, none, refused, _when_, lowest}
 use Rattle.ranged1d.specs.Admitted.{wholeAdmitted, limitAdmitted}
 use Rattle.ranged1d.specs.declared.Limit.{Limit}
+use Rattle.ranged1d.proofs.Bools.{both-true}
 use Rattle.rounding.specs.declared.Whole.{Whole}
 use Rattle.rounding.specs.declared.Whole.the-variants.{Number, Beyond}
 use Rattle.rounding.proofs.Signs as place
@@ -32,7 +33,7 @@ use Rattle.segmented.specs.Segments.{Axis, half, margin, narrowed, start
 use Rattle.segmented.specs.Steps.{countAnswer, Stands, placedAnswer}
 use Rattle.segmented.specs.Mirror.{across, here, there, findHere, findThere, Mirrored, WholeMirrored, RealMirrored}
 use Rattle.segmented.proofs.Margin.{margin-neg}
-use Rattle.segmented.proofs.Rules.{not-none, not-both, both-left, both-right, counted-or-stopped, place-unfit, place-unlimited, place-stopped, place-is, stepped-stands}
+use Rattle.segmented.proofs.Rules.{not-none, not-both, counted-or-stopped, place-unfit, place-unlimited, place-stopped, place-is, stepped-stands}
 use Rattle.segmented.proofs.Entries.{entry-admitted}
 
 -- ---- limits
@@ -229,13 +230,13 @@ module _ {A : Type 0} (kind : Kind A) (R : A → A → Type 0) (K : KindTurns ki
         where
           listed : (f : (H .admitted && fitIn H x) ≡ true) → limitAdmitted limit ≡ true → ((n : ℕ) × (countAnswer H ≡ refused n)) ⊎ ((n : ℕ) × (countAnswer H ≡ given n)) → Place
           listed f l (inl c) =
-              let ok = both-left (H .admitted) (fitIn H x) f in
+              let ok = both-true (H .admitted) (fitIn H x) f .0 in
               alike
               (place-stopped M (findThere kind opposite a b d method) (across opposite x) (mirrored limit) (same-fit ∙ f) (limit-neg limit ∙ l) (admits ∙ ok) (counts ∙ c .1))
               (place-stopped H (findHere kind opposite a b d method) x limit f l ok (c .1))
           listed f l (inr c) =
               sym (place-is M (findThere kind opposite a b d method) (across opposite x) (mirrored limit) (same-fit ∙ f) (limit-neg limit ∙ l) (stepped-stands kind (opposite a) (opposite b) (opposite d) (counts ∙ c .1)))
-              ∙ placed-turned (stepped-stands kind a b d (c .1)) limit method x (both-right (H .admitted) (fitIn H x) f)
+              ∙ placed-turned (stepped-stands kind a b d (c .1)) limit method x (both-true (H .admitted) (fitIn H x) f .1)
               ∙ ap negated (place-is H (findHere kind opposite a b d method) x limit f l (stepped-stands kind a b d (c .1)))
 
           go : (t : Bool) → (H .admitted && fitIn H x) ≡ t → (u : Bool) → limitAdmitted limit ≡ u → Place
@@ -260,9 +261,9 @@ whole-mirror a b d = record {
     spots : axisAdmitted whole a b d ≡ true → (v w : ℤ) → w ≡ negℤ v → wholeAdmitted v ≡ true → (limit : Limit)
         → stepSpot whole (negℤ a) (negℤ b) (negℤ d) w (mirrored limit) ≡ place.negated (stepSpot whole a b d v limit)
     spots h v w r f limit =
-        let ends = both-left (wholeAdmitted a && wholeAdmitted b) (wholeAdmitted d) h in
+        let ends = both-true (wholeAdmitted a && wholeAdmitted b) (wholeAdmitted d) h .0 in
         ap (λ (z : ℤ). stepSpot whole (negℤ a) (negℤ b) (negℤ d) z (mirrored limit)) r
-        ∙ whole-spot limit a b v (both-left (wholeAdmitted a) (wholeAdmitted b) ends) (both-right (wholeAdmitted a) (wholeAdmitted b) ends) f
+        ∙ whole-spot limit a b v (both-true (wholeAdmitted a) (wholeAdmitted b) ends .0) (both-true (wholeAdmitted a) (wholeAdmitted b) ends .1) f
 
 -- ---- reals
 pub real-mirror : (a b d : Float) → RealMirrored a b d

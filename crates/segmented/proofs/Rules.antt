@@ -1,9 +1,9 @@
 -- The rules of the calls, return by return, over any axis, and over a stepped one of either kind of numbers. Assumes nothing.
 use mathlib.Core.Path.{_≡_, refl, sym, ap, _∙_}
 use mathlib.Core.Logic.{_⊎_, inl, inr}
-use mathlib.Core.Bool.{Bool, true, false, cond, not, true≢false, _&&_, _||_}
+use mathlib.Core.Bool.{Bool, true, false, cond, not, _&&_, _||_, and-false}
 use mathlib.Core.List.{List, [], _∷_}
-use Prim.Native.Nat.{ℕ, zero, suc, _+_, _≤_, _<_}
+use Prim.Native.Nat.{ℕ, suc, _+_, _≤_}
 use native.Mathlib.Numerals.{add-one}
 use native.Mathlib.Omega.{arith}
 use borrow.Author.Tests.{eq-eqb, ne-eqb, eqb-true, eqb-false, ltb-true, ltb-false}
@@ -17,10 +17,10 @@ use Rattle.ranged1d.specs.declared.Limit.{Limit}
 use Rattle.rounding.specs.declared.Whole.{Whole}
 use Rattle.rounding.specs.declared.Whole.the-variants.{Number, Beyond}
 use Rattle.discrete.specs.Index.{indexFor, pixelIndex}
-use Rattle.real.specs.Place.{isBeyond, number, realPlace, wholePlace}
+use Rattle.real.specs.Place.{isBeyond, realPlace, wholePlace}
 use Rattle.search.specs.declared.RoundingMethod.{RoundingMethod}
 use Rattle.linspace.specs.List.{Kind, whole, real, stepped, against, tooLong, axisAdmitted, most}
-use Rattle.linspace.specs.Calls.{nth, hasEntries, stepSize, stepFromIndex, stepIndexOf, stepMarks, stepKeyPoints}
+use Rattle.linspace.specs.Calls.{hasEntries, stepSize, stepFromIndex, stepIndexOf, stepMarks, stepKeyPoints}
 use Rattle.linspace.proofs.Walks.{nth-past}
 use Rattle.linspace.proofs.Marks.{marks-none, marks-some, some-marks}
 use Rattle.linspace.proofs.WholeRules.{ends-place}
@@ -42,18 +42,6 @@ not-both e = let z : _≡_ {A = ℕ} 0 1 = cc in omega (arith, z)
 
 pub not-none : {A : Type 0} {x : A} → _≡_ {A = Answer A} none (given x) → ⊥
 not-none e = let z : _≡_ {A = ℕ} 0 1 = cc in omega (arith, z)
-
-and-no : (x y : Bool) → y ≡ false → (x && y) ≡ false
-and-no true y e = e
-and-no false y e = refl
-
-pub both-left : (x y : Bool) → (x && y) ≡ true → x ≡ true
-both-left true y e = refl
-both-left false y e = e
-
-pub both-right : (x y : Bool) → (x && y) ≡ true → y ≡ true
-both-right true y e = e
-both-right false y e = absurd (true≢false (sym e))
 
 -- ---- why there are no segments: u and z are 6 and 7, w that there are no entries or too many
 abbrev counting : {B : Type 0} → Bool → Bool → Bool → List Reason → Answer B → Answer B
@@ -215,7 +203,7 @@ module _ {A : Type 0} (axis : Axis A) where
   module _ (find : Finder A) (s : Segment A) where
     pub index-unfit : fitIn axis s ≡ false → refused 1 ≡ segmentIndexOf axis find s
     unfolding segmentIndexOf
-    index-unfit h = rw (and-no (axis .admitted) (fitIn axis s) h) refl
+    index-unfit h = rw (h, and-false (axis .admitted)) refl
 
     pub index-stopped : fitIn axis s ≡ true → {n : ℕ} → countAnswer axis ≡ refused n → refused n ≡ segmentIndexOf axis find s
     unfolding countAnswer segmentIndexOf

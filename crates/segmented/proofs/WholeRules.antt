@@ -1,35 +1,32 @@
 -- What is known of segments over a whole axis: its count, its entries and their places, and what its calls answer. Assumes nothing.
-use mathlib.Core.Path.{_≡_, refl, sym, ap, _∙_, subst}
-use mathlib.Core.Bool.{Bool, true, false, cond, not, _&&_, _||_}
+use mathlib.Core.Path.{_≡_, refl, sym, ap, _∙_}
+use mathlib.Core.Bool.{Bool, true, false, cond, not, _||_}
 use mathlib.Core.List.{List, [], _∷_}
-use Prim.Native.Nat.{ℕ, zero, suc, _+_, _-_, _≤_, _<_}
+use Prim.Native.Nat.{ℕ, suc, _+_, _-_, _≤_, _<_}
 use native.Mathlib.Decide.{decLt}
 use native.Mathlib.Numerals.{add-one}
 use native.Mathlib.Omega.{arith}
-use borrow.Author.Tests.{eq-eqb, ne-eqb, ltb-true, ltb-false, lt-ltb, le-ltb, le-leb, leb-true}
+use borrow.Author.Tests.{eq-eqb, ne-eqb, ltb-false, lt-ltb, le-ltb, le-leb, leb-true}
 use lib.Dec.{T, ltb, eqb}
 use lib.IntN.{ℤ, pos, negsuc, natAbs, _+ℤ_, _-ℤ_, +ℤ-comm, +ℤ-assoc, -ℤ-+ℤ-cancel}
 use lib.ListN.{length}
-use lib.Signed.{ltZ, leZ, nonNeg}
-use lib.Ieee.{binary64, ofInt}
+use lib.Signed.{ltZ, nonNeg}
 use Rattle.ranged1d.specs.Answer.{Answer, given, none, refused, _when_, lowest, written}
 use Rattle.ranged1d.specs.Admitted.{wholeAdmitted, limitAdmitted}
 use Rattle.ranged1d.specs.declared.Limit.{Limit}
-use Rattle.rounding.specs.declared.Whole.{Whole}
-use Rattle.rounding.specs.declared.Whole.the-variants.{Number}
-use Rattle.real.specs.Place.{wholePlace, number}
-use Rattle.real.proofs.Placed.{spot-near}
+use Rattle.ranged1d.proofs.Bools.{both-true}
+use Rattle.real.specs.Place.{wholePlace}
 use Rattle.ranged1d.proofs.Whole.{ordered, not-lt}
 use Rattle.numeric.specs.declared.KeyPoints.{KeyPoints}
 use Rattle.numeric.specs.Marks.{marks, stepOf, noStep}
 use Rattle.numeric.specs.Calls.{planOf, wholePlan, wholeKeyPoints}
 use Rattle.numeric.specs.Whole.{countOf, endsAdmitted, wholeSize, wholeIndexOf}
-use Rattle.segmented.specs.Values.{Segment, exact}
+use Rattle.segmented.specs.Values.{exact}
 use Rattle.segmented.specs.Segments.{Axis, narrowed, start, segmentAt, segmentIndexOf, segmentKeyPoints}
 use Rattle.segmented.specs.Axes.{wholeAxis, wholeFinder}
 use Rattle.segmented.specs.Steps.{spotAnswer, countAnswer, Stands, nextAnswer}
 use Rattle.segmented.proofs.Margin.{narrowed-admitted, squeezed}
-use Rattle.segmented.proofs.Rules.{given-is, not-both, not-none, one-refusal, both-left, both-right, stands, some-entries, exact-at}
+use Rattle.segmented.proofs.Rules.{given-is, not-both, not-none, one-refusal, stands, some-entries, exact-at}
 
 not-negative-is : (z : ℤ) → T (nonNeg z) → pos (natAbs z) ≡ z
 not-negative-is (pos n) t = refl
@@ -131,7 +128,7 @@ module _ (a b : ℤ) where
     far-end = +ℤ-comm a (pos (natAbs (b -ℤ a))) ∙ ap (λ z. z +ℤ a) (not-negative-is (b -ℤ a) (ordered a b (not-lt b a rises))) ∙ -ℤ-+ℤ-cancel b a
 
     pub near-ends : (natAbs a ≤ 1_000_000_000) × (natAbs b ≤ 1_000_000_000)
-    near-ends = (leb-true (natAbs a) 1_000_000_000 (both-left (wholeAdmitted a) (wholeAdmitted b) (s .admitted)), leb-true (natAbs b) 1_000_000_000 (both-right (wholeAdmitted a) (wholeAdmitted b) (s .admitted)))
+    near-ends = (leb-true (natAbs a) 1_000_000_000 (both-true (wholeAdmitted a) (wholeAdmitted b) (s .admitted) .0), leb-true (natAbs b) 1_000_000_000 (both-true (wholeAdmitted a) (wholeAdmitted b) (s .admitted) .1))
 
     pub value-near : (k : ℕ) → k < n → natAbs (a +ℤ pos k) ≤ 1_000_000_000
     value-near k l =

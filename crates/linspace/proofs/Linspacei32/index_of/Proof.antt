@@ -1,5 +1,5 @@
 -- `linspace::Linspacei32::index_of` meets its contract. Assumes nothing.
-use mathlib.Core.Path.{_≡_, sym, ap, subst, _∙_}
+use mathlib.Core.Path.{_≡_, refl, sym, ap, subst, _∙_}
 use mathlib.Core.Bool.{true}
 use mathlib.Core.List.{List}
 use Prim.Native.Nat.{ℕ}
@@ -15,7 +15,7 @@ use Rattle.numeric.specs.declared.whole.Count.{Count}
 use Rattle.numeric.specs.Marks.{listOf}
 use Rattle.numeric.specs.Calls.{element}
 use Rattle.search.specs.Search.{wholes}
-use Rattle.search.proofs.WholeOrder.{equal-self}
+use Rattle.real.proofs.Cases.{same-yes}
 use Rattle.search.specs.Search as rule
 use Rattle.linspace.specs.List.{whole, stepped, axisAdmitted}
 use Rattle.linspace.specs.Calls.{stepIndexOf}
@@ -62,7 +62,7 @@ answers : (c : tie.After-counted) {r : Count} → c .counted .result ≡ r
 answers c e =
     let s = c .before in
     ap (λ (n : Answer ℕ). onceListed n (rule.search wholes (start s .args .v) (start s .args .method) (stepped whole (a s) (b s) (d s)))) (sym (counts-are c e))
-    ∙ index-is whole (a s) (b s) (d s) (axis s) (start s .args .v) (start s .args .method) (wanted s) (equal-self (start s .args .v))
+    ∙ index-is whole (a s) (b s) (d s) (axis s) (start s .args .v) (start s .args .method) (wanted s) (same-yes (start s .args .v) (start s .args .v) refl)
 
 known : (c : tie.After-n) → let s = c .before .before .before in Known (a s) (b s) (d s) (c .n .given .0 .0)
 known c = let s = c .before .before .before in known-of (a s) (b s) (d s) (axis s) (counts-are (c .before .before) (c .n .given .1))

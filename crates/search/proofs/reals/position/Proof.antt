@@ -1,16 +1,16 @@
 -- `search::reals::position` meets its contract: lo and hi enclose the target's place, and half of what is left goes with each round. Assumes
 -- nothing.
-use mathlib.Core.Path.{_≡_, refl, sym, ap, _∙_}
+use mathlib.Core.Path.{sym, _∙_}
 use Prim.Native.Nat.{ℕ, _-_, _≤_, _<_}
 use native.Mathlib.Omega.{arith}
 use borrow.Author.Needs.{needs}
 use denote.Ref.{now}
 use lib.ListN.{length}
 use lib.Ieee.{lt, nan}
-use Rattle.search.specs.Search.{reals}
 use Rattle.search.specs.Steps.{toward}
 use Rattle.search.proofs.RealOrder.{real-order}
-use Rattle.search.proofs.Lists.{way, sorted}
+use Rattle.search.proofs.Orders.{way}
+use Rattle.search.proofs.Lists.{sorted}
 use Rattle.search.proofs.Halves.{Encloses, mid, mid-in, enclosed, above, beneath, placed}
 use Rattle.search.proofs.reals.position.Statement.{statement}
 use Rattle.search.proofs.reals.position.Tie as tie
@@ -36,7 +36,7 @@ module _ (c : tie.In-loop Inv-loop μ-loop) where
   inside = omega (arith, middle .1, c .before .loop .inv .within)
 
 loop-holds : tie.Need-loop-holds Inv-loop μ-loop
-loop-holds c = let s = c .before in enclosed (way reals real-order (s .args .rises)) (now (s .args .list)) nan (s .args .t)
+loop-holds c = let s = c .before in enclosed (way real-order (s .args .rises)) (now (s .args .list)) nan (s .args .t)
 
 sub-mid : tie.Need-sub-mid Inv-loop μ-loop
 sub-mid c = omega arith
@@ -63,7 +63,7 @@ loop-again : tie.Need-loop-again Inv-loop μ-loop
 loop-again c =
     let at = c .before .before .before in
     let s = at .before .before .before in
-    let o = way reals real-order (s .args .rises) in
+    let o = way real-order (s .args .rises) in
     above o (now (s .args .list)) nan (s .args .t) (sorted o nan (now (s .args .list)) (s .pre)) (lo at) (hi at) (mid (lo at) (hi at)) (at .before .loop .inv) (middle at .0) (middle at .1) (sym (c .before .precedes .ensures) ∙ c .if1 .taken)
 
 loop-less-2 : tie.Need-loop-less-2 Inv-loop μ-loop
@@ -73,11 +73,11 @@ loop-again-2 : tie.Need-loop-again-2 Inv-loop μ-loop
 loop-again-2 c =
     let at = c .before .before .before in
     let s = at .before .before .before in
-    let o = way reals real-order (s .args .rises) in
+    let o = way real-order (s .args .rises) in
     beneath o (now (s .args .list)) nan (s .args .t) (sorted o nan (now (s .args .list)) (s .pre)) (lo at) (hi at) (mid (lo at) (hi at)) (at .before .loop .inv) (middle at .0) (middle at .1) (sym (c .before .precedes .ensures) ∙ c .if1 .left)
 
 returns : tie.Need-returns Inv-loop μ-loop
-returns c = let s = c .before .before .before in placed (way reals real-order (s .args .rises)) (now (s .args .list)) nan (s .args .t) (c .before .loop .lo) (c .before .loop .hi) (c .before .loop .inv) (c .loop-test .left)
+returns c = let s = c .before .before .before in placed (way real-order (s .args .rises)) (now (s .args .list)) nan (s .args .t) (c .before .loop .lo) (c .before .loop .hi) (c .before .loop .inv) (c .loop-test .left)
 
 pub position-spec : {M : Type 1} → statement M
 position-spec =

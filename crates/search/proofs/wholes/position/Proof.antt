@@ -1,6 +1,6 @@
 -- `search::wholes::position` meets its contract: lo and hi enclose the target's place, and half of what is left goes with each round. Assumes
 -- nothing.
-use mathlib.Core.Path.{_≡_, refl, sym, ap, subst, _∙_}
+use mathlib.Core.Path.{_≡_, sym, subst, _∙_}
 use Prim.Native.Nat.{ℕ, _-_, _≤_, _<_}
 use native.Mathlib.Omega.{arith}
 use borrow.Author.Needs.{needs}
@@ -11,10 +11,10 @@ use lib.Signed.{ltZ}
 use mir.Facts.{toZ-ofZ}
 use mir.Syntax.{w32}
 use mir.Val.{toZ, ofZ}
-use Rattle.search.specs.Search.{wholes}
 use Rattle.search.specs.Steps.{toward, PlaceOf}
 use Rattle.search.proofs.WholeOrder.{whole-order}
-use Rattle.search.proofs.Lists.{way, sorted}
+use Rattle.search.proofs.Orders.{way}
+use Rattle.search.proofs.Lists.{sorted}
 use Rattle.search.proofs.Halves.{Encloses, mid, mid-in, enclosed, above, beneath, placed}
 use Rattle.search.proofs.wholes.position.Statement.{statement}
 use Rattle.search.proofs.wholes.position.Tie as tie
@@ -45,7 +45,7 @@ met : (c : tie.After-precedes Inv-loop μ-loop)
 met c = rw (toZ-ofZ {w = w32} (record { sfits = c .before .precedes-arg .given })) at (c .precedes .ensures)
 
 loop-holds : tie.Need-loop-holds Inv-loop μ-loop
-loop-holds c = let s = c in enclosed (way wholes whole-order (s .args .rises)) (now (s .args .list)) (pos 0) (toZ w32 (ofZ w32 (s .args .t)))
+loop-holds c = let s = c in enclosed (way whole-order (s .args .rises)) (now (s .args .list)) (pos 0) (toZ w32 (ofZ w32 (s .args .t)))
 
 sub-mid : tie.Need-sub-mid Inv-loop μ-loop
 sub-mid c = omega arith
@@ -72,7 +72,7 @@ loop-again : tie.Need-loop-again Inv-loop μ-loop
 loop-again c =
     let at = c .before .before .before in
     let s = at .before .before in
-    let o = way wholes whole-order (s .args .rises) in
+    let o = way whole-order (s .args .rises) in
     above o (now (s .args .list)) (pos 0) (toZ w32 (ofZ w32 (s .args .t))) (sorted o (pos 0) (now (s .args .list)) (s .pre)) (lo at) (hi at) (mid (lo at) (hi at)) (at .before .loop .inv) (middle at .0) (middle at .1) (sym (met (c .before)) ∙ c .if1 .taken)
 
 loop-less-2 : tie.Need-loop-less-2 Inv-loop μ-loop
@@ -82,14 +82,14 @@ loop-again-2 : tie.Need-loop-again-2 Inv-loop μ-loop
 loop-again-2 c =
     let at = c .before .before .before in
     let s = at .before .before in
-    let o = way wholes whole-order (s .args .rises) in
+    let o = way whole-order (s .args .rises) in
     beneath o (now (s .args .list)) (pos 0) (toZ w32 (ofZ w32 (s .args .t))) (sorted o (pos 0) (now (s .args .list)) (s .pre)) (lo at) (hi at) (mid (lo at) (hi at)) (at .before .loop .inv) (middle at .0) (middle at .1) (sym (met (c .before)) ∙ c .if1 .left)
 
 returns : tie.Need-returns Inv-loop μ-loop
 returns c =
     let s = c .before .before in
     let t = toZ w32 (ofZ w32 (s .args .t)) in
-    subst (λ (z : ℤ). PlaceOf (toward (s .args .rises) ltZ) (now (s .args .list)) (pos 0) z (c .before .loop .lo)) (toZ-ofZ (s .fits .t)) (placed (way wholes whole-order (s .args .rises)) (now (s .args .list)) (pos 0) t (c .before .loop .lo) (c .before .loop .hi) (c .before .loop .inv) (c .loop-test .left))
+    subst (λ (z : ℤ). PlaceOf (toward (s .args .rises) ltZ) (now (s .args .list)) (pos 0) z (c .before .loop .lo)) (toZ-ofZ (s .fits .t)) (placed (way whole-order (s .args .rises)) (now (s .args .list)) (pos 0) t (c .before .loop .lo) (c .before .loop .hi) (c .before .loop .inv) (c .loop-test .left))
 
 pub position-spec : {M : Type 1} → statement M
 position-spec =

@@ -1,9 +1,10 @@
 -- `segmented::SegmentedLinspacei32::map` meets its contract. Assumes nothing.
-use mathlib.Core.Path.{_≡_, refl, sym, ap, _∙_}
+use mathlib.Core.Path.{_≡_, sym, ap, _∙_}
 use mathlib.Core.Bool.{true, _&&_}
 use borrow.Author.Tests.{not-true, not-false}
 use lib.IntN.{ℤ}
 use Rattle.ranged1d.specs.Admitted.{limitAdmitted}
+use Rattle.ranged1d.proofs.Bools.{both-true}
 use Rattle.numeric.specs.Whole.{tellCount}
 use Rattle.numeric.specs.declared.whole.Count.{Count}
 use Rattle.linspace.specs.List.{whole}
@@ -12,7 +13,7 @@ use Rattle.segmented.specs.Axes.{steppedAxis, steppedFinder}
 use Rattle.segmented.specs.Values.{Segment, wholeSegment}
 use Rattle.segmented.specs.Segments.{fitIn}
 use Rattle.segmented.specs.Steps.{countAnswer, Stands}
-use Rattle.segmented.proofs.Rules.{place-unfit, place-unlimited, place-stopped, place-is, stepped-stands, both-left, both-right}
+use Rattle.segmented.proofs.Rules.{place-unfit, place-unlimited, place-stopped, place-is, stepped-stands}
 use borrow.Author.Needs.{needs}
 use Rattle.segmented.proofs.SegmentedLinspacei32.map.Statement.{statement}
 use Rattle.segmented.proofs.SegmentedLinspacei32.map.Tie as tie
@@ -77,7 +78,7 @@ place-of-requires c κs =
     let n = c .before in
     let e = n .before .before .before in
     let s = e .before .before .before .before .before in
-    (known n, (both-right (axis s .admitted) (fitIn (axis s) (segment s)) (fit (e .before .before)), allowed e))
+    (known n, (both-true (axis s .admitted) (fitIn (axis s) (segment s)) (fit (e .before .before)) .1, allowed e))
 
 returns-3 : tie.Need-returns-3
 returns-3 c =
@@ -85,7 +86,7 @@ returns-3 c =
     let e = at .before in
     let s = e .before .before .before .before .before in
     let f = fit (e .before .before) in
-    place-stopped (axis s) (find s) (segment s) (s .args .limit) f (allowed e) (both-left (axis s .admitted) (fitIn (axis s) (segment s)) f) (counts at (c .before .r .given .1))
+    place-stopped (axis s) (find s) (segment s) (s .args .limit) f (allowed e) (both-true (axis s .admitted) (fitIn (axis s) (segment s)) f .0) (counts at (c .before .r .given .1))
 
 returns-4 : tie.Need-returns-4
 returns-4 c =
