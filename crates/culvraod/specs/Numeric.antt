@@ -3,7 +3,6 @@ use Prim.Native.Nat.{ℕ}
 use mathlib.Core.List.{List}
 use lib.IntN.{ℤ}
 use Rattle.ranged1d.specs.Answer.{Answer}
-use Rattle.numeric.specs.Calls.{wholeKeyPoints, indexKeyPoints}
 use Rattle.culvraod.specs.Boundary.{code, outAfter}
 
 -- an answer of a step and a count: the code, the step, the count

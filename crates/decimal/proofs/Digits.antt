@@ -11,7 +11,7 @@ use lib.IntN.{ℤ, pos, negsuc, natAbs}
 use lib.Signed.{ltZ}
 use Rattle.decimal.specs.declared.Text.{Text}
 use Rattle.decimal.specs.declared.LongText.{LongText}
-use lib.ListN.{length, getD, set, take, drop, replicate, length-append, length-replicate, replicate-append-replicate}
+use lib.ListN.{length, set, drop, replicate, length-append, length-replicate, replicate-append-replicate}
 use lib.Seq.{set-at, drop-at}
 use Rattle.decimal.specs.Print.{digit, minus, digits, natural, decimal, filledTo, filled}
 

@@ -2,19 +2,18 @@
 use mathlib.Core.Path.{_≡_, refl, sym, ap, _∙_, subst}
 use mathlib.Core.Bool.{Bool, true, false, cond, _&&_}
 use mathlib.Core.List.{List, [], _∷_, _++_}
-use mathlib.Core.Logic.{_⊎_, inl, inr, _↔_}
+use mathlib.Core.Logic.{_⊎_, inl, inr}
 use Prim.Native.Nat.{ℕ, zero, suc, _+_, _-_, _*_, _/_, _%_, _≤_, _<_}
-use native.Mathlib.Nat.{div-add-mod', zero-mul}
+use native.Mathlib.Nat.{div-add-mod'}
 use native.Mathlib.Omega.{arith}
-use borrow.Author.Tests.{eq-eqb, ne-eqb, lt-ltb, le-ltb, le-leb, lt-leb, leb-true}
-use lib.Dec.{T, ltb, leb, eqb}
+use borrow.Author.Tests.{eq-eqb, ne-eqb, le-leb, lt-leb, leb-true}
+use lib.Dec.{ltb, leb}
 use lib.IntN.{ℤ, pos, negsuc, negℤ}
-use lib.Signed.{leZ}
 use lib.ListN.{length, getD, drop, length-append, List·getD-append}
 use mir.Syntax.{w32}
 use mir.Val.{SFits}
-use Rattle.ranged1d.specs.Answer.{Answer, given, none, refused}
-use Rattle.decimal.specs.Print.{digit, minus, digits, natural, decimal, filled, textOf}
+use Rattle.ranged1d.specs.Answer.{given, none}
+use Rattle.decimal.specs.Print.{digit, digits, natural, decimal, filled}
 use Rattle.decimal.specs.Read.{valueOf, signedValue, sameBytes, isI32, readI32, readU32}
 use Rattle.decimal.specs.Steps.{keepI32, keepPrinted}
 use Rattle.decimal.proofs.Digits.{digits-most, decimal-most, unfilled-to}

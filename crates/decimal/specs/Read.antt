@@ -1,6 +1,6 @@
 -- Texts that stand for whole numbers: exactly those that are printed, without blanks. 01 "From the drafting table": no leading zeros, no
 -- minus before zero, within i32 or within u32. Assumes nothing.
-use Prim.Native.Nat.{ℕ, zero, suc, _+_, _-_, _*_}
+use Prim.Native.Nat.{ℕ, _+_, _-_, _*_}
 use mathlib.Core.Bool.{Bool, true, false, cond, _&&_}
 use mathlib.Core.List.{List, [], _∷_}
 use lib.Dec.{leb, eqb}

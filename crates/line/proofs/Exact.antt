@@ -5,11 +5,10 @@ use mathlib.Core.List.{List, [], _∷_, _++_, append-assoc}
 use mathlib.Core.Logic.{_↔_}
 use Prim.Native.Nat.{ℕ, zero, suc, _+_, _/_, _%_, _≤_, _<_}
 use native.Mathlib.Omega.{arith}
-use borrow.Author.Tests.{eq-eqb, ne-eqb, eqb-true, ltb-true, lt-ltb}
-use lib.Dec.{T, ltb, eqb}
+use borrow.Author.Tests.{ne-eqb, eqb-true, ltb-true, lt-ltb}
+use lib.Dec.{ltb, eqb}
 use lib.IntN.{ℤ, pos, negsuc}
-use lib.ListN.{length, getD, drop, length-append}
-use lib.Seq.{drop-at}
+use lib.ListN.{length, drop, length-append}
 use Rattle.ranged1d.specs.Answer.{Answer, given, none, refused}
 use Rattle.decimal.specs.Print.{digit, digits, natural, decimal}
 use Rattle.decimal.specs.Read.{isI32, sameBytes, readI32, readU32}

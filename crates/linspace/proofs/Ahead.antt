@@ -8,7 +8,6 @@ use lib.Dec.{T}
 use lib.ListN.{length}
 use lib.Ieee.{Float, binary64, fits, lt, eq}
 use lib.Ieee.Fits.{add-fits}
-use Rattle.search.specs.Steps as search-steps
 use Rattle.linspace.specs.List.{real, entries, toward, stepped, against}
 use Rattle.linspace.specs.Calls.{hasEntries}
 use Rattle.linspace.specs.RealSteps.{plusStep, after, Walked, Ahead}

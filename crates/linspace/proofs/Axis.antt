@@ -4,16 +4,15 @@ use mathlib.Core.Bool.{Bool, true, false, cond, true≢false, _||_, or-false}
 use mathlib.Core.List.{List, [], _∷_}
 use Prim.Native.Nat.{ℕ, _+_, _-_, _≤_, _<_}
 use native.Mathlib.Omega.{arith}
-use native.Mathlib.Decide.{decLt}
 use borrow.Author.Tests.{lt-ltb, le-ltb}
-use lib.ListN.{length, getD}
+use lib.ListN.{length}
 use lib.Ieee.{Float, lt, le, eq}
-use Rattle.ranged1d.specs.Answer.{Answer, given, none, refused}
+use Rattle.ranged1d.specs.Answer.{Answer, given, refused}
 use Rattle.search.proofs.RealOrder.{real-order}
 use Rattle.linspace.specs.List.{real, entries, most, toward, run, stepped, against}
-use Rattle.linspace.specs.Calls.{hasEntries, nth, stepSize, stepFromIndex}
+use Rattle.linspace.specs.Calls.{hasEntries, stepSize}
 use Rattle.linspace.specs.RealSteps.{plusStep, Walked}
-use Rattle.linspace.proofs.Walks.{nth-is, nth-past, entries-on, entries-few, entry-is, total-ends}
+use Rattle.linspace.proofs.Walks.{entries-on, entries-few}
 
 -- the same axis told twice
 pub same-axis : {A : Type 0} (f : Float → Float → Float → A) {a a' b b' d d' : Float} → (a ≡ a') × (b ≡ b') × (d ≡ d') → f a b d ≡ f a' b' d'

@@ -1,11 +1,10 @@
 -- The mirror theorem for stepped axes. Assumes nothing.
-use mathlib.Core.Path.{_≡_, refl, sym, ap, subst, _∙_}
-use mathlib.Core.Logic.{_⊎_, inl, inr}
+use mathlib.Core.Path.{_≡_, refl, sym, ap, _∙_}
+use mathlib.Core.Logic.{inl, inr}
 use mathlib.Core.Bool.{Bool, true, false, cond, not, _&&_}
 use mathlib.Core.List.{List, [], _∷_, map}
-use Prim.Native.Nat.{ℕ, zero, suc}
-use lib.IntN.{ℤ, pos, negℤ, negℤ-+ℤ}
-use lib.Ieee.{Float, nan, inf, fin, binary64, neg, add, eq, ofInt}
+use lib.IntN.{ℤ, negℤ, negℤ-+ℤ}
+use lib.Ieee.{Float, binary64, neg, add, ofInt}
 use Rattle.ranged1d.specs.Answer.{Answer, given, none, refused}
 use Rattle.ranged1d.specs.Admitted.{wholeAdmitted, limitAdmitted}
 use Rattle.ranged1d.specs.declared.Limit.{Limit}
@@ -13,8 +12,8 @@ use Rattle.ranged1d.proofs.Whole.{neg-far}
 use Rattle.real.specs.Place.{spot, isBeyond, number, realPlace, wholePlace}
 use Rattle.search.specs.Mirror.{turned}
 use Rattle.search.specs.declared.RoundingMethod.{RoundingMethod}
-use Rattle.real.specs.Mirror.{mirrored, negated, Same}
-use Rattle.real.proofs.Signs.{Alike, zeroOf, add-turns, turns-alike, alike-on}
+use Rattle.real.specs.Mirror.{mirrored, negated}
+use Rattle.real.proofs.Signs.{add-turns, turns-alike, alike-on}
 use Rattle.real.proofs.Readings.{alike-same}
 use Rattle.real.proofs.Mirror as places
 use Rattle.search.proofs.WholeOrder.{whole-order}

@@ -4,12 +4,12 @@ use mathlib.Core.Bool.{true, false, _&&_}
 use mathlib.Core.List.{List, _++_}
 use Prim.Native.Nat.{ℕ, _+_, _-_, _*_, _≤_, _<_}
 use native.Mathlib.Omega.{arith}
-use borrow.Author.Tests.{le-ltb, ltb-true}
+use borrow.Author.Tests.{ltb-true}
 use lib.Dec.{eqb}
 use lib.IntN.{pos, natAbs}
 use lib.ListN.{length, drop, getD}
 use lib.Ieee.{Float}
-use Rattle.ranged1d.specs.Answer.{Answer, given, refused}
+use Rattle.ranged1d.specs.Answer.{given, refused}
 use Rattle.numeric.specs.declared.KeyPoints.{KeyPoints}
 use Rattle.numeric.specs.Marks.{listOf}
 use Rattle.numeric.specs.Calls.{wholePlan}

@@ -1,7 +1,7 @@
 -- 01 "Mirroring, real reading, stepped axes": the list of a stepped axis (a, b, d), of whole or of real numbers, and when it is refused.
 -- Assumes nothing.
 use Prim.Native.Nat.{ℕ, zero, suc}
-use mathlib.Core.Bool.{Bool, true, false, cond, not, _&&_, _||_}
+use mathlib.Core.Bool.{Bool, true, false, cond, _&&_, _||_}
 use mathlib.Core.List.{List, [], _∷_}
 use lib.Dec.{ltb}
 use lib.IntN.{ℤ, pos, _+ℤ_}

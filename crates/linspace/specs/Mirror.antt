@@ -3,7 +3,6 @@
 -- proofs/Mirror prove it of all numbers. Assumes nothing.
 use Prim.Native.Nat.{ℕ}
 use mathlib.Core.Path.{_≡_}
-use mathlib.Core.Bool.{Bool}
 use mathlib.Core.List.{List, [], _∷_, map}
 use lib.Dec.{ltb}
 use lib.IntN.{ℤ, negℤ}

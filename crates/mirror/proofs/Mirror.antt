@@ -1,8 +1,7 @@
 -- Demand 3, whole: every clause of specs/Mirror, from the mirror theorems of the crates below. Assumes nothing.
-use mathlib.Core.Path.{_≡_, refl, sym, ap, _∙_, subst}
+use mathlib.Core.Path.{_≡_, refl, sym, ap, _∙_}
 use mathlib.Core.Bool.{Bool, true, false, not, _&&_, _||_}
-use mathlib.Core.List.{List, [], _∷_, _++_, map}
-use mathlib.Core.Logic.{_⊎_, _↔_}
+use mathlib.Core.List.{List, [], _∷_, map}
 use Prim.Native.Nat.{ℕ, suc}
 use lib.Dec.{ltb, eqb}
 use lib.IntN.{ℤ, pos, negℤ}
@@ -15,7 +14,7 @@ use Rattle.real.specs.Mirror.{negated}
 use Rattle.real.proofs.Mirror as places
 use Rattle.numeric.specs.Marks.{noStep, stepOf, marks}
 use Rattle.numeric.specs.Calls.{wholeKeyPoints}
-use Rattle.numeric.specs.Mirror.{mirrored, nearestZero, Divides, stepOnly}
+use Rattle.numeric.specs.Mirror.{stepOnly}
 use Rattle.numeric.proofs.Mirror as marks-mirror
 use Rattle.search.specs.Mirror.{turned}
 use Rattle.search.specs.declared.RoundingMethod.{RoundingMethod}
@@ -29,9 +28,9 @@ use Rattle.segmented.specs.Axes.{steppedAxis}
 use Rattle.segmented.specs.Mirror as segment
 use Rattle.segmented.proofs.Mirror as segments
 use Rattle.ruler.specs.Rule.{rulerBytes, rulerWrite, hasRuler}
-use Rattle.ruler.specs.Mirror.{Verdict, accepted, verdict}
+use Rattle.ruler.specs.Mirror.{accepted, verdict}
 use Rattle.ruler.proofs.Mirror as rulers-mirror
-use Rattle.mirror.specs.Mirror.{flip, wrote, BothLong, ruling, rulingBack, Rulers, RulerMore, marking, markingBack, Marks, MarkMore, Stepped, Lists, StepMarks, SegmentMarks, DemandThree}
+use Rattle.mirror.specs.Mirror.{flip, wrote, BothLong, ruling, rulingBack, Rulers, marking, markingBack, Marks, Stepped, DemandThree}
 use Rattle.mirror.proofs.Written.{first-reason, accepted-is, wrote-is, turned-wrote}
 
 not-false : (t : Bool) → not t ≡ false → t ≡ true

@@ -7,7 +7,7 @@ use Prim.Native.Nat.{ℕ}
 use lib.Dec.{T}
 use lib.ListN.{length, drop}
 use lib.Seq.{take-append-seam}
-use Rattle.ranged1d.specs.Answer.{Answer, given, none, refused, Reason, lowest, written}
+use Rattle.ranged1d.specs.Answer.{Answer, given, refused, Reason, lowest, written}
 use Rattle.ruler.specs.Mirror.{Verdict, accepted, empty, stopped, verdict}
 use Rattle.mirror.specs.Mirror.{wrote}
 

@@ -2,7 +2,6 @@
 -- statement over the rules that the calls promise, so over what the calls do. All of them hold of every number, so of the admitted ones, and of
 -- every mark limit. `demand-three` of proofs/Mirror proves `DemandThree`. Assumes nothing.
 use Prim.Native.Nat.{ℕ}
-use mathlib.Core.Bool.{Bool}
 use mathlib.Core.List.{List, [], _∷_, _++_, map}
 use mathlib.Core.Logic.{_⊎_, _↔_}
 use mathlib.Core.Path.{_≡_}

@@ -1,6 +1,5 @@
 -- How far from 0 the marks lie, how far apart the first and another lie, and how many there are. Assumes nothing.
-use mathlib.Core.Path.{_≡_, refl, sym, ap, _∙_}
-use mathlib.Core.Bool.{true}
+use mathlib.Core.Path.{_≡_, sym, ap, _∙_}
 use Prim.Native.Nat.{ℕ, zero, suc, _+_, _-_, _*_, _/_, _≤_, _<_, max}
 use native.Mathlib.Nat.{div-mul-le-self, mul-le-mul-right, mul-le-mul-left, le-trans, le-of-suc-le-suc, div-lt-iff-lt-mul, mul-one, one-mul, add-mul, max-eq-left, max-eq-right, zero-mul, suc-mul}
 use native.Mathlib.Numerals.{add-one}

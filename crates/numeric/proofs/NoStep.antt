@@ -3,13 +3,13 @@ use mathlib.Core.Path.{_≡_, refl, sym, ap, _∙_, subst}
 use mathlib.Core.Logic.{_⊎_, inl, inr, _↔_}
 use mathlib.Core.Bool.{Bool, true, false, cond, not, _&&_}
 use mathlib.Core.List.{List, [], _∷_}
-use Prim.Native.Nat.{ℕ, zero, suc, _+_, _-_, _*_, _/_, _≤_, _<_}
-use native.Mathlib.Nat.{lt-div-mul-add, div-mul-le-self, div-lt-iff-lt-mul, mul-le-mul-right, zero-mul, one-mul}
+use Prim.Native.Nat.{ℕ, _+_, _-_, _*_, _≤_, _<_}
+use native.Mathlib.Nat.{lt-div-mul-add, mul-le-mul-right, zero-mul, one-mul}
 use native.Mathlib.Decide.{decLe}
 use native.Mathlib.Omega.{arith}
-use borrow.Author.Tests.{leb-true, leb-false, le-leb, lt-leb}
-use lib.Dec.{T, leb, ltb}
-use lib.IntN.{ℤ, pos, negsuc, negℤ, natAbs, _+ℤ_, _-ℤ_, +ℤ-invr, -ℤ-+ℤ-cancel, +ℤ-idl}
+use borrow.Author.Tests.{leb-true, le-leb}
+use lib.Dec.{T, ltb}
+use lib.IntN.{ℤ, pos, negsuc, natAbs, _+ℤ_, _-ℤ_, +ℤ-invr, -ℤ-+ℤ-cancel, +ℤ-idl}
 use lib.ListN.{length}
 use lib.Signed.{leZ}
 use Rattle.ranged1d.specs.Answer.{Answer, given, none, refused, _when_, lowest}

@@ -8,7 +8,7 @@ use lib.Signed.{quotZ}
 use lib.Ieee.{binary64, div, eq, ofInt}
 use native.Mathlib.Omega.{arith}
 use borrow.Author.Tests.{le-leb}
-use Rattle.ranged1d.specs.Answer.{Answer, given, _when_, lowest}
+use Rattle.ranged1d.specs.Answer.{given, _when_, lowest}
 use Rattle.ranged1d.specs.Admitted.{wholeAdmitted, limitAdmitted}
 use Rattle.ranged1d.specs.declared.Limit.{Limit}
 use Rattle.rounding.specs.declared.Whole.the-variants.{Number}

@@ -1,6 +1,6 @@
 -- The table of steps: one test, which antt computes at each of its 28 entries, says that entry k is step k and that the steps rise.
 -- From the order, each step lies between the first, 1, and the last, 1,000,000,000. Assumes nothing.
-use mathlib.Core.Path.{_≡_, refl}
+use mathlib.Core.Path.{_≡_}
 use mathlib.Core.Bool.{Bool}
 use mathlib.Core.List.{List, [], _∷_}
 use Prim.Native.Nat.{ℕ, zero, suc, _+_, _-_, _≤_, _<_}

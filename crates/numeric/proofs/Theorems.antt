@@ -2,7 +2,7 @@
 -- an axis that has a step has at most m + 1 marks, `at-most` of Most; refusal 3 is met exactly where 01's table has it,
 -- `refused-3-exactly` of NoStep; and the mirror theorem of specs/Mirror, `mirror` of Mirror. Assumes nothing.
 use mathlib.Core.Path.{_≡_, refl, sym, ap, _∙_, subst}
-use mathlib.Core.Bool.{true, false}
+use mathlib.Core.Bool.{true}
 use mathlib.Core.List.{List, map}
 use Prim.Native.Nat.{ℕ, zero, suc, _+_, _-_, _*_, _/_, _≤_, _<_}
 use native.Mathlib.Nat.{div-mul-le-self, lt-div-mul-add, lt-of-mul-lt-mul-right, suc-mul, mul-le-mul-right, le-div-iff-mul-le}
@@ -15,10 +15,10 @@ use lib.Signed.{leZ, _≤ℤ_}
 use Rattle.ranged1d.specs.Answer.{given, none}
 use Rattle.ranged1d.proofs.Whole.{neg-times}
 use Rattle.numeric.specs.declared.KeyPoints.{KeyPoints}
-use Rattle.numeric.specs.Marks.{low, high, firstIndex, lastIndex, howMany, listOf, multiple, ceilDiv, stepOf, stepFor, marksFor, marks}
+use Rattle.numeric.specs.Marks.{low, high, firstIndex, lastIndex, howMany, multiple, ceilDiv, stepOf, marksFor, marks}
 use Rattle.numeric.specs.Calls.{wholePlan, element, isI32, pointAt, indexMarks}
 use Rattle.numeric.proofs.Signs.{yes-le, le-yes, neg-order, below-all}
-use Rattle.numeric.proofs.Lists.{entry, length-of, list-ext, map-list}
+use Rattle.numeric.proofs.Lists.{entry, list-ext, map-list}
 use Rattle.numeric.proofs.Plans.{planned-good, low-pos}
 
 -- ---- a plan streams the marks: asked for mark i, `get` gives entry i of the list that `key_points` writes, and none from its end on

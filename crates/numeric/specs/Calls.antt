@@ -19,7 +19,7 @@ use Rattle.numeric.specs.declared.Planned.{Planned}
 use Rattle.numeric.specs.declared.Planned.the-variants as planned-is
 use Rattle.numeric.specs.declared.Point.{Point}
 use Rattle.numeric.specs.declared.Point.the-variants as point-is
-use Rattle.numeric.specs.Marks.{low, high, firstIndex, noStep, stepOf, marks}
+use Rattle.numeric.specs.Marks.{low, firstIndex, noStep, stepOf, marks}
 
 -- ---- the answers' cases, by 01's numbers and values: step and count; step and count; first mark, step and count; the mark
 abbrev pub tellMarks : Marks → Answer (ℤ × ℕ)

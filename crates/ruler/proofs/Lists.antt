@@ -1,16 +1,16 @@
 -- Lists of bytes: by their elements, and written or compared piece by piece. Assumes nothing.
 use mathlib.Core.Path.{_≡_, refl, sym, ap, ap₂, _∙_}
 use mathlib.Core.Bool.{Bool, true, false}
-use mathlib.Core.List.{List, [], _∷_, _++_, append-assoc, append-nil}
+use mathlib.Core.List.{List, [], _∷_, _++_}
 use Prim.Native.Nat.{ℕ, zero, suc, _+_, _-_, _≤_}
 use native.Mathlib.Nat.{zero-add, suc-add}
 use native.Mathlib.Omega.{arith}
-use lib.ListN.{length, getD, set, take, drop, length-append, length-drop, drop-of-length-le}
-use lib.Seq.{drop-cons, take-all, take-length, take-at, drop-at, drop-drop, take-nil}
+use lib.ListN.{length, getD, set, take, drop, drop-of-length-le}
+use lib.Seq.{drop-cons, take-length, take-nil}
 use borrow.Rule.Slice.PartMut.{putMid}
 use Rattle.decimal.specs.Read.{sameBytes}
 use Rattle.decimal.proofs.Texts.{same-self, same-equal, same-is}
-use Rattle.ranged1d.proofs.Pieces.{rest-is, put-more, more-long}
+use Rattle.ranged1d.proofs.Pieces.{put-more, more-long}
 use Rattle.ruler.specs.Bytes.{word}
 
 -- a list by its elements

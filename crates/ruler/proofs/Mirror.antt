@@ -17,7 +17,6 @@ use Rattle.ranged1d.proofs.Bools.{both-true}
 use Rattle.ranged1d.proofs.Whole.{admitted-neg}
 use Rattle.numeric.specs.Marks.{low, high, noStep, stepOf, marks}
 use Rattle.numeric.specs.Mirror.{mirrored, nearestZero, Divides}
-use Rattle.numeric.specs.Mirror as of-marks
 use Rattle.numeric.proofs.Mirror as marks
 use Rattle.real.specs.Place.{wholePlace}
 use Rattle.real.specs.Mirror as film

@@ -1,13 +1,13 @@
 -- The searches of a lent list, with the refusals of 01 "Why a call stops". Assumes nothing.
-use Prim.Native.Nat.{ℕ, zero, suc}
-use mathlib.Core.Bool.{Bool, true, false, cond, not, _&&_, _||_}
+use Prim.Native.Nat.{ℕ}
+use mathlib.Core.Bool.{Bool, true, false, not, _&&_, _||_}
 use mathlib.Core.List.{List, [], _∷_}
 use lib.Dec.{ltb}
 use lib.IntN.{ℤ}
 use lib.ListN.{length}
 use lib.Ieee as Ieee
 use lib.Ieee.{Float}
-use Rattle.ranged1d.specs.Answer.{Answer, given, none, refused, _when_, lowest}
+use Rattle.ranged1d.specs.Answer.{Answer, _when_, lowest}
 use Rattle.ranged1d.specs.Admitted.{wholeAdmitted}
 use Rattle.search.specs.Search.{Numbers, wholes, reals, search}
 use Rattle.search.specs.declared.RoundingMethod.{RoundingMethod}

@@ -1,7 +1,7 @@
 -- 01 "Mirroring, real reading, stepped axes": the four searches of a list for a target. They are the same for whole and for real
 -- entries, given how two entries compare and what lies between them. Assumes nothing.
-use Prim.Native.Nat.{ℕ, zero, suc}
-use mathlib.Core.Bool.{Bool, true, false, cond, _&&_, _||_}
+use Prim.Native.Nat.{ℕ, suc}
+use mathlib.Core.Bool.{Bool, false, cond, _&&_, _||_}
 use mathlib.Core.List.{List, [], _∷_}
 use lib.Dec.{ltb}
 use lib.IntN.{ℤ, _-ℤ_}

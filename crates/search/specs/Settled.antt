@@ -5,7 +5,7 @@ use Prim.Native.Nat.{ℕ, zero, suc}
 use mathlib.Core.Bool.{Bool, true, false, cond, not, _&&_}
 use mathlib.Core.List.{[], _∷_}
 use lib.Dec.{ltb}
-use Rattle.ranged1d.specs.Answer.{Answer, given, none, refused, _when_, lowest}
+use Rattle.ranged1d.specs.Answer.{Answer, given, none, _when_, lowest}
 use Rattle.search.specs.Search.{Numbers}
 use Rattle.search.specs.Lists.{isExact}
 use Rattle.search.specs.declared.RoundingMethod.{RoundingMethod}

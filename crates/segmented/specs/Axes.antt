@@ -1,12 +1,12 @@
 -- The axes that segments stand on: 01 "Whole reading, segments, real labels" for the whole axis, 01 "Mirroring, real reading, stepped axes" for
 -- the stepped ones. Assumes nothing.
 use Prim.Native.Nat.{ℕ}
-use mathlib.Core.Bool.{Bool, false, cond, not, _&&_}
+use mathlib.Core.Bool.{false, cond, not, _&&_}
 use lib.Dec.{ltb, eqb}
 use lib.IntN.{ℤ, pos, natAbs, _+ℤ_, _-ℤ_}
 use lib.ListN.{length}
 use lib.Signed.{ltZ}
-use Rattle.ranged1d.specs.Answer.{Answer, given, none}
+use Rattle.ranged1d.specs.Answer.{given, none}
 use Rattle.ranged1d.specs.Admitted.{wholeAdmitted}
 use Rattle.real.specs.Place.{wholeSpot}
 use Rattle.numeric.specs.Marks.{marks, noStep}

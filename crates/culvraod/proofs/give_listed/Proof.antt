@@ -1,9 +1,9 @@
 -- `culvraod::give_listed` meets its contract. Assumes nothing.
-use mathlib.Core.Path.{_≡_, refl}
+use mathlib.Core.Path.{refl}
 use native.Mathlib.Omega.{arith}
 use borrow.Author.Needs.{needs}
 use denote.Ref.{now}
-use mir.Facts.{toZ-ofZ, toZ-pos}
+use mir.Facts.{toZ-pos}
 use mir.Syntax.{w32}
 use Rattle.linspace.specs.Calls.{tellListed}
 use Rattle.culvraod.proofs.Crossing.{single-cross}

@@ -1,6 +1,5 @@
 -- `culvraod::method_of` meets its contract. Assumes nothing.
-use mathlib.Core.Path.{_≡_, refl, sym, ap}
-use Prim.Native.Nat.{ℕ}
+use mathlib.Core.Path.{sym, ap}
 use Rattle.culvraod.specs.Search.{methodOf}
 use Rattle.culvraod.proofs.Crossing.{other-method}
 use Rattle.culvraod.proofs.method_of.Statement.{statement}

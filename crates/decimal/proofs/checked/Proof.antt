@@ -1,21 +1,17 @@
 -- `decimal::checked` meets its contract. Assumes nothing.
 use mathlib.Core.Path.{_≡_, sym, ap, _∙_}
-use mathlib.Core.Bool.{Bool, true, false, cond}
+use mathlib.Core.Bool.{Bool, cond}
 use lib.IntN.{ℤ}
 use mir.Facts.{toZ-ofZ}
 use mir.Syntax.{w32}
-use mir.Val.{SFits, toZ, ofZ}
-use Rattle.ranged1d.specs.Answer.{Answer, given, none}
+use mir.Val.{SFits}
+use Rattle.ranged1d.specs.Answer.{given, none}
 use Rattle.decimal.specs.declared.Whole.{Whole}
-use Rattle.decimal.specs.Print.{decimal}
-use Rattle.decimal.specs.Read.{sameBytes, tellWhole}
+use Rattle.decimal.specs.Read.{tellWhole}
 use Rattle.decimal.specs.Steps.{keepPrinted}
 use borrow.Author.Needs.{needs}
 use Rattle.decimal.proofs.checked.Statement.{statement}
 use Rattle.decimal.proofs.checked.Tie as tie
-use Rattle.decimal.proofs.checked.Reads as reads
-use Rattle.decimal.proofs.checked.Lts as lts
-use Rattle.decimal.proofs.is_label.Reads as is-label-reads
 
 enum-told : tie.Need-enum-told
 enum-told c = search needs

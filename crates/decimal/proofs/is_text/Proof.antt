@@ -8,9 +8,6 @@ use Rattle.decimal.proofs.Texts.{same-is}
 use borrow.Author.Needs.{needs}
 use Rattle.decimal.proofs.is_text.Statement.{statement}
 use Rattle.decimal.proofs.is_text.Tie as tie
-use Rattle.decimal.proofs.is_text.Reads as reads
-use Rattle.decimal.proofs.is_text.Lts as lts
-use Rattle.check.proofs.same.Reads as same-reads
 
 sub-same : tie.Need-sub-same
 sub-same c = search needs

@@ -1,22 +1,15 @@
 -- `decimal::read_i32` meets its contract. Assumes nothing.
-use mathlib.Core.Path.{_≡_, sym, ap, _∙_}
+use mathlib.Core.Path.{sym, ap, _∙_}
 use mathlib.Core.Logic.{inl, inr}
 use Prim.Native.Nat.{ℕ, _<_}
 use native.Mathlib.Omega.{arith}
-use lib.IntN.{ℤ, pos, negℤ}
+use lib.IntN.{pos, negℤ}
 use lib.ListN.{length}
-use Rattle.ranged1d.specs.Answer.{Answer}
-use Rattle.decimal.specs.Read.{valueOf, signedValue}
 use Rattle.decimal.specs.Steps.{keepI32, keepPrinted}
 use Rattle.decimal.proofs.Reader.{no-i32, i32-by-steps, value-minus, value-plain}
 use borrow.Author.Needs.{needs}
 use Rattle.decimal.proofs.read_i32.Statement.{statement}
 use Rattle.decimal.proofs.read_i32.Tie as tie
-use Rattle.decimal.proofs.read_i32.Reads as reads
-use Rattle.decimal.proofs.read_i32.Lts as lts
-use Rattle.decimal.proofs.checked.Reads as checked-reads
-use Rattle.decimal.proofs.value.Reads as value-reads
-use Rattle.decimal.proofs.whole_of.Reads as whole-of-reads
 
 returns : tie.Need-returns
 returns c = sym (no-i32 _ (inl (c .if1 .taken)))

@@ -1,18 +1,11 @@
 -- `decimal::read_u32` meets its contract. Assumes nothing.
-use mathlib.Core.Path.{_≡_, sym, ap, _∙_}
-use mathlib.Core.Bool.{true, false}
-use native.Mathlib.Omega.{arith}
+use mathlib.Core.Path.{sym, _∙_}
 use borrow.Author.Tests.{le-leb, lt-leb}
-use Rattle.decimal.specs.Print.{natural}
-use Rattle.decimal.specs.Read.{valueOf, sameBytes, readU32}
+use Rattle.decimal.specs.Read.{readU32}
 use Rattle.decimal.proofs.Reader.{no-u32}
 use borrow.Author.Needs.{needs}
 use Rattle.decimal.proofs.read_u32.Statement.{statement}
 use Rattle.decimal.proofs.read_u32.Tie as tie
-use Rattle.decimal.proofs.read_u32.Reads as reads
-use Rattle.decimal.proofs.read_u32.Lts as lts
-use Rattle.decimal.proofs.is_natural.Reads as is-natural-reads
-use Rattle.decimal.proofs.value.Reads as value-reads
 
 returns : tie.Need-returns
 returns c = sym (no-u32 _ (c .if1 .taken))

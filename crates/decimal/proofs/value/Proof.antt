@@ -8,9 +8,6 @@ use Rattle.decimal.proofs.Texts.{Room, room-bound, room-start, room-ste
 use borrow.Author.Needs.{needs}
 use Rattle.decimal.proofs.value.Statement.{statement}
 use Rattle.decimal.proofs.value.Tie as tie
-use Rattle.decimal.proofs.value.Reads as reads
-use Rattle.decimal.proofs.value.Lts as lts
-use Rattle.decimal.proofs.digit_of.Reads as digit-of-reads
 
 abbrev Inv-loop : tie.InvT-loop
 Inv-loop s at n₀ i₀ n i = (i ≤ length s) × (valueOf 0 (drop at s) ≡ valueOf n (drop i s)) × Room (11 - i) n

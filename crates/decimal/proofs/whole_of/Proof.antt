@@ -1,9 +1,8 @@
 -- `decimal::whole_of` meets its contract. Assumes nothing.
-use mathlib.Core.Path.{_≡_, sym, _∙_}
-use mathlib.Core.Bool.{true, false}
+use mathlib.Core.Path.{_≡_}
 use native.Mathlib.Omega.{arith}
 use borrow.Author.Tests.{le-leb, lt-leb}
-use lib.IntN.{pos, negℤ, _-ℤ_, +ℤ-idl}
+use lib.IntN.{pos, _-ℤ_, +ℤ-idl}
 use mir.Facts.{toZ-ofZ, toZ-pos}
 use mir.Syntax.{w32, w64}
 use mir.Val.{SFits, toZ}
@@ -12,8 +11,6 @@ use Rattle.decimal.proofs.Reader.{minus-i32, minus-beyond, minus-fits}
 use borrow.Author.Needs.{needs}
 use Rattle.decimal.proofs.whole_of.Statement.{statement}
 use Rattle.decimal.proofs.whole_of.Tie as tie
-use Rattle.decimal.proofs.whole_of.Reads as reads
-use Rattle.decimal.proofs.whole_of.Lts as lts
 
 returns : tie.Need-returns
 returns c = rw (c .before .if1 .taken, minus-beyond (c .before .before .args .n) (c .if2 .taken))

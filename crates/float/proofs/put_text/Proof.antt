@@ -8,9 +8,6 @@ use Rattle.float.proofs.Lists.{copy-stored}
 use borrow.Author.Needs.{needs}
 use Rattle.float.proofs.put_text.Statement.{statement}
 use Rattle.float.proofs.put_text.Tie as tie
-use Rattle.float.proofs.put_text.Reads as reads
-use Rattle.float.proofs.put_text.Lts as lts
-use Rattle.bytes.proofs.copy.Reads as copy-reads
 
 -- src/lib.rt:173:17
 sub-copy : tie.Need-sub-copy

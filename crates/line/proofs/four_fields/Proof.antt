@@ -15,9 +15,6 @@ use Rattle.line.proofs.Fields.{prepend, prepend-none, more-fields, no-f
 use borrow.Author.Needs.{needs}
 use Rattle.line.proofs.four_fields.Statement.{statement}
 use Rattle.line.proofs.four_fields.Tie as tie
-use Rattle.line.proofs.four_fields.Reads as reads
-use Rattle.line.proofs.four_fields.Lts as lts
-use Rattle.line.proofs.whole_field.Reads as whole-field-reads
 
 abbrev Inv-loop : tie.InvT-loop
 Inv-loop s values₀ at₀ k₀ values at k = (k ≤ 4) × (at ≤ length s) × (length values ≡ 4) × (wholeFields 4 s ≡ prepend (take k values) (wholeFields (4 - k) (drop at s)))

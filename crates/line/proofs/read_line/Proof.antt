@@ -16,11 +16,6 @@ use Rattle.ranged1d.proofs.Pieces.{rest-is}
 use borrow.Author.Needs.{needs}
 use Rattle.line.proofs.read_line.Statement.{statement}
 use Rattle.line.proofs.read_line.Tie as tie
-use Rattle.line.proofs.read_line.Reads as reads
-use Rattle.line.proofs.read_line.Lts as lts
-use Rattle.check.proofs.same.Reads as same-reads
-use Rattle.line.proofs.read_numbers.Reads as read-numbers-reads
-use Rattle.line.proofs.word_length.Reads as word-length-reads
 
 word-length-requires : tie.Need-word-length-requires
 word-length-requires c κs = search needs

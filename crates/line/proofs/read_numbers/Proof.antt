@@ -15,10 +15,6 @@ use Rattle.ranged1d.proofs.Pieces.{rest-is}
 use borrow.Author.Needs.{needs}
 use Rattle.line.proofs.read_numbers.Statement.{statement}
 use Rattle.line.proofs.read_numbers.Tie as tie
-use Rattle.line.proofs.read_numbers.Reads as reads
-use Rattle.line.proofs.read_numbers.Lts as lts
-use Rattle.decimal.proofs.read_u32.Reads as read-u32-reads
-use Rattle.line.proofs.four_fields.Reads as four-fields-reads
 
 four-fields-requires : tie.Need-four-fields-requires
 four-fields-requires c κs = search needs

@@ -1,26 +1,20 @@
 -- `line::whole_field` meets its contract. Assumes nothing.
-use mathlib.Core.Path.{_≡_, refl, sym, ap, _∙_}
-use mathlib.Core.List.{List}
-use Prim.Native.Nat.{ℕ, suc, _+_, _-_, _≤_}
+use mathlib.Core.Path.{_≡_, sym, ap, _∙_}
+use Prim.Native.Nat.{ℕ, suc, _-_}
 use native.Mathlib.Nat.{sub-zero}
 use native.Mathlib.Numerals.{add-one}
 use native.Mathlib.Omega.{arith}
 use borrow.Author.Tests.{lt-ltb, le-ltb}
-use lib.IntN.{ℤ}
-use lib.ListN.{length, take, drop}
+use lib.ListN.{length, drop}
 use mir.Facts.{toZ-ofZ}
-use Rattle.ranged1d.specs.Answer.{Answer, given}
+use Rattle.ranged1d.specs.Answer.{given}
 use Rattle.decimal.specs.declared.Whole.{Whole}
 use Rattle.decimal.specs.Read.{tellWhole, readI32}
-use Rattle.line.specs.Line.{word, andThen, field, wholeField}
+use Rattle.line.specs.Line.{word, andThen, wholeField}
 use Rattle.line.proofs.Words.{word-front}
 use borrow.Author.Needs.{needs}
 use Rattle.line.proofs.whole_field.Statement.{statement}
 use Rattle.line.proofs.whole_field.Tie as tie
-use Rattle.line.proofs.whole_field.Reads as reads
-use Rattle.line.proofs.whole_field.Lts as lts
-use Rattle.decimal.proofs.read_i32.Reads as read-i32-reads
-use Rattle.line.proofs.word_length.Reads as word-length-reads
 
 word-length-requires : tie.Need-word-length-requires
 word-length-requires c κs = search needs

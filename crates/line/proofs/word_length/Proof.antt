@@ -8,8 +8,6 @@ use Rattle.line.proofs.Words.{word-blank, word-more, word-end}
 use borrow.Author.Needs.{needs}
 use Rattle.line.proofs.word_length.Statement.{statement}
 use Rattle.line.proofs.word_length.Tie as tie
-use Rattle.line.proofs.word_length.Reads as reads
-use Rattle.line.proofs.word_length.Lts as lts
 
 abbrev Inv-loop : tie.InvT-loop
 Inv-loop s i₀ i = (i ≤ length s) × (length (word s) ≡ i + length (word (drop i s)))

@@ -3,9 +3,6 @@ use Prim.Native.Nat.{_-_, _≤_}
 use borrow.Author.Needs.{needs}
 use Rattle.marks.proofs.print_list.Statement.{statement}
 use Rattle.marks.proofs.print_list.Tie as tie
-use Rattle.marks.proofs.print_list.Reads as reads
-use Rattle.marks.proofs.print_list.Lts as lts
-use Rattle.marks.proofs.print_mark.Reads as print-mark-reads
 
 abbrev Inv-loop : tie.InvT-loop
 Inv-loop p n i₀ i = i ≤ n

@@ -4,7 +4,7 @@ use mathlib.Core.Path.{_≡_, refl, ap₂, _∙_}
 use mathlib.Core.List.{List, _++_}
 use Prim.Native.Nat.{_-_, _≤_, _*_}
 use native.Mathlib.Omega.{arith}
-use lib.IntN.{ℤ, pos, natAbs, _+ℤ_, _*ℤ_}
+use lib.IntN.{ℤ, pos, _+ℤ_, _*ℤ_}
 use lib.ListN.{length, set, drop, length-set}
 use mir.Facts.{toZ-ofZ, toZ-pos}
 use mir.Syntax.{w32}
@@ -15,8 +15,6 @@ use Rattle.numeric.specs.Calls.{element}
 use Rattle.numeric.proofs.Lists.{write-more}
 use Rattle.numeric.proofs.compute_i32_key_points.Statement.{statement}
 use Rattle.numeric.proofs.compute_i32_key_points.Tie as tie
-use Rattle.numeric.proofs.compute_i32_key_points.Reads as reads
-use Rattle.numeric.proofs.compute_i32_key_points.Lts as lts
 
 abbrev Inv-loop : tie.InvT-loop
 Inv-loop out₀ first step n k₀ out k = (k ≤ n) × (out ≡ listOf (element (toZ w32 first) (toZ w32 step)) k ++ drop k out₀) × (length out ≡ length out₀)

@@ -1,19 +1,17 @@
 -- `numeric::plan_sorted` meets its contract: each value on the way is the definition's. Assumes nothing.
-use mathlib.Core.Path.{_≡_, refl, sym, ap, _∙_}
-use mathlib.Core.Bool.{true, false}
+use mathlib.Core.Path.{_≡_, sym, ap, _∙_}
+use mathlib.Core.Bool.{false}
 use Prim.Native.Nat.{ℕ, _≤_, _<_}
 use native.Mathlib.Omega.{arith}
 use borrow.Author.Needs.{needs}
 use borrow.Author.Tests.{le-leb, lt-leb}
 use lib.IntN.{ℤ, pos, natAbs, _*ℤ_}
 use lib.ListN.{length}
-use lib.Signed.{leZ}
 use mir.Facts.{toZ-ofZ, toZ-pos}
 use mir.Syntax.{w32}
 use mir.Val.{SFits, toZ, ofZ}
 use Rattle.ranged1d.proofs.Whole.{fits32, minus-far, quot-far}
-use Rattle.numeric.specs.declared.KeyPoints.{KeyPoints}
-use Rattle.numeric.specs.Marks.{low, high, distance, chosen, firstIndex, lastIndex, howMany, multiple, noStepFor, stepFor, marksFor, marks}
+use Rattle.numeric.specs.Marks.{distance, chosen, firstIndex, lastIndex, noStepFor, stepFor, marksFor, marks}
 use Rattle.ranged1d.specs.Answer.{given}
 use Rattle.numeric.specs.Calls.{planOf}
 use Rattle.numeric.proofs.Steps.{step-pos, step-top}
@@ -21,14 +19,6 @@ use Rattle.numeric.proofs.Lists.{length-of}
 use Rattle.numeric.proofs.Bounds.{first-far, first-near}
 use Rattle.numeric.proofs.plan_sorted.Statement.{statement}
 use Rattle.numeric.proofs.plan_sorted.Tie as tie
-use Rattle.numeric.proofs.plan_sorted.Reads as reads
-use Rattle.numeric.proofs.plan_sorted.Lts as lts
-use Rattle.numeric.proofs.choose.Reads as choose-reads
-use Rattle.numeric.proofs.first_index.Reads as first-index-reads
-use Rattle.numeric.proofs.how_many.Reads as how-many-reads
-use Rattle.numeric.proofs.last_index.Reads as last-index-reads
-use Rattle.numeric.proofs.span.Reads as span-reads
-use Rattle.numeric.proofs.step_at.Reads as step-at-reads
 
 span-requires : tie.Need-span-requires
 span-requires c κs = search needs

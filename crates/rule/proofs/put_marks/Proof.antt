@@ -5,9 +5,6 @@ use lib.ListN.{length}
 use borrow.Author.Needs.{needs}
 use Rattle.rule.proofs.put_marks.Statement.{statement}
 use Rattle.rule.proofs.put_marks.Tie as tie
-use Rattle.rule.proofs.put_marks.Reads as reads
-use Rattle.rule.proofs.put_marks.Lts as lts
-use Rattle.rule.proofs.put_mark.Reads as put-mark-reads
 
 abbrev Inv-loop : tie.InvT-loop
 Inv-loop r p out₀ used count n₀ i₀ out n i = length out ≡ length out₀

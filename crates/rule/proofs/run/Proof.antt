@@ -4,9 +4,6 @@ use lib.ListN.{length}
 use borrow.Author.Needs.{needs}
 use Rattle.rule.proofs.run.Statement.{statement}
 use Rattle.rule.proofs.run.Tie as tie
-use Rattle.rule.proofs.run.Reads as reads
-use Rattle.rule.proofs.run.Lts as lts
-use Rattle.rule.proofs.turn.Reads as turn-reads
 
 abbrev Inv-loop : tie.InvT-loop
 Inv-loop space₀ held₀ out₀ turns₀ t₀ space held out turns t = (length space ≡ length space₀) × (length held ≡ length held₀) × (length out ≡ length out₀)

@@ -5,10 +5,6 @@ use lib.ListN.{length}
 use borrow.Author.Needs.{needs}
 use Rattle.rule.proofs.take.Statement.{statement}
 use Rattle.rule.proofs.take.Tie as tie
-use Rattle.rule.proofs.take.Reads as reads
-use Rattle.rule.proofs.take.Lts as lts
-use Rattle.rule.proofs.go_on.Reads as go-on-reads
-use Rattle.rule.proofs.input.line_end.Reads as line-end-reads
 
 abbrev Inv-loop : tie.InvT-loop
 Inv-loop read held₀ out₀ s₀ at₀ held out s at = (length held ≡ length held₀) × (length out ≡ length out₀)

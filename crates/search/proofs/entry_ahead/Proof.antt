@@ -1,9 +1,7 @@
-use mathlib.Core.Path.{_≡_, refl, sym, ap, _∙_}
-use borrow.Author.Tests.{lt-ltb, le-ltb, le-leb, lt-leb}
+use mathlib.Core.Path.{refl}
+use borrow.Author.Tests.{lt-ltb, le-ltb}
 use Rattle.search.proofs.entry_ahead.Statement.{statement}
 use Rattle.search.proofs.entry_ahead.Tie as tie
-use Rattle.search.proofs.entry_ahead.Reads as reads
-use Rattle.search.proofs.entry_ahead.Lts as lts
 
 returns : tie.Need-returns
 returns c = rw (lt-ltb _ _ (c .if1 .taken)) refl

@@ -2,8 +2,6 @@ use Rattle.search.proofs.Cases.{behind-is}
 use borrow.Author.Needs.{needs}
 use Rattle.search.proofs.entry_behind.Statement.{statement}
 use Rattle.search.proofs.entry_behind.Tie as tie
-use Rattle.search.proofs.entry_behind.Reads as reads
-use Rattle.search.proofs.entry_behind.Lts as lts
 
 returns : tie.Need-returns
 returns c = search needs

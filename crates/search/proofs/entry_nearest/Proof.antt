@@ -2,8 +2,6 @@ use Rattle.search.proofs.Cases.{nearest-behind, nearest-ahead, nearest-
 use borrow.Author.Needs.{needs}
 use Rattle.search.proofs.entry_nearest.Statement.{statement}
 use Rattle.search.proofs.entry_nearest.Tie as tie
-use Rattle.search.proofs.entry_nearest.Reads as reads
-use Rattle.search.proofs.entry_nearest.Lts as lts
 
 returns : tie.Need-returns
 returns c = search needs

@@ -1,13 +1,8 @@
-use mathlib.Core.Path.{_≡_, refl, sym, ap, _∙_}
+use mathlib.Core.Path.{refl, sym, _∙_}
 use Rattle.search.proofs.Cases.{unequal-by}
 use borrow.Author.Needs.{needs}
 use Rattle.search.proofs.settle.Statement.{statement}
 use Rattle.search.proofs.settle.Tie as tie
-use Rattle.search.proofs.settle.Reads as reads
-use Rattle.search.proofs.settle.Lts as lts
-use Rattle.search.proofs.entry_ahead.Reads as entry-ahead-reads
-use Rattle.search.proofs.entry_behind.Reads as entry-behind-reads
-use Rattle.search.proofs.entry_nearest.Reads as entry-nearest-reads
 
 enum-told : tie.Need-enum-told
 enum-told c = search needs

@@ -1,12 +1,8 @@
-use mathlib.Core.Path.{_≡_, refl, sym, ap, _∙_}
+use mathlib.Core.Path.{sym, _∙_}
 use Rattle.search.proofs.Cases.{nan-empty, nan-exact, nan-refused}
 use borrow.Author.Needs.{needs}
 use Rattle.search.proofs.settle_nan.Statement.{statement}
 use Rattle.search.proofs.settle_nan.Tie as tie
-use Rattle.search.proofs.settle_nan.Reads as reads
-use Rattle.search.proofs.settle_nan.Lts as lts
-use Rattle.search.proofs.is_exact.Reads as is-exact-reads
-use Rattle.search.proofs.settle.Reads as settle-reads
 
 settle-requires : tie.Need-settle-requires
 settle-requires c κs = search needs

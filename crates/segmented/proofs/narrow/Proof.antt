@@ -1,6 +1,6 @@
 -- `segmented::narrow` meets its contract. Assumes nothing.
 use borrow.Author.Needs.{needs}
-use mathlib.Core.Path.{_≡_, sym, ap, _∙_, subst}
+use mathlib.Core.Path.{_≡_, _∙_}
 use native.Mathlib.Omega.{arith}
 use lib.IntN.{ℤ, _-ℤ_}
 use mir.Syntax.{w32}

@@ -5,11 +5,6 @@ use lib.ListN.{length}
 use borrow.Author.Needs.{needs}
 use Rattle.vectors.proofs.replay.Statement.{statement}
 use Rattle.vectors.proofs.replay.Tie as tie
-use Rattle.vectors.proofs.replay.Reads as reads
-use Rattle.vectors.proofs.replay.Lts as lts
-use Rattle.vectors.proofs.count.Reads as count-reads
-use Rattle.vectors.proofs.judge.Reads as judge-reads
-use Rattle.vectors.proofs.text.find.Reads as find-reads
 
 abbrev Inv-loop : tie.InvT-loop
 Inv-loop s numbers₀ totals₀ at₀ numbers totals at = (length numbers ≡ length numbers₀) × (length totals ≡ length totals₀)

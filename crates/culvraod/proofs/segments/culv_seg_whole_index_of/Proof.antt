@@ -1,5 +1,5 @@
 -- `culvraod::segments::culv_seg_whole_index_of` meets its contract. Assumes nothing.
-use mathlib.Core.Path.{_≡_, ap, _∙_}
+use mathlib.Core.Path.{ap, _∙_}
 use borrow.Author.Needs.{needs}
 use denote.Ref.{now}
 use mir.Facts.{toZ-ofZ}

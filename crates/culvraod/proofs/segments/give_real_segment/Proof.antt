@@ -1,9 +1,8 @@
 -- `culvraod::segments::give_real_segment` meets its contract. Assumes nothing.
-use mathlib.Core.Path.{_≡_, refl, sym, ap, _∙_}
+use mathlib.Core.Path.{refl, _∙_}
 use native.Mathlib.Omega.{arith}
 use borrow.Author.Needs.{needs}
 use denote.Ref.{now}
-use lib.IntN.{pos}
 use mir.Facts.{toZ-ofZ, toZ-pos}
 use mir.Syntax.{w32}
 use Rattle.segmented.specs.Values.{tellRealSegment}

@@ -1,5 +1,5 @@
 -- `culvraod::segments::give_real_value` meets its contract. Assumes nothing.
-use mathlib.Core.Path.{_≡_, sym, ap}
+use mathlib.Core.Path.{sym, ap}
 use borrow.Author.Needs.{needs}
 use denote.Ref.{now}
 use lib.Ieee.{ofBits}

@@ -1,11 +1,10 @@
 -- `culvraod::segments::index_step_whole` meets its contract. Assumes nothing.
-use mathlib.Core.Path.{_≡_, sym, ap, _∙_}
+use mathlib.Core.Path.{sym, ap}
 use borrow.Author.Needs.{needs}
 use Rattle.linspace.specs.List.{whole}
 use Rattle.segmented.specs.Axes.{steppedAxis, steppedFinder}
 use Rattle.segmented.specs.Segments.{segmentIndexOf}
 use Rattle.culvraod.specs.Segments.{tellWholeCase, byCase}
-use Rattle.search.specs.declared.RoundingMethod.{RoundingMethod}
 use Rattle.culvraod.specs.declared.Method.{Method}
 use Rattle.culvraod.specs.Search.{byMethod}
 use Rattle.culvraod.proofs.Crossing.{by-method}

@@ -1,5 +1,5 @@
 -- `culvraod::segments::real_case` meets its contract. Assumes nothing.
-use mathlib.Core.Path.{_≡_, sym, ap}
+use mathlib.Core.Path.{sym, ap}
 use Prim.Native.Nat.{ℕ}
 use Rattle.culvraod.specs.Segments.{caseOf}
 use Rattle.culvraod.proofs.SegmentCrossing.{other-case}

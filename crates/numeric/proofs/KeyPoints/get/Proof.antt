@@ -1,14 +1,14 @@
 -- `numeric::KeyPoints::get` meets its contract. Assumes nothing.
-use mathlib.Core.Path.{_≡_, refl, sym, ap, _∙_}
+use mathlib.Core.Path.{_≡_}
 use mathlib.Core.Bool.{true, false}
-use Prim.Native.Nat.{ℕ, _+_, _*_, _<_, _≤_}
+use Prim.Native.Nat.{ℕ, _+_, _*_, _≤_}
 use native.Mathlib.Nat.{mul-le-mul-right}
 use native.Mathlib.Omega.{arith}
 use borrow.Author.Needs.{needs}
 use borrow.Author.Tests.{lt-ltb, le-ltb}
 use lib.Dec.{ltb}
 use lib.IntN.{ℤ, pos, negsuc, natAbs, _+ℤ_, _*ℤ_}
-use lib.Signed.{ltZ, leZ}
+use lib.Signed.{ltZ}
 use mir.Facts.{toZ-ofZ, toZ-pos, sfits-widen}
 use mir.Syntax.{w32, w64}
 use mir.Val.{SFits, toZ, ofZ}
@@ -16,8 +16,6 @@ use Rattle.ranged1d.proofs.Whole.{fits64, far32, add-far, pos-times-far, range3
 use Rattle.numeric.specs.Calls.{element, pointAt}
 use Rattle.numeric.proofs.KeyPoints.get.Statement.{statement}
 use Rattle.numeric.proofs.KeyPoints.get.Tie as tie
-use Rattle.numeric.proofs.KeyPoints.get.Reads as reads
-use Rattle.numeric.proofs.KeyPoints.get.Lts as lts
 
 returns : tie.Need-returns
 unfolding pointAt

@@ -1,26 +1,16 @@
 -- `numeric::RangedCoordi32::key_points` meets its contract, by what is known of a plan. Assumes nothing.
 use mathlib.Core.Path.{_≡_, sym, ap, _∙_}
-use mathlib.Core.List.{List, _++_}
-use Prim.Native.Nat.{ℕ, _≤_}
 use native.Mathlib.Omega.{arith}
 use borrow.Author.Needs.{needs}
-use lib.IntN.{ℤ}
-use lib.ListN.{drop}
 use mir.Facts.{toZ-ofZ}
 use mir.Syntax.{w32}
-use mir.Val.{SFits, toZ, ofZ}
-use Rattle.ranged1d.specs.Answer.{given, refused}
-use Rattle.ranged1d.specs.Refusals.{numberOf}
+use mir.Val.{toZ, ofZ}
+use Rattle.ranged1d.specs.Answer.{given}
 use Rattle.numeric.specs.declared.KeyPoints.{KeyPoints}
-use Rattle.numeric.specs.Marks.{listOf}
 use Rattle.numeric.specs.Calls.{tellPlanned, wholePlan}
 use Rattle.numeric.proofs.Plans.{Good, planned-good, whole-refused, whole-short, whole-written}
 use Rattle.numeric.proofs.RangedCoordi32.key_points.Statement.{statement}
 use Rattle.numeric.proofs.RangedCoordi32.key_points.Tie as tie
-use Rattle.numeric.proofs.RangedCoordi32.key_points.Reads as reads
-use Rattle.numeric.proofs.RangedCoordi32.key_points.Lts as lts
-use Rattle.numeric.proofs.RangedCoordi32.plan.Reads as plan-reads
-use Rattle.numeric.proofs.compute_i32_key_points.Reads as compute-i32-key-points-reads
 
 plan-requires : tie.Need-plan-requires
 plan-requires c κs = search needs

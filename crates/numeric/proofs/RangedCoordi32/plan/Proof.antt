@@ -1,22 +1,18 @@
 -- `numeric::RangedCoordi32::plan` meets its contract. Assumes nothing.
-use mathlib.Core.Path.{_≡_, refl, sym, _∙_}
-use mathlib.Core.Bool.{true, false}
+use mathlib.Core.Path.{_≡_, sym, _∙_}
+use mathlib.Core.Bool.{true}
 use Prim.Native.Nat.{_≤_}
 use borrow.Author.Needs.{needs}
 use borrow.Author.Tests.{leb-true, not-true, not-false}
 use lib.IntN.{ℤ, natAbs}
 use mir.Facts.{toZ-ofZ}
 use mir.Syntax.{w32}
-use mir.Val.{SFits, toZ, ofZ}
+use mir.Val.{toZ, ofZ}
 use Rattle.ranged1d.specs.Admitted.{wholeAdmitted}
 use Rattle.ranged1d.proofs.Whole.{other-way}
 use Rattle.numeric.specs.Calls.{wholePlan}
 use Rattle.numeric.proofs.RangedCoordi32.plan.Statement.{statement}
 use Rattle.numeric.proofs.RangedCoordi32.plan.Tie as tie
-use Rattle.numeric.proofs.RangedCoordi32.plan.Reads as reads
-use Rattle.numeric.proofs.RangedCoordi32.plan.Lts as lts
-use Rattle.ranged1d.proofs.whole_admitted.Reads as whole-admitted-reads
-use Rattle.numeric.proofs.plan_sorted.Reads as plan-sorted-reads
 
 whole-admitted-requires : tie.Need-whole-admitted-requires
 whole-admitted-requires c κs = search needs

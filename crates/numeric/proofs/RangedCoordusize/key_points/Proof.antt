@@ -1,14 +1,14 @@
 -- `numeric::RangedCoordusize::key_points` meets its contract, by what is known of the plan of its ends as whole numbers. Assumes nothing.
 use mathlib.Core.Path.{_≡_, sym, ap, ap₂, _∙_}
-use mathlib.Core.Bool.{true, false}
-use Prim.Native.Nat.{ℕ, _≤_}
+use mathlib.Core.Bool.{true}
+use Prim.Native.Nat.{_≤_}
 use native.Mathlib.Omega.{arith}
 use borrow.Author.Needs.{needs}
 use borrow.Author.Tests.{leb-true, not-true, not-false}
 use lib.IntN.{ℤ, pos, natAbs}
 use mir.Facts.{toZ-ofZ, toZ-pos}
 use mir.Syntax.{w32}
-use mir.Val.{SFits, toZ, ofZ}
+use mir.Val.{SFits, toZ}
 use Rattle.ranged1d.specs.Answer.{Answer, given}
 use Rattle.ranged1d.specs.Admitted.{indexAdmitted}
 use Rattle.ranged1d.proofs.Whole.{fits32, far32}
@@ -17,11 +17,6 @@ use Rattle.numeric.specs.Calls.{tellPlanned, wholePlan, indexKeyPoints}
 use Rattle.numeric.proofs.Plans.{natural, first-natural, step-natural, index-near, index-refused, index-short, index-written}
 use Rattle.numeric.proofs.RangedCoordusize.key_points.Statement.{statement}
 use Rattle.numeric.proofs.RangedCoordusize.key_points.Tie as tie
-use Rattle.numeric.proofs.RangedCoordusize.key_points.Reads as reads
-use Rattle.numeric.proofs.RangedCoordusize.key_points.Lts as lts
-use Rattle.numeric.proofs.RangedCoordi32.plan.Reads as plan-reads
-use Rattle.numeric.proofs.compute_usize_key_points.Reads as compute-usize-key-points-reads
-use Rattle.ranged1d.proofs.index_admitted.Reads as index-admitted-reads
 
 index-admitted-requires : tie.Need-index-admitted-requires
 index-admitted-requires c κs = search needs

@@ -1,12 +1,10 @@
 -- `rule::input::hold` meets its contract. Assumes nothing.
 use mathlib.Core.Path.{_≡_}
-use Prim.Native.Nat.{_-_, _≤_}
+use Prim.Native.Nat.{_-_}
 use lib.ListN.{length}
 use borrow.Author.Needs.{needs}
 use Rattle.rule.proofs.input.hold.Statement.{statement}
 use Rattle.rule.proofs.input.hold.Tie as tie
-use Rattle.rule.proofs.input.hold.Reads as reads
-use Rattle.rule.proofs.input.hold.Lts as lts
 
 abbrev Inv-loop : tie.InvT-loop
 Inv-loop part held₀ n i₀ k₀ held i k = length held ≡ length held₀

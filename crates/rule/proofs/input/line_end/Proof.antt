@@ -4,8 +4,6 @@ use lib.ListN.{length}
 use borrow.Author.Needs.{needs}
 use Rattle.rule.proofs.input.line_end.Statement.{statement}
 use Rattle.rule.proofs.input.line_end.Tie as tie
-use Rattle.rule.proofs.input.line_end.Reads as reads
-use Rattle.rule.proofs.input.line_end.Lts as lts
 
 abbrev Inv-loop : tie.InvT-loop
 Inv-loop s at i₀ i = (at ≤ i) × (i ≤ length s)

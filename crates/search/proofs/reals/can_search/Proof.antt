@@ -1,4 +1,4 @@
-use mathlib.Core.Path.{_≡_, refl, sym, ap, subst, _∙_}
+use mathlib.Core.Path.{sym, ap, _∙_}
 use denote.Ref.{now}
 use lib.Ieee.{lt, nan}
 use Rattle.search.specs.Search.{reals}
@@ -10,9 +10,6 @@ use mathlib.Core.Bool.{Bool}
 use borrow.Author.Needs.{needs}
 use Rattle.search.proofs.reals.can_search.Statement.{statement}
 use Rattle.search.proofs.reals.can_search.Tie as tie
-use Rattle.search.proofs.reals.can_search.Reads as reads
-use Rattle.search.proofs.reals.can_search.Lts as lts
-use Rattle.search.proofs.reals.ordered.Reads as ordered-reads
 
 shared-slice-read-result : tie.Need-shared-slice-read-result
 shared-slice-read-result c = search needs

@@ -1,15 +1,11 @@
-use mathlib.Core.Path.{_≡_, refl, sym, ap, subst, _∙_}
+use mathlib.Core.Path.{_≡_, ap, _∙_}
 use denote.Ref.{now}
-use Prim.Native.Nat.{ℕ, suc, _-_}
+use Prim.Native.Nat.{ℕ, _-_}
 use native.Mathlib.Omega.{arith}
-use lib.Ieee.{Float}
 use lib.ListN.{getD}
 use borrow.Author.Needs.{needs}
 use Rattle.search.proofs.reals.entry_before.Statement.{statement}
 use Rattle.search.proofs.reals.entry_before.Tie as tie
-use Rattle.search.proofs.reals.entry_before.Reads as reads
-use Rattle.search.proofs.reals.entry_before.Lts as lts
-use Rattle.search.proofs.reals.entry_or.Reads as entry-or-reads
 
 returns : tie.Need-returns
 returns c = λ j e. absurd (omega (arith, e, c .if1 .taken))

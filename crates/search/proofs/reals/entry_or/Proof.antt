@@ -1,14 +1,11 @@
-use lib.Ieee.{lt, nan}
+use lib.Ieee.{nan}
 use denote.Ref.{now}
 use lib.ListN.{List·getD-eq-default}
 use Rattle.search.proofs.Lists.{entry-any}
-use mathlib.Core.Path.{_≡_, refl, sym, ap, _∙_}
-use borrow.Author.Tests.{lt-ltb, le-ltb, le-leb, lt-leb}
+use mathlib.Core.Path.{sym}
 use borrow.Author.Needs.{needs}
 use Rattle.search.proofs.reals.entry_or.Statement.{statement}
 use Rattle.search.proofs.reals.entry_or.Tie as tie
-use Rattle.search.proofs.reals.entry_or.Reads as reads
-use Rattle.search.proofs.reals.entry_or.Lts as lts
 
 mul-result : tie.Need-mul-result
 mul-result c = search needs

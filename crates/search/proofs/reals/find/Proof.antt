@@ -1,4 +1,4 @@
-use mathlib.Core.Path.{_≡_, refl, sym, ap, subst, _∙_}
+use mathlib.Core.Path.{_∙_}
 use denote.Ref.{now}
 use lib.Ieee.{nan}
 use Rattle.search.specs.Search.{reals}
@@ -7,12 +7,6 @@ use Rattle.search.proofs.Rules.{found}
 use borrow.Author.Needs.{needs}
 use Rattle.search.proofs.reals.find.Statement.{statement}
 use Rattle.search.proofs.reals.find.Tie as tie
-use Rattle.search.proofs.reals.find.Reads as reads
-use Rattle.search.proofs.reals.find.Lts as lts
-use Rattle.search.proofs.reals.entry_before.Reads as entry-before-reads
-use Rattle.search.proofs.reals.entry_or.Reads as entry-or-reads
-use Rattle.search.proofs.reals.position.Reads as position-reads
-use Rattle.search.proofs.reals.settle_real.Reads as settle-real-reads
 
 position-requires : tie.Need-position-requires
 position-requires c κs = search needs

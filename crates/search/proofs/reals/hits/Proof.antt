@@ -1,9 +1,7 @@
-use mathlib.Core.Path.{_≡_, refl, sym, ap, _∙_}
+use mathlib.Core.Path.{refl}
 use borrow.Author.Tests.{lt-ltb, le-ltb}
 use Rattle.search.proofs.reals.hits.Statement.{statement}
 use Rattle.search.proofs.reals.hits.Tie as tie
-use Rattle.search.proofs.reals.hits.Reads as reads
-use Rattle.search.proofs.reals.hits.Lts as lts
 
 returns : tie.Need-returns
 returns c = rw (lt-ltb _ _ (c .if1 .taken)) refl

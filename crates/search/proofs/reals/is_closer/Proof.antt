@@ -1,8 +1,6 @@
-use mathlib.Core.Path.{_≡_, refl, sym, ap, _∙_}
+use mathlib.Core.Path.{refl}
 use Rattle.search.proofs.reals.is_closer.Statement.{statement}
 use Rattle.search.proofs.reals.is_closer.Tie as tie
-use Rattle.search.proofs.reals.is_closer.Reads as reads
-use Rattle.search.proofs.reals.is_closer.Lts as lts
 
 returns : tie.Need-returns
 returns c = rw (c .if1 .taken) refl

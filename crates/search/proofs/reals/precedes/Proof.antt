@@ -1,8 +1,6 @@
-use mathlib.Core.Path.{_≡_, refl, sym, ap, _∙_}
+use mathlib.Core.Path.{refl}
 use Rattle.search.proofs.reals.precedes.Statement.{statement}
 use Rattle.search.proofs.reals.precedes.Tie as tie
-use Rattle.search.proofs.reals.precedes.Reads as reads
-use Rattle.search.proofs.reals.precedes.Lts as lts
 
 returns : tie.Need-returns
 returns c = rw (c .if1 .taken) refl

@@ -1,12 +1,10 @@
 use denote.Ref.{now}
-use mathlib.Core.Path.{_≡_, refl, sym, ap, _∙_}
+use mathlib.Core.Path.{sym}
 use lib.Ieee.{lt, nan}
 use Rattle.search.proofs.Lists.{rises-short, rises-two}
 use borrow.Author.Needs.{needs}
 use Rattle.search.proofs.reals.rising.Statement.{statement}
 use Rattle.search.proofs.reals.rising.Tie as tie
-use Rattle.search.proofs.reals.rising.Reads as reads
-use Rattle.search.proofs.reals.rising.Lts as lts
 
 returns : tie.Need-returns
 returns c = sym (rises-short lt (now (c .before .args .list)) (c .if1 .taken))

@@ -3,24 +3,16 @@ use Rattle.search.proofs.RealOrder.{real-order}
 use Rattle.search.proofs.Lists.{searchable-own}
 use lib.Dec.{T}
 use Rattle.search.proofs.Rules.{equals-itself, searched-ascends}
-use mathlib.Core.Path.{_≡_, refl, sym, ap, subst, _∙_}
+use mathlib.Core.Path.{_≡_, sym, ap, subst, _∙_}
 use denote.Ref.{now}
 use borrow.Author.Tests.{not-true, not-false}
 use lib.Ieee.{Float, nan}
 use lib.Ieee.Compare.{differs-from-itself}
-use lib.ListN.{length}
-use Rattle.search.specs.Settled.{settledNan}
 use Rattle.search.specs.Lists.{realSearch}
 use Rattle.search.proofs.Rules.{real-order-refused, real-answered, nan-answered}
 use borrow.Author.Needs.{needs}
 use Rattle.search.proofs.reals.search_real.Statement.{statement}
 use Rattle.search.proofs.reals.search_real.Tie as tie
-use Rattle.search.proofs.reals.search_real.Reads as reads
-use Rattle.search.proofs.reals.search_real.Lts as lts
-use Rattle.search.proofs.reals.can_search.Reads as can-search-reads
-use Rattle.search.proofs.reals.find.Reads as find-reads
-use Rattle.search.proofs.reals.rising.Reads as rising-reads
-use Rattle.search.proofs.settle_nan.Reads as settle-nan-reads
 
 rising-requires : tie.Need-rising-requires
 rising-requires c κs = search needs

@@ -1,14 +1,9 @@
-use mathlib.Core.Path.{_≡_, refl, sym, ap, _∙_}
+use mathlib.Core.Path.{sym, _∙_}
 use Rattle.search.specs.Search.{reals}
 use Rattle.search.proofs.Cases.{settled-hit, settled-miss}
 use borrow.Author.Needs.{needs}
 use Rattle.search.proofs.reals.settle_real.Statement.{statement}
 use Rattle.search.proofs.reals.settle_real.Tie as tie
-use Rattle.search.proofs.reals.settle_real.Reads as reads
-use Rattle.search.proofs.reals.settle_real.Lts as lts
-use Rattle.search.proofs.reals.hits.Reads as hits-reads
-use Rattle.search.proofs.reals.is_closer.Reads as is-closer-reads
-use Rattle.search.proofs.settle.Reads as settle-reads
 
 hits-requires : tie.Need-hits-requires
 hits-requires c κs = search needs

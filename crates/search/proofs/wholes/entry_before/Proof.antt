@@ -1,16 +1,13 @@
 use mir.Syntax.{w32}
 use mir.Facts.{toZ-ofZ}
-use mathlib.Core.Path.{_≡_, refl, sym, ap, subst, _∙_}
+use mathlib.Core.Path.{_≡_, ap, _∙_}
 use denote.Ref.{now}
-use Prim.Native.Nat.{ℕ, suc, _-_}
+use Prim.Native.Nat.{ℕ, _-_}
 use native.Mathlib.Omega.{arith}
 use lib.ListN.{getD}
 use borrow.Author.Needs.{needs}
 use Rattle.search.proofs.wholes.entry_before.Statement.{statement}
 use Rattle.search.proofs.wholes.entry_before.Tie as tie
-use Rattle.search.proofs.wholes.entry_before.Reads as reads
-use Rattle.search.proofs.wholes.entry_before.Lts as lts
-use Rattle.search.proofs.wholes.entry_or.Reads as entry-or-reads
 
 returns : tie.Need-returns
 returns c = λ j e. absurd (omega (arith, e, c .if1 .taken))

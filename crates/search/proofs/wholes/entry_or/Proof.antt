@@ -1,15 +1,12 @@
 use mir.Facts.{toZ-ofZ}
-use mathlib.Core.Path.{_≡_, refl, sym, ap, _∙_}
+use mathlib.Core.Path.{sym, _∙_}
 use lib.IntN.{pos}
-use lib.Signed.{ltZ}
 use denote.Ref.{now}
 use lib.ListN.{List·getD-eq-default}
 use Rattle.search.proofs.Lists.{entry-any}
 use borrow.Author.Needs.{needs}
 use Rattle.search.proofs.wholes.entry_or.Statement.{statement}
 use Rattle.search.proofs.wholes.entry_or.Tie as tie
-use Rattle.search.proofs.wholes.entry_or.Reads as reads
-use Rattle.search.proofs.wholes.entry_or.Lts as lts
 
 mul-result : tie.Need-mul-result
 mul-result c = search needs

@@ -1,4 +1,4 @@
-use mathlib.Core.Path.{_≡_, refl, sym, ap, subst, _∙_}
+use mathlib.Core.Path.{_≡_, _∙_}
 use denote.Ref.{now}
 use lib.IntN.{pos}
 use mir.Facts.{toZ-ofZ}
@@ -8,12 +8,6 @@ use Rattle.search.proofs.Rules.{whole-found}
 use borrow.Author.Needs.{needs}
 use Rattle.search.proofs.wholes.find.Statement.{statement}
 use Rattle.search.proofs.wholes.find.Tie as tie
-use Rattle.search.proofs.wholes.find.Reads as reads
-use Rattle.search.proofs.wholes.find.Lts as lts
-use Rattle.search.proofs.wholes.entry_before.Reads as entry-before-reads
-use Rattle.search.proofs.wholes.entry_or.Reads as entry-or-reads
-use Rattle.search.proofs.wholes.position.Reads as position-reads
-use Rattle.search.proofs.wholes.settle_whole.Reads as settle-whole-reads
 
 position-requires : tie.Need-position-requires
 position-requires c κs = search needs

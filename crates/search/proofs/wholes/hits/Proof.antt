@@ -1,14 +1,8 @@
-use mathlib.Core.Path.{_≡_, refl, sym, ap, _∙_}
+use mathlib.Core.Path.{refl}
 use borrow.Author.Tests.{lt-ltb, le-ltb}
-use mir.Facts.{toZ-ofZ, sfits-widen}
-use mir.Syntax.{w32, w64}
-use mir.Val.{toZ, ofZ}
-use lib.IntN.{ℤ}
 use Rattle.search.proofs.WholeOrder.{same-bits}
 use Rattle.search.proofs.wholes.hits.Statement.{statement}
 use Rattle.search.proofs.wholes.hits.Tie as tie
-use Rattle.search.proofs.wholes.hits.Reads as reads
-use Rattle.search.proofs.wholes.hits.Lts as lts
 
 returns : tie.Need-returns
 returns c = rw (lt-ltb _ _ (c .if1 .taken)) (same-bits (c .before .args .y) (c .before .args .t) (c .before .fits .y) (c .before .fits .t))

@@ -1,8 +1,7 @@
 -- `search::wholes::is_closer` meets its contract: an i64 holds every difference of two i32. Assumes nothing.
-use mathlib.Core.Path.{_≡_, refl, sym, ap, _∙_}
-use Prim.Native.Nat.{ℕ, _≤_}
+use mathlib.Core.Path.{_≡_, refl}
 use native.Mathlib.Omega.{arith}
-use lib.IntN.{ℤ, natAbs, _-ℤ_}
+use lib.IntN.{ℤ, _-ℤ_}
 use mir.Facts.{toZ-ofZ, sfits-widen}
 use mir.Syntax.{w32, w64}
 use mir.Val.{SFits, toZ, ofZ}

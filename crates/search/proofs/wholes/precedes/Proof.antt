@@ -1,9 +1,7 @@
 use mir.Facts.{toZ-ofZ}
-use mathlib.Core.Path.{_≡_, refl, sym, ap, _∙_}
+use mathlib.Core.Path.{refl}
 use Rattle.search.proofs.wholes.precedes.Statement.{statement}
 use Rattle.search.proofs.wholes.precedes.Tie as tie
-use Rattle.search.proofs.wholes.precedes.Reads as reads
-use Rattle.search.proofs.wholes.precedes.Lts as lts
 
 returns : tie.Need-returns
 returns c = rw (toZ-ofZ (c .before .fits .x), toZ-ofZ (c .before .fits .y), c .if1 .taken) refl

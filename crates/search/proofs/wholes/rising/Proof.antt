@@ -1,14 +1,12 @@
 use mir.Facts.{toZ-ofZ}
 use denote.Ref.{now}
-use mathlib.Core.Path.{_≡_, refl, sym, ap, _∙_}
+use mathlib.Core.Path.{sym}
 use lib.IntN.{pos}
 use lib.Signed.{ltZ}
 use Rattle.search.proofs.Lists.{rises-short, rises-two}
 use borrow.Author.Needs.{needs}
 use Rattle.search.proofs.wholes.rising.Statement.{statement}
 use Rattle.search.proofs.wholes.rising.Tie as tie
-use Rattle.search.proofs.wholes.rising.Reads as reads
-use Rattle.search.proofs.wholes.rising.Lts as lts
 
 returns : tie.Need-returns
 returns c = sym (rises-short ltZ (now (c .before .args .list)) (c .if1 .taken))

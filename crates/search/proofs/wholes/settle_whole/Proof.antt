@@ -1,17 +1,12 @@
 use mathlib.Core.Bool.{_&&_}
 use lib.Dec.{ltb}
 use mir.Facts.{toZ-ofZ}
-use mathlib.Core.Path.{_≡_, refl, sym, ap, _∙_}
+use mathlib.Core.Path.{_≡_, sym, _∙_}
 use Rattle.search.specs.Search.{wholes}
 use Rattle.search.proofs.Cases.{settled-hit, settled-miss}
 use borrow.Author.Needs.{needs}
 use Rattle.search.proofs.wholes.settle_whole.Statement.{statement}
 use Rattle.search.proofs.wholes.settle_whole.Tie as tie
-use Rattle.search.proofs.wholes.settle_whole.Reads as reads
-use Rattle.search.proofs.wholes.settle_whole.Lts as lts
-use Rattle.search.proofs.settle.Reads as settle-reads
-use Rattle.search.proofs.wholes.hits.Reads as hits-reads
-use Rattle.search.proofs.wholes.is_closer.Reads as is-closer-reads
 
 hit-is : (c : tie.After-hits) → c .hits .result ≡ (ltb (c .before .args .i) (c .before .args .n) && wholes .equal (c .before .args .y) (c .before .args .t))
 hit-is c = rw (toZ-ofZ (c .before .fits .y), toZ-ofZ (c .before .fits .t)) at (c .hits .ensures)

@@ -1,6 +1,5 @@
 -- `segmented::SegmentedLinspacef64::index_of` meets its contract. Assumes nothing.
 use mathlib.Core.Path.{_≡_, refl, sym, ap, _∙_}
-use lib.IntN.{ℤ}
 use lib.Ieee.{Float}
 use Prim.Native.Nat.{ℕ}
 use Rattle.ranged1d.specs.Answer.{Answer}

@@ -1,14 +1,11 @@
 -- `segmented::SegmentedLinspacef64::key_points` meets its contract. Assumes nothing.
 use mathlib.Core.Path.{_≡_, sym, ap, _∙_}
 use lib.Ieee.{Float}
-use mathlib.Core.List.{List}
-use Prim.Native.Nat.{ℕ}
-use Rattle.ranged1d.specs.Answer.{Answer}
 use Rattle.linspace.specs.List.{real}
 use Rattle.linspace.specs.Calls.{tellListed, stepKeyPoints}
 use Rattle.linspace.specs.declared.Listed.{Listed}
-use Rattle.segmented.specs.Segments.{Axis, Finder}
-use Rattle.segmented.specs.Axes.{steppedAxis, steppedFinder}
+use Rattle.segmented.specs.Segments.{Axis}
+use Rattle.segmented.specs.Axes.{steppedAxis}
 use Rattle.segmented.proofs.Rules.{points-refused, points-none, points-some}
 use borrow.Author.Needs.{needs}
 use Rattle.segmented.proofs.SegmentedLinspacef64.key_points.Statement.{statement}

@@ -1,10 +1,8 @@
 -- `segmented::SegmentedLinspacef64::unmap` meets its contract. Assumes nothing.
 use mathlib.Core.Path.{_≡_, refl, sym, ap, _∙_}
 use mathlib.Core.Bool.{true}
-use Prim.Native.Nat.{_+_}
 use native.Mathlib.Omega.{arith}
 use borrow.Author.Tests.{not-true, not-false}
-use lib.IntN.{ℤ}
 use lib.Ieee.{Float}
 use mir.Facts.{toZ-ofZ}
 use Rattle.ranged1d.specs.Admitted.{pixelAdmitted, limitAdmitted}

@@ -1,14 +1,11 @@
 -- `segmented::reals::next` meets its contract. Assumes nothing.
 use mathlib.Core.Path.{_≡_, refl, sym, ap, _∙_}
 use lib.Ieee.{Float}
-use native.Mathlib.Omega.{arith}
 use Prim.Native.Nat.{_+_}
 use native.Mathlib.Numerals.{add-one}
-use Rattle.ranged1d.specs.Answer.{none}
 use Rattle.numeric.specs.Whole.{tellIndex}
 use Rattle.numeric.specs.declared.whole.Index.{Index}
 use Rattle.linspace.specs.List.{real}
-use Rattle.linspace.specs.Calls.{stepIndexOf}
 use Rattle.segmented.specs.Segments.{Axis}
 use Rattle.segmented.specs.Axes.{steppedAxis, steppedFinder}
 use Rattle.segmented.specs.Segments.{entryAfter}

@@ -4,7 +4,7 @@ use mathlib.Core.Bool.{Bool, true}
 use borrow.Author.Tests.{not-true, not-false}
 use lib.IntN.{ℤ}
 use mir.Facts.{toZ-ofZ}
-use Rattle.linspace.specs.List.{whole, axisAdmitted}
+use Rattle.linspace.specs.List.{whole}
 use Rattle.segmented.specs.Segments.{Axis}
 use Rattle.segmented.specs.Axes.{steppedAxis}
 use Rattle.segmented.specs.declared.SegmentValuei32.{SegmentValuei32}

@@ -12,7 +12,7 @@ use Rattle.segmented.specs.Segments.{Axis}
 use Rattle.segmented.specs.Axes.{steppedAxis}
 use Rattle.segmented.specs.Axes.{steppedFinder}
 use Rattle.segmented.specs.Values.{exact}
-use Rattle.segmented.specs.Steps.{countAnswer, Stands}
+use Rattle.segmented.specs.Steps.{countAnswer}
 use Rattle.segmented.proofs.Rules.{index-unfit, index-stopped, stepped-stands, index-is}
 use borrow.Author.Needs.{needs}
 use Rattle.segmented.proofs.steps.index_at.Statement.{statement}

@@ -2,14 +2,11 @@
 use mathlib.Core.Path.{_≡_, sym, ap, _∙_}
 use lib.IntN.{ℤ}
 use mir.Facts.{toZ-ofZ}
-use native.Mathlib.Omega.{arith}
 use Prim.Native.Nat.{_+_}
 use native.Mathlib.Numerals.{add-one}
-use Rattle.ranged1d.specs.Answer.{none}
 use Rattle.numeric.specs.Whole.{tellIndex}
 use Rattle.numeric.specs.declared.whole.Index.{Index}
 use Rattle.linspace.specs.List.{whole}
-use Rattle.linspace.specs.Calls.{stepIndexOf}
 use Rattle.segmented.specs.Segments.{Axis}
 use Rattle.segmented.specs.Axes.{steppedAxis, steppedFinder}
 use Rattle.segmented.specs.Segments.{entryAfter}

@@ -11,7 +11,7 @@ use Rattle.segmented.specs.Segments.{Axis}
 use Rattle.segmented.specs.Axes.{wholeAxis}
 use Rattle.segmented.specs.Axes.{wholeFinder}
 use Rattle.segmented.specs.Values.{exact}
-use Rattle.segmented.specs.Steps.{countAnswer, Stands}
+use Rattle.segmented.specs.Steps.{countAnswer}
 use Rattle.segmented.proofs.Rules.{index-unfit, index-stopped}
 use Rattle.segmented.proofs.WholeRules.{whole-stands, index-is}
 use borrow.Author.Needs.{needs}

@@ -10,8 +10,6 @@ use Rattle.ranged1d.proofs.Whole.{fits32, zero-minus-far}
 use borrow.Author.Needs.{needs}
 use Rattle.vectors.proofs.bits.signed.Statement.{statement}
 use Rattle.vectors.proofs.bits.signed.Tie as tie
-use Rattle.vectors.proofs.bits.signed.Reads as reads
-use Rattle.vectors.proofs.bits.signed.Lts as lts
 
 cast-result : tie.Need-cast-result
 cast-result c = search needs

@@ -3,9 +3,6 @@ use Prim.Native.Nat.{_-_, _≤_}
 use borrow.Author.Needs.{needs}
 use Rattle.vectors.proofs.lists.holds.Statement.{statement}
 use Rattle.vectors.proofs.lists.holds.Tie as tie
-use Rattle.vectors.proofs.lists.holds.Reads as reads
-use Rattle.vectors.proofs.lists.holds.Lts as lts
-use Rattle.vectors.proofs.lists.held.Reads as held-reads
 
 abbrev Inv-loop : tie.InvT-loop
 Inv-loop numbers n count list before k₀ k = k ≤ 64

@@ -3,8 +3,6 @@ use Prim.Native.Nat.{_-_, _≤_}
 use borrow.Author.Needs.{needs}
 use Rattle.vectors.proofs.lists.indices.Statement.{statement}
 use Rattle.vectors.proofs.lists.indices.Tie as tie
-use Rattle.vectors.proofs.lists.indices.Reads as reads
-use Rattle.vectors.proofs.lists.indices.Lts as lts
 
 abbrev Inv-loop : tie.InvT-loop
 Inv-loop list words₀ k₀ words k = k ≤ 64

@@ -3,9 +3,6 @@ use Prim.Native.Nat.{_-_, _≤_}
 use borrow.Author.Needs.{needs}
 use Rattle.vectors.proofs.lists.reals.Statement.{statement}
 use Rattle.vectors.proofs.lists.reals.Tie as tie
-use Rattle.vectors.proofs.lists.reals.Reads as reads
-use Rattle.vectors.proofs.lists.reals.Lts as lts
-use Rattle.vectors.proofs.bits.pattern.Reads as pattern-reads
 
 abbrev Inv-loop : tie.InvT-loop
 Inv-loop list words₀ k₀ words k = k ≤ 64

@@ -3,9 +3,6 @@ use Prim.Native.Nat.{_-_, _≤_}
 use borrow.Author.Needs.{needs}
 use Rattle.vectors.proofs.lists.wholes.Statement.{statement}
 use Rattle.vectors.proofs.lists.wholes.Tie as tie
-use Rattle.vectors.proofs.lists.wholes.Reads as reads
-use Rattle.vectors.proofs.lists.wholes.Lts as lts
-use Rattle.vectors.proofs.bits.bits.Reads as bits-reads
 
 abbrev Inv-loop : tie.InvT-loop
 Inv-loop list words₀ k₀ words k = k ≤ 64

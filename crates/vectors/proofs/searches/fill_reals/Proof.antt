@@ -5,10 +5,6 @@ use lib.ListN.{length}
 use borrow.Author.Needs.{needs}
 use Rattle.vectors.proofs.searches.fill_reals.Statement.{statement}
 use Rattle.vectors.proofs.searches.fill_reals.Tie as tie
-use Rattle.vectors.proofs.searches.fill_reals.Reads as reads
-use Rattle.vectors.proofs.searches.fill_reals.Lts as lts
-use Rattle.vectors.proofs.bits.double.Reads as double-reads
-use Rattle.vectors.proofs.calls.word.Reads as word-reads
 
 abbrev Inv-loop : tie.InvT-loop
 Inv-loop numbers list₀ k₀ list k = length list ≡ length list₀

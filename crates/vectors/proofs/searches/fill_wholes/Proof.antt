@@ -5,9 +5,6 @@ use lib.ListN.{length}
 use borrow.Author.Needs.{needs}
 use Rattle.vectors.proofs.searches.fill_wholes.Statement.{statement}
 use Rattle.vectors.proofs.searches.fill_wholes.Tie as tie
-use Rattle.vectors.proofs.searches.fill_wholes.Reads as reads
-use Rattle.vectors.proofs.searches.fill_wholes.Lts as lts
-use Rattle.vectors.proofs.calls.whole.Reads as whole-reads
 
 abbrev Inv-loop : tie.InvT-loop
 Inv-loop numbers list₀ k₀ list k = length list ≡ length list₀

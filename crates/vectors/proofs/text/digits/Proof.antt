@@ -4,9 +4,6 @@ use lib.ListN.{length}
 use borrow.Author.Needs.{needs}
 use Rattle.vectors.proofs.text.digits.Statement.{statement}
 use Rattle.vectors.proofs.text.digits.Tie as tie
-use Rattle.vectors.proofs.text.digits.Reads as reads
-use Rattle.vectors.proofs.text.digits.Lts as lts
-use Rattle.vectors.proofs.text.push.Reads as push-reads
 
 abbrev Inv-loop : tie.InvT-loop
 Inv-loop s at i₀ v₀ i v = (at ≤ i) × (i ≤ length s)

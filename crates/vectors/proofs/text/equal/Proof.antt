@@ -4,8 +4,6 @@ use lib.ListN.{length}
 use borrow.Author.Needs.{needs}
 use Rattle.vectors.proofs.text.equal.Statement.{statement}
 use Rattle.vectors.proofs.text.equal.Tie as tie
-use Rattle.vectors.proofs.text.equal.Reads as reads
-use Rattle.vectors.proofs.text.equal.Lts as lts
 
 abbrev Inv-loop : tie.InvT-loop
 Inv-loop s t i₀ i = i ≤ length s

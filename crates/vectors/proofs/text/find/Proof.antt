@@ -4,8 +4,6 @@ use lib.ListN.{length}
 use borrow.Author.Needs.{needs}
 use Rattle.vectors.proofs.text.find.Statement.{statement}
 use Rattle.vectors.proofs.text.find.Tie as tie
-use Rattle.vectors.proofs.text.find.Reads as reads
-use Rattle.vectors.proofs.text.find.Lts as lts
 
 abbrev Inv-loop : tie.InvT-loop
 Inv-loop s at b i₀ i = (at ≤ i) × (i ≤ length s)

@@ -6,9 +6,6 @@ use lib.ListN.{length, length-set}
 use borrow.Author.Needs.{needs}
 use Rattle.vectors.proofs.text.numbers.Statement.{statement}
 use Rattle.vectors.proofs.text.numbers.Tie as tie
-use Rattle.vectors.proofs.text.numbers.Reads as reads
-use Rattle.vectors.proofs.text.numbers.Lts as lts
-use Rattle.vectors.proofs.text.number_at.Reads as number-at-reads
 
 abbrev Inv-loop : tie.InvT-loop
 Inv-loop s start out₀ at₀ n₀ out at n = (n ≤ length out) × (length out ≡ length out₀)
