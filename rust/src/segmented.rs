@@ -321,218 +321,135 @@ impl SegmentedCoord<RangedCoordi32> {
     }
 }
 
-impl Linspacei32 {
-    /// Segments over the axis.
-    pub fn into_segmented(self) -> SegmentedCoord<Linspacei32> {
-        SegmentedCoord(self)
-    }
+/// Segments over a stepped axis: the same calls for whole and for real numbers, by their C
+/// functions. `$also` and `$nan` are the refusals that one kind alone meets.
+macro_rules! stepped_segments {
+    (
+        $axis:ident, $ends:ident, $number:ty, also $also:literal, nan $nan:literal,
+        $size:ident, $map:ident, $index_of:ident, $from_index:ident, $unmap:ident, $key_points:ident
+    ) => {
+        impl $axis {
+            /// Segments over the axis.
+            pub fn into_segmented(self) -> SegmentedCoord<$axis> {
+                SegmentedCoord(self)
+            }
+        }
+
+        impl SegmentedCoord<$axis> {
+            /// The number of values: one for each entry, and the last.
+            ///
+            #[doc = concat!("Refused as ", $also, "[`Refusal::NoSegments`], ")]
+            /// [`Refusal::StepAgainstAxis`] or [`Refusal::ListTooLong`].
+            pub fn size(self) -> Result<u64, Refusal> {
+                let ($ends(a, b), d) = (self.0.inner, self.0.step);
+                let mut n = 0;
+                // SAFETY: the result is a local.
+                let code = unsafe { $size(a, b, d, &mut n) };
+                answered(stringify!($size), code).map(|()| n)
+            }
+
+            /// The pixel of a value, which may carry a number outside the axis or between entries.
+            ///
+            #[doc = concat!("Refused as ", $also, "[`Refusal::LimitNotAdmitted`], ")]
+            /// [`Refusal::NoSegments`], [`Refusal::TooFar`], [`Refusal::StepAgainstAxis`] or
+            #[doc = concat!("[`Refusal::ListTooLong`]", $nan, ".")]
+            pub fn map(
+                self,
+                method: RoundingMethod,
+                value: SegmentValue<$number>,
+                limit: Limit,
+            ) -> Result<i32, Refusal> {
+                let ($ends(a, b), d) = (self.0.inner, self.0.step);
+                let (Limit(p, q), (kind, v)) = (limit, value.parts());
+                let mut pixel = 0;
+                // SAFETY: the result is a local.
+                let code = unsafe { $map(a, b, d, method.number(), kind, v, p, q, &mut pixel) };
+                answered(stringify!($map), code).map(|()| pixel)
+            }
+
+            /// The index of the entry that is meant by a value, or none; the last value has the
+            /// number of entries.
+            ///
+            #[doc = concat!("Refused as ", $also, "[`Refusal::NoSegments`], ")]
+            /// [`Refusal::StepAgainstAxis`] or
+            #[doc = concat!("[`Refusal::ListTooLong`]", $nan, ".")]
+            pub fn index_of(
+                self,
+                method: RoundingMethod,
+                value: SegmentValue<$number>,
+            ) -> Result<Option<u64>, Refusal> {
+                let ($ends(a, b), d) = (self.0.inner, self.0.step);
+                let ((kind, v), mut k) = (value.parts(), 0);
+                // SAFETY: the result is a local.
+                let code = unsafe { $index_of(a, b, d, method.number(), kind, v, &mut k) };
+                answered_or_none(stringify!($index_of), code, k)
+            }
+
+            /// The value at an index: where an entry begins, or the last; none behind that.
+            ///
+            #[doc = concat!("Refused as ", $also, "[`Refusal::NoSegments`], ")]
+            /// [`Refusal::StepAgainstAxis`] or [`Refusal::ListTooLong`].
+            #[allow(clippy::wrong_self_convention)] // plotters' name
+            pub fn from_index(self, k: u64) -> Result<Option<SegmentValue<$number>>, Refusal> {
+                let ($ends(a, b), d) = (self.0.inner, self.0.step);
+                let (mut kind, mut v) = (0, <$number>::default());
+                // SAFETY: the results are locals of their own.
+                let code = unsafe { $from_index(a, b, d, k, &mut kind, &mut v) };
+                answered_or_none(
+                    stringify!($from_index),
+                    code,
+                    SegmentValue::of_parts(kind, v),
+                )
+            }
+
+            /// The value whose share of the film holds pixel `x`, the first one before the film;
+            /// none behind it.
+            ///
+            #[doc = concat!("Refused as ", $also, "[`Refusal::LimitNotAdmitted`], ")]
+            /// [`Refusal::NoSegments`], [`Refusal::StepAgainstAxis`] or
+            /// [`Refusal::ListTooLong`].
+            pub fn unmap(
+                self,
+                x: i32,
+                limit: Limit,
+            ) -> Result<Option<SegmentValue<$number>>, Refusal> {
+                let ($ends(a, b), d) = (self.0.inner, self.0.step);
+                let Limit(p, q) = limit;
+                let (mut kind, mut v) = (0, <$number>::default());
+                // SAFETY: the results are locals of their own.
+                let code = unsafe { $unmap(a, b, d, x, p, q, &mut kind, &mut v) };
+                answered_or_none(stringify!($unmap), code, SegmentValue::of_parts(kind, v))
+            }
+
+            /// Writes the marks of the axis, at most `m` + 1 of the entries, to `out` and gives
+            /// their number; each stands for the middle of its segment.
+            ///
+            #[doc = concat!("Refused as ", $also, "[`Refusal::NoStep`], ")]
+            /// [`Refusal::NoSegments`], [`Refusal::StepAgainstAxis`], [`Refusal::ListTooLong`] or
+            /// [`Refusal::OutTooShort`].
+            pub fn key_points(self, m: u32, out: &mut [$number]) -> Result<usize, Refusal> {
+                let ($ends(a, b), d) = (self.0.inner, self.0.step);
+                let (to, len, mut count) = (out.as_mut_ptr(), out.len(), 0);
+                // SAFETY: `out` is a list of that length, and the result is a local.
+                let code = unsafe { $key_points(a, b, d, m, to, len, &mut count) };
+                answered(stringify!($key_points), code).map(|()| count)
+            }
+        }
+    };
 }
 
-impl SegmentedCoord<Linspacei32> {
-    /// The number of values: one for each entry, and the last.
-    ///
-    /// Refused as [`Refusal::WholeNotAdmitted`], [`Refusal::NoSegments`],
-    /// [`Refusal::StepAgainstAxis`] or [`Refusal::ListTooLong`].
-    pub fn size(self) -> Result<u64, Refusal> {
-        let (RangedCoordi32(a, b), d) = (self.0.inner, self.0.step);
-        let mut n = 0;
-        // SAFETY: the result is a local.
-        let code = unsafe { culv_seg_step_whole_size(a, b, d, &mut n) };
-        answered("culv_seg_step_whole_size", code).map(|()| n)
-    }
+stepped_segments!(
+    Linspacei32, RangedCoordi32, i32, also "[`Refusal::WholeNotAdmitted`], ", nan "",
+    culv_seg_step_whole_size, culv_seg_step_whole_map, culv_seg_step_whole_index_of,
+    culv_seg_step_whole_from_index, culv_seg_step_whole_unmap, culv_seg_step_whole_key_points
+);
 
-    /// The pixel of a value, which may carry a number outside the axis or between entries.
-    ///
-    /// Refused as [`Refusal::WholeNotAdmitted`], [`Refusal::LimitNotAdmitted`],
-    /// [`Refusal::NoSegments`], [`Refusal::TooFar`], [`Refusal::StepAgainstAxis`] or
-    /// [`Refusal::ListTooLong`].
-    pub fn map(
-        self,
-        method: RoundingMethod,
-        value: SegmentValue<i32>,
-        limit: Limit,
-    ) -> Result<i32, Refusal> {
-        let (RangedCoordi32(a, b), d) = (self.0.inner, self.0.step);
-        let (Limit(p, q), (kind, v)) = (limit, value.parts());
-        let mut pixel = 0;
-        // SAFETY: the result is a local.
-        let code =
-            unsafe { culv_seg_step_whole_map(a, b, d, method.number(), kind, v, p, q, &mut pixel) };
-        answered("culv_seg_step_whole_map", code).map(|()| pixel)
-    }
-
-    /// The index of the entry that is meant by a value, or none; the last value has the number of
-    /// entries.
-    ///
-    /// Refused as [`Refusal::WholeNotAdmitted`], [`Refusal::NoSegments`],
-    /// [`Refusal::StepAgainstAxis`] or [`Refusal::ListTooLong`].
-    pub fn index_of(
-        self,
-        method: RoundingMethod,
-        value: SegmentValue<i32>,
-    ) -> Result<Option<u64>, Refusal> {
-        let (RangedCoordi32(a, b), d) = (self.0.inner, self.0.step);
-        let ((kind, v), mut k) = (value.parts(), 0);
-        // SAFETY: the result is a local.
-        let code =
-            unsafe { culv_seg_step_whole_index_of(a, b, d, method.number(), kind, v, &mut k) };
-        answered_or_none("culv_seg_step_whole_index_of", code, k)
-    }
-
-    /// The value at an index: where an entry begins, or the last; none behind that.
-    ///
-    /// Refused as [`Refusal::WholeNotAdmitted`], [`Refusal::NoSegments`],
-    /// [`Refusal::StepAgainstAxis`] or [`Refusal::ListTooLong`].
-    #[allow(clippy::wrong_self_convention)] // plotters' name
-    pub fn from_index(self, k: u64) -> Result<Option<SegmentValue<i32>>, Refusal> {
-        let (RangedCoordi32(a, b), d) = (self.0.inner, self.0.step);
-        let (mut kind, mut v) = (0, 0);
-        // SAFETY: the results are locals of their own.
-        let code = unsafe { culv_seg_step_whole_from_index(a, b, d, k, &mut kind, &mut v) };
-        answered_or_none(
-            "culv_seg_step_whole_from_index",
-            code,
-            SegmentValue::of_parts(kind, v),
-        )
-    }
-
-    /// The value whose share of the film holds pixel `x`, the first one before the film; none
-    /// behind it.
-    ///
-    /// Refused as [`Refusal::WholeNotAdmitted`], [`Refusal::LimitNotAdmitted`],
-    /// [`Refusal::NoSegments`], [`Refusal::StepAgainstAxis`] or [`Refusal::ListTooLong`].
-    pub fn unmap(self, x: i32, limit: Limit) -> Result<Option<SegmentValue<i32>>, Refusal> {
-        let (RangedCoordi32(a, b), d) = (self.0.inner, self.0.step);
-        let Limit(p, q) = limit;
-        let (mut kind, mut v) = (0, 0);
-        // SAFETY: the results are locals of their own.
-        let code = unsafe { culv_seg_step_whole_unmap(a, b, d, x, p, q, &mut kind, &mut v) };
-        answered_or_none(
-            "culv_seg_step_whole_unmap",
-            code,
-            SegmentValue::of_parts(kind, v),
-        )
-    }
-
-    /// Writes the marks of the axis, at most `m` + 1 of the entries, to `out` and gives their
-    /// number; each stands for the middle of its segment.
-    ///
-    /// Refused as [`Refusal::WholeNotAdmitted`], [`Refusal::NoStep`], [`Refusal::NoSegments`],
-    /// [`Refusal::StepAgainstAxis`], [`Refusal::ListTooLong`] or [`Refusal::OutTooShort`].
-    pub fn key_points(self, m: u32, out: &mut [i32]) -> Result<usize, Refusal> {
-        let (RangedCoordi32(a, b), d) = (self.0.inner, self.0.step);
-        let (to, len, mut count) = (out.as_mut_ptr(), out.len(), 0);
-        // SAFETY: `out` is a list of that length, and the result is a local.
-        let code = unsafe { culv_seg_step_whole_key_points(a, b, d, m, to, len, &mut count) };
-        answered("culv_seg_step_whole_key_points", code).map(|()| count)
-    }
-}
-
-impl Linspacef64 {
-    /// Segments over the axis.
-    pub fn into_segmented(self) -> SegmentedCoord<Linspacef64> {
-        SegmentedCoord(self)
-    }
-}
-
-impl SegmentedCoord<Linspacef64> {
-    /// The number of values: one for each entry, and the last.
-    ///
-    /// Refused as [`Refusal::NoSegments`], [`Refusal::StepAgainstAxis`] or
-    /// [`Refusal::ListTooLong`].
-    pub fn size(self) -> Result<u64, Refusal> {
-        let (RangedCoordf64(a, b), d) = (self.0.inner, self.0.step);
-        let mut n = 0;
-        // SAFETY: the result is a local.
-        let code = unsafe { culv_seg_step_real_size(a, b, d, &mut n) };
-        answered("culv_seg_step_real_size", code).map(|()| n)
-    }
-
-    /// The pixel of a value, which may carry a number outside the axis or between entries.
-    ///
-    /// Refused as [`Refusal::LimitNotAdmitted`], [`Refusal::NoSegments`], [`Refusal::TooFar`],
-    /// [`Refusal::StepAgainstAxis`], [`Refusal::ListTooLong`] or [`Refusal::NanTarget`].
-    pub fn map(
-        self,
-        method: RoundingMethod,
-        value: SegmentValue<f64>,
-        limit: Limit,
-    ) -> Result<i32, Refusal> {
-        let (RangedCoordf64(a, b), d) = (self.0.inner, self.0.step);
-        let (Limit(p, q), (kind, v)) = (limit, value.parts());
-        let mut pixel = 0;
-        // SAFETY: the result is a local.
-        let code =
-            unsafe { culv_seg_step_real_map(a, b, d, method.number(), kind, v, p, q, &mut pixel) };
-        answered("culv_seg_step_real_map", code).map(|()| pixel)
-    }
-
-    /// The index of the entry that is meant by a value, or none; the last value has the number of
-    /// entries.
-    ///
-    /// Refused as [`Refusal::NoSegments`], [`Refusal::StepAgainstAxis`], [`Refusal::ListTooLong`]
-    /// or [`Refusal::NanTarget`].
-    pub fn index_of(
-        self,
-        method: RoundingMethod,
-        value: SegmentValue<f64>,
-    ) -> Result<Option<u64>, Refusal> {
-        let (RangedCoordf64(a, b), d) = (self.0.inner, self.0.step);
-        let ((kind, v), mut k) = (value.parts(), 0);
-        // SAFETY: the result is a local.
-        let code =
-            unsafe { culv_seg_step_real_index_of(a, b, d, method.number(), kind, v, &mut k) };
-        answered_or_none("culv_seg_step_real_index_of", code, k)
-    }
-
-    /// The value at an index: where an entry begins, or the last; none behind that.
-    ///
-    /// Refused as [`Refusal::NoSegments`], [`Refusal::StepAgainstAxis`] or
-    /// [`Refusal::ListTooLong`].
-    #[allow(clippy::wrong_self_convention)] // plotters' name
-    pub fn from_index(self, k: u64) -> Result<Option<SegmentValue<f64>>, Refusal> {
-        let (RangedCoordf64(a, b), d) = (self.0.inner, self.0.step);
-        let (mut kind, mut v) = (0, 0.0);
-        // SAFETY: the results are locals of their own.
-        let code = unsafe { culv_seg_step_real_from_index(a, b, d, k, &mut kind, &mut v) };
-        answered_or_none(
-            "culv_seg_step_real_from_index",
-            code,
-            SegmentValue::of_parts(kind, v),
-        )
-    }
-
-    /// The value whose share of the film holds pixel `x`, the first one before the film; none
-    /// behind it.
-    ///
-    /// Refused as [`Refusal::LimitNotAdmitted`], [`Refusal::NoSegments`],
-    /// [`Refusal::StepAgainstAxis`] or [`Refusal::ListTooLong`].
-    pub fn unmap(self, x: i32, limit: Limit) -> Result<Option<SegmentValue<f64>>, Refusal> {
-        let (RangedCoordf64(a, b), d) = (self.0.inner, self.0.step);
-        let Limit(p, q) = limit;
-        let (mut kind, mut v) = (0, 0.0);
-        // SAFETY: the results are locals of their own.
-        let code = unsafe { culv_seg_step_real_unmap(a, b, d, x, p, q, &mut kind, &mut v) };
-        answered_or_none(
-            "culv_seg_step_real_unmap",
-            code,
-            SegmentValue::of_parts(kind, v),
-        )
-    }
-
-    /// Writes the marks of the axis, at most `m` + 1 of the entries, to `out` and gives their
-    /// number; each stands for the middle of its segment.
-    ///
-    /// Refused as [`Refusal::NoStep`], [`Refusal::NoSegments`], [`Refusal::StepAgainstAxis`],
-    /// [`Refusal::ListTooLong`] or [`Refusal::OutTooShort`].
-    pub fn key_points(self, m: u32, out: &mut [f64]) -> Result<usize, Refusal> {
-        let (RangedCoordf64(a, b), d) = (self.0.inner, self.0.step);
-        let (to, len, mut count) = (out.as_mut_ptr(), out.len(), 0);
-        // SAFETY: `out` is a list of that length, and the result is a local.
-        let code = unsafe { culv_seg_step_real_key_points(a, b, d, m, to, len, &mut count) };
-        answered("culv_seg_step_real_key_points", code).map(|()| count)
-    }
-}
+stepped_segments!(
+    Linspacef64, RangedCoordf64, f64, also "",
+    nan ", where a search is made also as [`Refusal::NanTarget`]",
+    culv_seg_step_real_size, culv_seg_step_real_map, culv_seg_step_real_index_of,
+    culv_seg_step_real_from_index, culv_seg_step_real_unmap, culv_seg_step_real_key_points
+);
 
 #[cfg(test)]
 mod tests {
