@@ -1,21 +1,20 @@
 -- A step that leads on: where a sum comes before b, so does every sum before it, and the walk to it may skip their tests. Assumes nothing.
-use mathlib.Core.Path.{_≡_, refl, sym, ap₂, subst, _∙_}
+use mathlib.Core.Path.{_≡_, refl, sym, subst, _∙_}
 use mathlib.Core.Bool.{Bool, true, false}
-use Prim.Native.Nat.{ℕ, zero, suc, _+_, _-_, _≤_}
+use Prim.Native.Nat.{ℕ, zero, suc, _≤_}
 use native.Mathlib.Numerals.{add-one}
 use native.Mathlib.Omega.{arith}
 use lib.Dec.{T}
-use lib.ListN.{length}
 use lib.Ieee.{Float, binary64, fits, lt, eq}
 use lib.Ieee.Fits.{add-fits}
-use Rattle.linspace.specs.List.{real, entries, toward, stepped, against}
+use Rattle.linspace.specs.List.{real, toward, stepped, against}
 use Rattle.linspace.specs.Calls.{hasEntries}
-use Rattle.linspace.specs.RealSteps.{plusStep, after, Walked, Ahead}
+use Rattle.linspace.specs.RealSteps.{plusStep, after, Walked}
 use Rattle.linspace.proofs.Walks.{walk-starts, walk-on}
 use Rattle.linspace.proofs.RealList.{p, w, Onward, never-behind}
 use Rattle.linspace.proofs.Indices.{augend, onward}
 
-after-fits : (d a : Float) → T (fits binary64 a) → (k : ℕ) → T (fits binary64 (after (plusStep d) k a))
+pub after-fits : (d a : Float) → T (fits binary64 a) → (k : ℕ) → T (fits binary64 (after (plusStep d) k a))
 unfolding after
 after-fits d a f zero = f
 after-fits d a f (suc k) = add-fits binary64 (after (plusStep d) k a) d
@@ -36,19 +35,6 @@ module _ (rises : Bool) (b d : Float) (on : Onward rises b d) where
   far most a f (suc k) l h =
       let q = before-too (after (plusStep d) k a) (after-fits d a f k) h in
       rw (← add-one k) (walk-on (p rises b d) (plusStep d) most a k (after (plusStep d) k a) (far most a f k (omega (arith, l)) q) (omega (arith, l)) q)
-
-  -- `by` steps further, where the sum behind them comes before b
-  pub stride-on : (k : ℕ) (x : Float) (n by : ℕ) (left right : Float) → T (fits binary64 left) → n + by ≤ 65537 → right ≡ after (plusStep d) by left → p rises b d right ≡ true
-      → Ahead (p rises b d) (plusStep d) 65537 k x n left → Ahead (p rises b d) (plusStep d) 65537 k x (n + by) right
-  stride-on k x n by left right f l e h w =
-      let walked = far (65537 - n) left f by (omega (arith, l)) (subst (λ (y : Float). p rises b d y ≡ true) e h) in
-      let less : 65537 - n - by ≡ 65537 - (n + by) = omega arith in
-      let same : length (entries (p rises b d) (plusStep d) (65537 - n - by) (after (plusStep d) by left)) ≡ length (entries (p rises b d) (plusStep d) (65537 - (n + by)) right) =
-      ap₂ (λ (m : ℕ) (y : Float). length (entries (p rises b d) (plusStep d) m y)) less (sym e) in
-      record { within = l; rest = w .rest ∙ omega (arith, walked .rest, same) }
-
-pub stride-fits : (d : Float) (by : ℕ) (left right : Float) → T (fits binary64 left) → right ≡ after (plusStep d) by left → T (fits binary64 right)
-stride-fits d by left right f e = subst (λ (y : Float). T (fits binary64 y)) (sym e) (after-fits d left f by)
 
 -- where the sum after k steps comes before b, the walk stands there after k entries
 pub walked-far : (a b d : Float) → T (fits binary64 a) → against real a b d ≡ false → hasEntries (stepped real a b d) ≡ true → (k : ℕ) (x : Float) → k ≤ 65537 → x ≡ after (plusStep d) k a

@@ -1,29 +1,36 @@
 -- What the calls on a real stepped axis answer, by the answer of `size`, which they ask first: the laws of Rules, where every number is admitted. Assumes
 -- nothing.
 use mathlib.Core.Path.{_≡_, refl, sym, ap, _∙_}
-use mathlib.Core.Bool.{Bool, true, false}
-use mathlib.Core.List.{List, _++_}
-use Prim.Native.Nat.{ℕ, _*_, _≤_, _<_}
+use mathlib.Core.Bool.{Bool, true, false, cond}
+use mathlib.Core.List.{List, [], _++_}
+use Prim.Native.Nat.{ℕ, _*_, _/_, _≤_, _<_}
+use lib.Dec.{ltb}
 use native.Mathlib.Nat.{mul-one}
 use native.Mathlib.Omega.{arith}
-use borrow.Author.Tests.{ltb-false}
-use lib.IntN.{ℤ}
+use borrow.Author.Tests.{ltb-true, ltb-false}
+use lib.IntN.{ℤ, _-ℤ_}
 use lib.ListN.{length, drop, getD}
 use lib.Ieee.{Float, lt}
 use Rattle.ranged1d.specs.Answer.{Answer, given, none, refused}
 use Rattle.ranged1d.specs.Admitted.{pixelAdmitted, limitAdmitted}
 use Rattle.ranged1d.specs.declared.Limit.{Limit}
 use Rattle.real.specs.Place.{realPlace}
-use Rattle.discrete.specs.Index.{pixelIndex}
+use Rattle.discrete.specs.Index.{noIndex, indexBy, indexFor, pixelIndex}
 use Rattle.numeric.specs.Marks.{listOf}
 use Rattle.numeric.proofs.Lists.{entry, list-ext}
 use Rattle.linspace.specs.List.{real, toward, stepped, against}
 use Rattle.linspace.specs.Calls.{hasEntries, nth, nthOf, stepSize, stepFromIndex, stepValues, stepPlace, stepReading}
-use Rattle.linspace.specs.RealSteps.{plusStep, after}
+use Rattle.linspace.specs.RealSteps.{plusStep, after, all, Shares}
 use Rattle.linspace.proofs.Walks.{nth-is, nth-past, entries-are}
-use Rattle.linspace.proofs.Axis.{stepped-run, stepped-empty}
+use Rattle.linspace.proofs.Axis as axis
+use Rattle.linspace.proofs.Axis.{stepped-run, stepped-empty, stepped-few}
 use Rattle.linspace.proofs.Rules as rules
 use Rattle.linspace.proofs.Rules.{onceListed, placeListed}
+
+-- a list without entries has none at any index
+none-of : {A : Type 0} (t : Bool) (k : ℕ) → nthOf {A = A} [] (cond t none (given k)) ≡ none
+none-of true k = refl
+none-of false k = refl
 
 module _ (a b d : Float) where
   abbrev l : List Float
@@ -51,23 +58,37 @@ module _ (a b d : Float) where
       let k = rules.counted real a b d (counts-are ∙ e) in
       record { onward = k .onward; all = sym (k .size); few = omega (arith, ltb-false 65536 (length l) (k .short), k .size) }
 
-  -- ---- `from_index`, of a list that is refused and of one that was counted
-  pub from-refused : {n : ℕ} → stepSize real a b d ≡ refused n → (k : ℕ) → stepFromIndex real a b d k ≡ refused n
-  from-refused e k = sym (rules.from-is real a b d refl k) ∙ ap (λ (s : Answer ℕ). onceListed s (nthOf l (given k))) (counts-are ∙ e)
+  -- ---- an entry of a list that was counted, or why the list is refused
+  abbrev pub toldOf : ℕ → ℕ → Float → Answer Float
+  toldOf n k x = cond (ltb 65536 n) (refused 7) (cond (ltb k n) (given x) none)
 
-  module _ {n : ℕ} (e : stepSize real a b d ≡ given n) (k : ℕ) where
-    from-counted : nth l k ≡ stepFromIndex real a b d k
-    from-counted = sym (ap (λ (s : Answer ℕ). onceListed s (nthOf l (given k))) (counts-are ∙ e)) ∙ rules.from-is real a b d refl k
+  module _ (on : against real a b d ≡ false) {n k : ℕ} {x : Float} (all : n ≡ length l) (at : k < n → x ≡ after (plusStep d) k a) where
+    told-is : toldOf n k x ≡ onceListed (stepSize real a b d) (nth l k)
+    told-is = go (ltb 65536 n) refl (ltb k n) refl
+      where
+        counted : ltb 65536 n ≡ false → given (length l) ≡ stepSize real a b d
+        counted e = axis.size-is a b d on (omega (arith, all, ltb-false 65536 n e))
 
-    pub entry-of : k < n → given (after (plusStep d) k a) ≡ stepFromIndex real a b d k
-    entry-of h =
-        let i : k < length l = omega (arith, h, sized e .all) in
-        ap given (sym (ap (λ (z : List Float). getD z k a) stepped-are ∙ entry (λ j. after (plusStep d) j a) a (length l) k i))
-        ∙ sym (nth-is l k a i)
-        ∙ from-counted
+        go : (t : Bool) → ltb 65536 n ≡ t → (u : Bool) → ltb k n ≡ u → cond t (refused 7) (cond u (given x) none) ≡ onceListed (stepSize real a b d) (nth l k)
+        go true e u h = ap (λ (s : Answer ℕ). onceListed s (nth l k)) (axis.size-long a b d on (omega (arith, all, ltb-true 65536 n e)))
+        go false e true h =
+            let i : k < length l = omega (arith, all, ltb-true k n h) in
+            ap given (at (ltb-true k n h) ∙ sym (ap (λ (z : List Float). getD z k a) stepped-are ∙ entry (λ j. after (plusStep d) j a) a (length l) k i))
+            ∙ sym (nth-is l k a i)
+            ∙ ap (λ (s : Answer ℕ). onceListed s (nth l k)) (counted e)
+        go false e false h = sym (nth-past l k (omega (arith, all, ltb-false k n h))) ∙ ap (λ (s : Answer ℕ). onceListed s (nth l k)) (counted e)
 
-    pub entry-beyond : n ≤ k → _≡_ {A = Answer Float} none (stepFromIndex real a b d k)
-    entry-beyond h = sym (nth-past l k (omega (arith, h, sized e .all))) ∙ from-counted
+    pub entry-told : toldOf n k x ≡ stepFromIndex real a b d k
+    entry-told = told-is ∙ ap (λ (s : Answer ℕ). onceListed s (nth l k)) (sym counts-are) ∙ rules.from-is real a b d refl k
+
+  -- ---- `from_index`, of a list that is refused or empty
+  pub from-against : against real a b d ≡ true → (k : ℕ) → _≡_ {A = Answer Float} (refused 6) (stepFromIndex real a b d k)
+  unfolding stepFromIndex
+  from-against e k = rw e refl
+
+  pub from-empty : against real a b d ≡ false → hasEntries l ≡ false → (k : ℕ) → _≡_ {A = Answer Float} none (stepFromIndex real a b d k)
+  unfolding stepFromIndex
+  from-empty e s k = rw (e, stepped-empty a b d s) refl
 
   -- ---- `values`
   module _ (old : List Float) where
@@ -117,18 +138,26 @@ module _ (a b d : Float) where
             sym (rules.reading-is real a b d refl x limit (rw (p, q) refl))
             ∙ ap (λ (s : Answer ℕ). onceListed s (nthOf l (pixelIndex x limit (length l)))) (counts-are ∙ h)
 
-        pub reading-refused : {k : ℕ} → stepSize real a b d ≡ refused k → stepReading real a b d x limit ≡ refused k
-        reading-refused e = reading-by e
+        pub reading-against : against real a b d ≡ true → _≡_ {A = Answer Float} (refused 6) (stepReading real a b d x limit)
+        reading-against e = sym (reading-by (sym (axis.size-against a b d e)))
 
-        module _ {n : ℕ} (e : stepSize real a b d ≡ given n) where
-          by-index : {r : Answer ℕ} → pixelIndex x limit n ≡ r → stepReading real a b d x limit ≡ nthOf l r
-          by-index h = reading-by e ∙ ap (λ (k : ℕ). nthOf l (pixelIndex x limit k)) (sym (sized e .all)) ∙ ap (nthOf l) h
+        pixel-read : (n : ℕ) → pixelIndex x limit n ≡ indexFor (x -ℤ limit .0) (limit .1 -ℤ limit .0) n
+        unfolding pixelIndex
+        pixel-read n = rw (p, q) refl
 
-          pub reading-index-refused : {k : ℕ} → pixelIndex x limit n ≡ refused k → stepReading real a b d x limit ≡ refused k
-          reading-index-refused h = by-index h
+        pub reading-empty : against real a b d ≡ false → hasEntries l ≡ false → _≡_ {A = Answer Float} none (stepReading real a b d x limit)
+        unfolding indexFor
+        reading-empty e s =
+            let w = limit .1 -ℤ limit .0 in
+            sym (reading-by (sym (axis.size-is a b d e (rw (stepped-empty a b d s) (omega arith))))
+            ∙ ap (λ (z : List Float). nthOf z (pixelIndex x limit (length z))) (stepped-empty a b d s)
+            ∙ ap (nthOf []) (pixel-read 0)
+            ∙ none-of (noIndex (x -ℤ limit .0) w 0) (indexBy (x -ℤ limit .0) w 0))
 
-          pub reading-none : pixelIndex x limit n ≡ none → stepReading real a b d x limit ≡ none
-          reading-none h = by-index h
-
-          pub reading-at : {k : ℕ} → pixelIndex x limit n ≡ given k → stepReading real a b d x limit ≡ stepFromIndex real a b d k
-          reading-at {k} h = by-index h ∙ ap (λ (s : Answer ℕ). onceListed s (nthOf l (given k))) (sym (counts-are ∙ e)) ∙ rules.from-is real a b d refl k
+        -- by the share of the list that the pixel is past
+        pub reading-told : against real a b d ≡ false → {n k share : ℕ} {y : Float} → n ≡ length l → (k < n → y ≡ after (plusStep d) k a) → k ≡ n * share / all → Shares (x -ℤ limit .0) (limit .1 -ℤ limit .0) share
+            → toldOf n k y ≡ stepReading real a b d x limit
+        reading-told on {k = k} {share = share} e at f w =
+            told-is on e at
+            ∙ ap (onceListed (stepSize real a b d)) (ap (nth l) (f ∙ ap (λ (n : ℕ). n * share / all) e) ∙ sym (ap (nthOf l) (pixel-read (length l)) ∙ w .read l (stepped-few a b d)))
+            ∙ sym (reading-by refl)

@@ -9,6 +9,8 @@ pub mod Runs
 pub mod Axis
 pub mod Counts
 pub mod RealSums
+pub mod Tracks
+pub mod Shares
 pub mod RealList
 pub mod Indices
 pub mod Ahead

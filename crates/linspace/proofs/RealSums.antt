@@ -4,10 +4,10 @@ use mathlib.Core.Path.{_≡_, refl, sym, ap, subst, _∙_}
 use mathlib.Core.Logic.{_⊎_, inl, inr}
 use mathlib.Core.Bool.{Bool, true, false, cond, true≢false, _&&_, _||_, Bool·beq}
 use Prim.Native.Nat.{ℕ, zero, suc, _+_, _-_, _*_, _/_, _%_, _^_, _≤_, _<_}
-use native.Mathlib.Nat.{zero-mul, one-mul, mul-one, mul-assoc, mul-comm, mul-right-comm, mul-pos, mul-le-mul-right, mul-lt-mul-of-pos-right, lt-of-mul-lt-mul-right}
+use native.Mathlib.Nat.{zero-mul, add-zero, sub-zero, one-mul, mul-one, mul-assoc, mul-comm, mul-right-comm, mul-pos, mul-le-mul-right, mul-lt-mul-of-pos-right, lt-of-mul-lt-mul-right}
 use native.Mathlib.Omega.{arith}
 use native.Mathlib.Decide.{decLe}
-use borrow.Author.Tests.{eqb-true}
+use borrow.Author.Tests.{eqb-true, le-ltb}
 use lib.Dec.{T, ltb, leb, eqb, ltb→lt, leb→le}
 use lib.IntN.{ℤ, pos, negsuc}
 use lib.Pow.{pow-pos, pow-add, pow-lt}
@@ -15,7 +15,7 @@ use lib.Ieee.{Float, nan, inf, fin, Format, binary64, prec, emax, low, hid, top,
 use lib.Ieee.Nearest.{div-same}
 use lib.Ieee.Bits.{ofBits-toBits}
 use lib.Ieee.Exact.{HasValue, round-exact}
-use lib.Ieee.Fits.{up-pos, down-pos, and-l, and-r, neg-fits}
+use lib.Ieee.Fits.{up-pos, down-pos, and-l, and-r, neg-fits, add-fits}
 use lib.Ieee.Order.{round-mono, le-of-values}
 use Rattle.rounding.proofs.Order.{eq-zero}
 use Rattle.rounding.proofs.Signs.{round-neg}
@@ -108,6 +108,26 @@ own-value f s (suc m) e h =
     mul-right-comm (2 ^ suc (emax f)) (down e) (2 ^ low f) ∙ ap (λ (x : ℕ). x * down e) (mul-comm (2 ^ suc (emax f)) (2 ^ low f) ∙ sym (pow-add 2 (low f) (suc (emax f)))) in
     let less : suc m * 2 ^ (j .0) * down e < 2 ^ (low f + suc (emax f)) * down e = subst (λ (x : ℕ). x < 2 ^ (low f + suc (emax f)) * down e) same (subst (λ (x : ℕ). suc m * up e * 2 ^ low f < x) top wide) in
     round-exact f s (suc m * up e) (down e) (suc m) (j .0) (down-pos e) small (lt-of-mul-lt-mul-right (down e) less) same
+
+-- −0.0 added to a number gives that number
+unchanged : (s : Bool) (m : ℕ) (e : ℤ) (r : Float) → T (fits binary64 (fin s m e)) → T (fits binary64 r) → HasValue r s (m * up e) (down e) → r ≡ fin s m e
+unchanged s m e nan f g v = absurd v
+unchanged s m e (inf t) f g v = absurd v
+unchanged s m e (fin t n d) f g v = subst (λ (u : Bool). T (fits binary64 (fin u n d)) → fin u n d ≡ fin s m e) (sym (v .0)) (λ g. same-written binary64 s n m d e g f (v .1)) g
+
+sum-nought : (s : Bool) (q c : ℕ) → sum binary64 s q true 0 c ≡ round binary64 s q c
+unfolding sum
+sum-nought true q c = rw (add-zero q) refl
+sum-nought false q c = rw (le-ltb q 0 (omega arith), sub-zero q) refl
+
+pub add-nought : (x : Float) → T (fits binary64 x) → add binary64 x (zeroOf true) ≡ x
+unfolding add
+add-nought nan f = refl
+add-nought (inf s) f = refl
+add-nought (fin s m e) f =
+    let is : sum binary64 s (m * up e * 1) true (0 * 1 * down e) (down e * 1) ≡ round binary64 s (m * up e) (down e) =
+    rw (mul-one (m * up e), mul-one (down e), zero-mul (down e)) (sum-nought s (m * up e) (down e)) in
+    unchanged s m e (add binary64 (fin s m e) (zeroOf true)) f (add-fits binary64 (fin s m e) (zeroOf true)) (subst (λ (r : Float). HasValue r s (m * up e) (down e)) (sym is) (own-value binary64 s m e f))
 
 -- ---- the order of sums
 le-cases : (x y : Float) → T (le x y) → (lt x y ≡ true) ⊎ (eq x y ≡ true)

@@ -14,7 +14,7 @@ use Rattle.numeric.specs.Marks.{listOf}
 use Rattle.numeric.proofs.Lists.{entry, list-cons, list-ext}
 use Rattle.linspace.specs.List.{entries}
 use Rattle.linspace.specs.Calls.{nth}
-use Rattle.linspace.specs.RealSteps.{after, Walked}
+use Rattle.linspace.specs.RealSteps.{after, Walked, Reached}
 
 -- ---- entries by their index
 module _ {A : Type 0} where
@@ -137,6 +137,15 @@ module _ {A : Type 0} (passes : A → Bool) (next : A → A) where
 
       pub walk-on : (n : ℕ) (x : A) → Walked passes next most a n x → n < most → passes x ≡ true → Walked passes next most a (n + 1) (next x)
       walk-on n x w h p = record { at = ap next (w .at) ∙ after-step next n a; within = omega (arith, h); rest = w .rest ∙ total-on n x h p }
+
+      -- a walk to entry k stands there, if the list has it
+      pub reached-at : (k n : ℕ) (x : A) → Reached passes next most a k n x → k < total n x → x ≡ after next k a
+      reached-at k n x w h = w .walked .at ∙ ap (λ (j : ℕ). after next j a) (go (decLt n k) (decLt n most))
+        where
+          go : Dec (n < k) → Dec (n < most) → n ≡ k
+          go (yes u) (yes v) = absurd (omega (arith, h, u, total-ends n x (w .stopped v u)))
+          go (yes u) (no v) = absurd (omega (arith, h, u, total-full n x (omega (arith, v))))
+          go (no u) _ = omega (arith, u, w .short)
 
       -- a walk on which every entry so far passed a test
       pub record Going (test : A → Bool) (n : ℕ) (left x : A) : Type 0 where

@@ -1,22 +1,20 @@
 -- What the walks along a real stepped axis find, for the promises of private functions. Assumes nothing.
-use Prim.Native.Nat.{ℕ, zero, suc, _+_, _-_, _*_, _≤_, _<_}
+use Prim.Native.Nat.{ℕ, zero, suc, _+_, _-_, _*_, _/_, _≤_, _<_}
 use mathlib.Core.Path.{_≡_}
-use mathlib.Core.Bool.{Bool, true, false, cond}
+use mathlib.Core.Bool.{Bool, true, false}
 use mathlib.Core.List.{List, _++_}
 use lib.ListN.{length}
 use Rattle.numeric.specs.Marks.{listOf}
 use lib.Ieee as Ieee
-use lib.Ieee.{Float, fin, binary64}
-use lib.IntN.{pos}
+use lib.Ieee.{Float, binary64}
+use lib.IntN.{ℤ}
+use Rattle.discrete.specs.Index.{indexFor}
 use Rattle.linspace.specs.List.{entries}
+use Rattle.linspace.specs.Calls.{nth, nthOf}
 
 -- the sum behind x
 abbrev pub plusStep : Float → Float → Float
 plusStep d x = Ieee.add binary64 x d
-
--- the step leads upward or downward
-abbrev pub onward : Bool → Float → Bool
-onward rises d = cond rises (Ieee.lt (fin false 0 (pos 0)) d) (Ieee.lt d (fin false 0 (pos 0)))
 
 -- x after k steps
 unfoldable pub after : {A : Type 0} → (A → A) → ℕ → A → A
@@ -36,11 +34,6 @@ oneRun next by g x l = listOf (λ k. after next (k * by) x) g ++ l
 abbrev pub fourRuns : {A : Type 0} → (A → A) → ℕ → ℕ → A → A → A → A → List A → List A
 fourRuns next by g x0 x1 x2 x3 l = oneRun next by g x0 (oneRun next by g x1 (oneRun next by g x2 (oneRun next by g x3 l)))
 
--- a walk that stood at x after k entries stands at y after n: there are as many entries as before
-pub record Ahead {A : Type 0} (passes : A → Bool) (next : A → A) (most k : ℕ) (x : A) (n : ℕ) (y : A) : Type 0 where
-  pub within : n ≤ most
-  pub rest : k + length (entries passes next (most - k) x) ≡ n + length (entries passes next (most - n) y)
-
 module _ {A : Type 0} (passes : A → Bool) (next : A → A) (most : ℕ) (a : A) where
   -- a walk along the list stands at x after n entries
   pub record Walked (n : ℕ) (x : A) : Type 0 where
@@ -54,3 +47,29 @@ module _ {A : Type 0} (passes : A → Bool) (next : A → A) (most : ℕ) (a : A
     pub front : (j : ℕ) → j < n → test (after next j a) ≡ true
     pub last : (j : ℕ) → suc j ≡ n → left ≡ after next j a
     pub stopped : n < most → passes x ≡ true → test x ≡ false
+
+  -- the walk stands at entry k, unless the list ends before it
+  pub record Reached (k n : ℕ) (x : A) : Type 0 where
+    pub walked : Walked n x
+    pub short : n ≤ k
+    pub stopped : n < most → n < k → passes x ≡ false
+
+-- 2^40, the parts by which a share of the film is told
+abbrev pub all : ℕ
+all = 1_099_511_627_776
+
+-- n entries are counted, to one more than a list may have, and x is the sum after as many steps as the share of n
+pub record Behind {A : Type 0} (passes : A → Bool) (next : A → A) (a : A) (share n k : ℕ) (x : A) : Type 0 where
+  pub counted : n ≡ length (entries passes next 65_537 a)
+  pub shared : k ≡ n * share / all
+  pub at : x ≡ after next k a
+
+-- the entry at far / whole of a list's length is the one at the share r of it, for every list, or there is neither
+pub record Part (far whole r : ℕ) : Type 0 where
+  pub within : r ≤ all
+  pub same : (l : List Float) → length l ≤ 65_537 → nth l (far * length l / whole) ≡ nth l (length l * r / all)
+
+-- a pixel d past the first limit, with the second w past it, is read as the entry at the share r of the list's length, or as none
+pub record Shares (d w : ℤ) (r : ℕ) : Type 0 where
+  pub within : r ≤ all
+  pub read : (l : List Float) → length l ≤ 65_537 → nthOf l (indexFor d w (length l)) ≡ nth l (length l * r / all)

@@ -1,21 +1,22 @@
 // Stepped axes of real numbers. An entry is the sum before it and the step, rounded, so that the list is walked.
 ghost use mathlib.Core.Path.{_≡_};
-ghost use mathlib.Core.Bool.{true, false, _&&_};
-ghost use lib.Dec.{eqb};
-ghost use Prim.Native.Nat.{_+_, _-_, _≤_};
+ghost use mathlib.Core.Bool.{true, false, cond, _&&_};
+ghost use lib.Dec.{eqb, ltb};
+ghost use Prim.Native.Nat.{_+_, _-_, _/_, _≤_, _<_};
+ghost use lib.IntN.{natAbs};
 ghost use lib.ListN.{length};
-ghost use Rattle.ranged1d.specs.Answer.{given};
+ghost use Rattle.ranged1d.specs.Answer.{given, none, refused};
+ghost use Rattle.ranged1d.specs.Admitted.{pixelAdmitted, limitAdmitted};
 ghost use Rattle.numeric.specs.Whole.{tellCount, tellIndex};
 ghost use Rattle.real.specs.Place.{tellPlace};
 ghost use Rattle.real.specs.Reading.{tellReading};
 ghost use Rattle.linspace.specs.List.{real, entries, stepped, against, toward};
 ghost use Rattle.linspace.specs.Calls.{tellListed, hasEntries, stepValues, stepSize, stepFromIndex, stepIndexOf, stepPlace, stepReading, stepKeyPoints};
-ghost use Rattle.linspace.specs.RealSteps.{plusStep, after, onward, Ahead, Passed, Parted};
-ghost use Rattle.linspace.specs.Walks.{tellWalk, PassedBy};
+ghost use Rattle.linspace.specs.RealSteps.{plusStep, after, Passed, Parted, Reached, Behind, Part, Shares};
+ghost use Rattle.linspace.specs.Walks.{tellWalk, PassedBy, Tracked, Stepped, headOf, Trails};
 use crate::Linspacef64;
 use crate::Listed;
 use crate::lanes::put_all;
-use discrete::PixelIndex;
 use numeric::Count;
 use numeric::Index;
 use numeric::Place;
@@ -50,6 +51,29 @@ enum Walk {
 // An entry, or the sum behind the last one, and its index.
 struct Spot {
     n: usize,
+    x: f64,
+}
+
+// An entry and b by size, and what each goes on by: the list goes on while low < high, whether it rises or falls. b stands, since
+// -0.0 added to a number gives that number.
+struct Track {
+    low: f64,
+    high: f64,
+    raise: f64,
+    lower: f64,
+}
+
+// A second sum behind the first: how far the film is gone at the first, in 2^40ths of an entry, and the sum after k steps, k being the whole entries of it.
+struct Trail {
+    gone: u64,
+    k: u64,
+    x: f64,
+}
+
+// The number of entries, and the sum after k steps.
+struct Both {
+    n: usize,
+    k: u64,
     x: f64,
 }
 
@@ -99,23 +123,88 @@ fn precedes(rises: bool, x: f64, b: f64) -> bool
     if rises { x < b } else { b < x }
 }
 
+// The track of a list that stands at x.
+fn track_at(rises: bool, s: Steps, x: f64) -> Track
+    ensures { λ r. ⌜ Tracked rises (s .b) (s .d) x r ⌝ }
+{
+    if rises {
+        return Track {
+            low: x,
+            high: s.b,
+            raise: s.d,
+            lower: -0.0,
+        };
+    }
+    Track {
+        low: s.b,
+        high: x,
+        raise: -0.0,
+        lower: s.d,
+    }
+}
+
+// One step on.
+fn step_on(t: Track) -> Track
+    ensures { λ r. ⌜ Stepped t r ⌝ }
+{
+    Track {
+        low: t.low + t.raise,
+        high: t.high + t.lower,
+        raise: t.raise,
+        lower: t.lower,
+    }
+}
+
+// The entry that a track stands at.
+fn head(rises: bool, t: Track) -> f64
+    ensures { λ r. ⌜ r ≡ headOf rises t ⌝ }
+{
+    if rises { t.low } else { t.high }
+}
+
 // The number of entries, 65,537 where there are more, of which x is entry k if there is one.
 fn count_on(rises: bool, s: Steps, x: f64, k: usize) -> usize
     requires { ⌜ k ≤ 65537 ⌝ }
     ensures { λ r. ⌜ r ≡ k + length (entries (toward real rises (s .b)) (plusStep (s .d)) (65537 - k) x) ⌝ }
 {
-    let b = s.b;
-    let d = s.d;
     let mut n = k;
-    let mut next = x;
+    let mut t = track_at(rises, s, x);
     while n < 65537 {
-        if !precedes(rises, next, b) {
+        if !(t.low < t.high) {
             return n;
         }
-        next = next + d;
+        t = step_on(t);
         n += 1;
     }
     n
+}
+
+// Walks to entry k, or to the sum behind the last entry.
+fn reach(rises: bool, s: Steps, k: u64) -> Spot
+    ensures { λ r. ⌜ Reached (toward real rises (s .b)) (plusStep (s .d)) 65537 (s .a) k (r .n) (r .x) ⌝ }
+{
+    let mut n = 0;
+    let mut t = track_at(rises, s, s.a);
+    while n < 65537 {
+        if n as u64 == k {
+            return Spot {
+                n,
+                x: head(rises, t),
+            };
+        }
+        if !(t.low < t.high) {
+            return Spot {
+                n,
+                x: head(rises, t),
+            };
+        }
+        t = step_on(t);
+        n += 1;
+    }
+    Spot {
+        n,
+        x: head(rises, t),
+    }
 }
 
 // Walks to the first entry that does not come before t.
@@ -168,30 +257,6 @@ fn quarter(s: Steps) -> usize
     k as usize
 }
 
-// Walks on from x, entry k if there is one, so many steps at a time, while the sum behind them comes before b: then so do those between.
-fn stride(rises: bool, s: Steps, x: f64, k: usize, by: usize) -> Spot
-    requires { ⌜ k ≤ 65537 ⌝ }
-    requires { ⌜ onward rises (s .d) ≡ true ⌝ }
-    ensures { λ r. ⌜ Ahead (toward real rises (s .b)) (plusStep (s .d)) 65537 k x (r .n) (r .x) ⌝ }
-{
-    let b = s.b;
-    let d = s.d;
-    let mut n = k;
-    let mut left = x;
-    if by == 0 {
-        return Spot { n, x };
-    }
-    while by <= 65537 - n {
-        let right = advance(left, d, by);
-        if !precedes(rises, right, b) {
-            return Spot { n, x: left };
-        }
-        left = right;
-        n += by;
-    }
-    Spot { n, x: left }
-}
-
 // The number of entries, 65,537 where there are more. Where x, the sum after k steps, comes before b, so do all sums before it.
 fn count(s: Steps, x: f64, k: usize) -> usize
     requires { ⌜ against real (s .a) (s .b) (s .d) ≡ false ⌝ }
@@ -204,8 +269,7 @@ fn count(s: Steps, x: f64, k: usize) -> usize
     }
     let rises = s.a < s.b;
     if precedes(rises, x, s.b) {
-        let w = stride(rises, s, x, k, k / 48);
-        return count_on(rises, s, w.x, w.n);
+        return count_on(rises, s, x, k);
     }
     count_on(rises, s, s.a, 0)
 }
@@ -224,7 +288,7 @@ fn keep_sums(s: Steps, h: usize) -> Kept
     Kept { n, x1, x2, x3 }
 }
 
-// The one walk that a call makes, unless the list is refused.
+// Counts the entries, and keeps three sums that are passed on the way; or says why the list is refused.
 fn walk_along(s: Steps, h: usize) -> Walk
     requires { ⌜ h ≤ 16384 ⌝ }
     ensures { λ r. ⌜ (tellWalk r ≡ stepSize real (s .a) (s .b) (s .d)) × PassedBy (plusStep (s .d)) (s .a) h r ⌝ }
@@ -243,7 +307,7 @@ fn walk_along(s: Steps, h: usize) -> Walk
 fn counted(s: Steps) -> Count
     ensures { λ r. ⌜ tellCount r ≡ stepSize real (s .a) (s .b) (s .d) ⌝ }
 {
-    match walk_along(s, quarter(s)) {
+    match walk_along(s, 0) {
         Walk::Refused(r) => Count::Refused(r),
         Walk::Of(w) => Count::Of(w.n as u64),
     }
@@ -320,37 +384,124 @@ fn put_marks(s: Steps, w: Kept, h: usize, m: u32, out: &mut [f64]) -> Listed
     }
 }
 
-// The last of the kept sums that is not behind entry k, and its index.
-fn nearest_kept(s: Steps, w: Kept, h: usize, k: usize) -> Spot
-    requires { ⌜ Passed (plusStep (s .d)) (s .a) h (w .x1) (w .x2) (w .x3) ⌝ }
-    requires { ⌜ h ≤ 16384 ⌝ }
-    ensures { λ r. ⌜ (r .n ≤ k) × (r .x ≡ after (plusStep (s .d)) (r .n) (s .a)) ⌝ }
+// Entry k of a list with n entries, which is x, if there is one.
+fn told(n: usize, k: u64, x: f64) -> RealReading
+    ensures { λ r. ⌜ tellReading r ≡ cond (ltb 65536 n) (refused 7) (cond (ltb k n) (given x) none) ⌝ }
 {
-    if 3 * h <= k {
-        return Spot { n: 3 * h, x: w.x3 };
+    if 65536 < n {
+        return RealReading::Refused(Refusal::ListTooLong);
     }
-    if 2 * h <= k {
-        return Spot { n: 2 * h, x: w.x2 };
-    }
-    if h <= k {
-        return Spot { n: h, x: w.x1 };
-    }
-    Spot { n: 0, x: s.a }
-}
-
-// Entry k of a list that was walked.
-fn entry_kept(s: Steps, w: Kept, h: usize, k: u64) -> RealReading
-    requires { ⌜ Passed (plusStep (s .d)) (s .a) h (w .x1) (w .x2) (w .x3) ⌝ }
-    requires { ⌜ h ≤ 16384 ⌝ }
-    requires { ⌜ stepSize real (s .a) (s .b) (s .d) ≡ given (w .n) ⌝ }
-    ensures { λ r. ⌜ tellReading r ≡ stepFromIndex real (s .a) (s .b) (s .d) k ⌝ }
-{
-    if k < w.n as u64 {
-        let i = k as usize;
-        let y = nearest_kept(s, w, h, i);
-        return RealReading::At(advance(y.x, s.d, i - y.n));
+    if k < n as u64 {
+        return RealReading::At(x);
     }
     RealReading::Nothing
+}
+
+// Entry k, the list being walked once.
+fn entry_along(s: Steps, k: u64) -> RealReading
+    requires { ⌜ against real (s .a) (s .b) (s .d) ≡ false ⌝ }
+    requires { ⌜ hasEntries (stepped real (s .a) (s .b) (s .d)) ≡ true ⌝ }
+    ensures { λ r. ⌜ tellReading r ≡ stepFromIndex real (s .a) (s .b) (s .d) k ⌝ }
+{
+    let rises = s.a < s.b;
+    let w = reach(rises, s, k);
+    told(count_on(rises, s, w.x, w.n), k, w.x)
+}
+
+// far / whole in 2^40ths, rounded up, and at most all of them. As n entries are so few that n · whole is below 2^40, the share of n, cut, is
+// n · far / whole, cut.
+fn part_of(far: u32, whole: u32) -> u64
+    requires { ⌜ far ≤ 2000000 ⌝ }
+    requires { ⌜ whole ≤ 2000000 ⌝ }
+    requires { ⌜ 0 < whole ⌝ }
+    ensures { λ r. ⌜ Part far whole r ⌝ }
+{
+    if whole <= far {
+        return 1099511627776;
+    }
+    let parts = whole as u64;
+    ((far as u64) * 1099511627776 + (parts - 1)) / parts
+}
+
+// How far along the film a pixel lies that is d past the first limit, with the second w past it. A pixel behind the first limit counts as on it. Where
+// the limits meet, one past them is past every entry.
+fn share(d: i32, w: i32) -> u64
+    requires { ⌜ natAbs d ≤ 2000000 ⌝ }
+    requires { ⌜ natAbs w ≤ 2000000 ⌝ }
+    ensures { λ r. ⌜ Shares d w r ⌝ }
+{
+    if 0 < w {
+        if d < 0 {
+            return 0;
+        }
+        return part_of(ranged1d::unsigned_abs(d), ranged1d::unsigned_abs(w));
+    }
+    if w < 0 {
+        if 0 < d {
+            return 0;
+        }
+        return part_of(ranged1d::unsigned_abs(d), ranged1d::unsigned_abs(w));
+    }
+    if 0 < d {
+        return 1099511627776;
+    }
+    0
+}
+
+// The second sum, once the first has taken a step: it takes one where a whole entry more is gone.
+fn trail_on(y: Trail, d: f64, share: u64) -> Trail
+    requires { ⌜ share ≤ 1099511627776 ⌝ }
+    requires { ⌜ y .gone ≤ 72057594037927936 ⌝ }
+    requires { ⌜ y .k ≡ y .gone / 1099511627776 ⌝ }
+    ensures { λ r. ⌜ Trails d share y r ⌝ }
+{
+    let steps = [-0.0, d];
+    let gone = y.gone + share;
+    let k = gone / 1099511627776;
+    Trail {
+        gone,
+        k,
+        x: y.x + steps[(k - y.k) as usize],
+    }
+}
+
+// Walks along the list, with the second sum behind the first.
+fn walk_both(rises: bool, s: Steps, share: u64) -> Both
+    requires { ⌜ share ≤ 1099511627776 ⌝ }
+    ensures { λ r. ⌜ Behind (toward real rises (s .b)) (plusStep (s .d)) (s .a) share (r .n) (r .k) (r .x) ⌝ }
+{
+    let d = s.d;
+    let mut n = 0;
+    let mut t = track_at(rises, s, s.a);
+    let mut y = Trail {
+        gone: 0,
+        k: 0,
+        x: s.a,
+    };
+    while n < 65537 {
+        if !(t.low < t.high) {
+            return Both { n, k: y.k, x: y.x };
+        }
+        t = step_on(t);
+        y = trail_on(y, d, share);
+        n += 1;
+    }
+    Both { n, k: y.k, x: y.x }
+}
+
+// The entry that pixel x is read as, the list being walked once: which index that is depends on the number of entries, so that a second sum goes
+// along with the first, by the pixel's share.
+fn reading_along(s: Steps, x: i32, limit: Limit) -> RealReading
+    requires { ⌜ against real (s .a) (s .b) (s .d) ≡ false ⌝ }
+    requires { ⌜ hasEntries (stepped real (s .a) (s .b) (s .d)) ≡ true ⌝ }
+    requires { ⌜ pixelAdmitted x ≡ true ⌝ }
+    requires { ⌜ limitAdmitted limit ≡ true ⌝ }
+    ensures { λ r. ⌜ tellReading r ≡ stepReading real (s .a) (s .b) (s .d) x limit ⌝ }
+{
+    let p = limit.0;
+    let q = limit.1;
+    let w = walk_both(s.a < s.b, s, share(x - p, q - p));
+    told(w.n, w.k, w.x)
 }
 
 impl Linspacef64 {
@@ -396,11 +547,13 @@ impl Linspacef64 {
         ensures { λ r. ⌜ tellReading r ≡ stepFromIndex real (self .inner .0) (self .inner .1) (self .step) k ⌝ }
     {
         let s = self.steps();
-        let h = quarter(s);
-        match walk_along(s, h) {
-            Walk::Refused(r) => RealReading::Refused(r),
-            Walk::Of(w) => entry_kept(s, w, h, k),
+        if leads_away(s) {
+            return RealReading::Refused(Refusal::StepAgainstAxis);
         }
+        if !has_entries(s) {
+            return RealReading::Nothing;
+        }
+        entry_along(s, k)
     }
 
     // The index of v by the search. An empty list answers for every v as for a NaN.
@@ -441,15 +594,13 @@ impl Linspacef64 {
             return RealReading::Refused(Refusal::LimitNotAdmitted);
         }
         let s = self.steps();
-        let h = quarter(s);
-        match walk_along(s, h) {
-            Walk::Refused(r) => RealReading::Refused(r),
-            Walk::Of(w) => match discrete::pixel_index(x, limit, w.n as u32) {
-                PixelIndex::Refused(r) => RealReading::Refused(r),
-                PixelIndex::Nothing => RealReading::Nothing,
-                PixelIndex::At(k) => entry_kept(s, w, h, k),
-            },
+        if leads_away(s) {
+            return RealReading::Refused(Refusal::StepAgainstAxis);
         }
+        if !has_entries(s) {
+            return RealReading::Nothing;
+        }
+        reading_along(s, x, limit)
     }
 
     // The entries at the marks of the indices, written to the start of out: m bounds their number.

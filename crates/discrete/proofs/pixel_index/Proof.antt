@@ -1,17 +1,17 @@
 -- `discrete::pixel_index` meets its contract. Assumes nothing.
-use mathlib.Core.Path.{_≡_, sym, _∙_, subst}
+use mathlib.Core.Path.{_≡_, sym, _∙_}
 use mathlib.Core.Bool.{true}
 use Prim.Native.Nat.{_≤_}
 use native.Mathlib.Omega.{arith}
 use borrow.Author.Needs.{needs}
-use borrow.Author.Tests.{leb-true, not-true, not-false}
-use lib.Dec.{T}
+use borrow.Author.Tests.{not-true, not-false}
 use lib.IntN.{ℤ, natAbs, _-ℤ_}
-use mir.Facts.{toZ-ofZ, and-yes, leb-yes}
+use mir.Facts.{toZ-ofZ}
 use mir.Syntax.{w32}
 use mir.Val.{SFits, toZ, ofZ}
 use Rattle.ranged1d.specs.Admitted.{pixelAdmitted, limitAdmitted}
-use Rattle.ranged1d.proofs.Whole.{fits32, minus-far}
+use Rattle.ranged1d.proofs.Whole.{fits32}
+use Rattle.discrete.proofs.Index.{distances}
 use Rattle.discrete.specs.Index.{pixelIndex}
 use Rattle.discrete.proofs.pixel_index.Statement.{statement}
 use Rattle.discrete.proofs.pixel_index.Tie as tie
@@ -61,27 +61,15 @@ module _ (c : tie.After-struct-told2) where
   unfolding q
   q-is = toZ-ofZ (record { sfits = c .before .struct-told .given .1 .0 .1 })
 
-  near : (natAbs p ≤ 1000000) × (natAbs q ≤ 1000000)
-  unfolding p q
-  near =
-      let both = and-yes (pixelAdmitted p) (pixelAdmitted q) (subst T (sym (limit-admitted (c .before .before))) tt) in
-      (leb-yes (both .0), leb-yes (both .1))
-
-  x-near : natAbs x ≤ 1000000
-  unfolding x
-  x-near = leb-true _ _ (x-admitted (c .before .before .before .before))
-
-  d-far : natAbs (x -ℤ p) ≤ 2000000
-  d-far = omega (arith, minus-far x p, x-near, near .0)
-
-  w-far : natAbs (q -ℤ p) ≤ 2000000
-  w-far = omega (arith, minus-far q p, near .1, near .0)
+  far : (natAbs (x -ℤ p) ≤ 2000000) × (natAbs (q -ℤ p) ≤ 2000000)
+  unfolding x p q
+  far = let s = c .before .before .before .before .before .before .args in distances (s .x) (s .limit) (x-admitted (c .before .before .before .before)) (limit-admitted (c .before .before))
 
   d-fits : SFits w32 (x -ℤ p)
-  d-fits = fits32 _ (omega (arith, d-far))
+  d-fits = fits32 _ (omega (arith, far .0))
 
   w-fits : SFits w32 (q -ℤ p)
-  w-fits = fits32 _ (omega (arith, w-far))
+  w-fits = fits32 _ (omega (arith, far .1))
 
 sub-index-within : tie.Need-sub-index-within
 unfolding x p
@@ -93,7 +81,7 @@ sub-index-within-2 c = rw (q-is c, p-is c) (w-fits c)
 
 index-within-requires : tie.Need-index-within-requires
 unfolding x p q
-index-within-requires c κs = rw (x-is c, p-is c, q-is c, toZ-ofZ (d-fits c), toZ-ofZ (w-fits c)) (d-far c, w-far c)
+index-within-requires c κs = rw (x-is c, p-is c, q-is c, toZ-ofZ (d-fits c), toZ-ofZ (w-fits c)) (far c)
 
 returns-3 : tie.Need-returns-3
 unfolding x p q pixelIndex

@@ -1,67 +1,56 @@
 -- `linspace::Linspacef64::from_index` meets its contract. Assumes nothing.
-use mathlib.Core.Path.{_≡_, sym, ap, subst, _∙_}
+use mathlib.Core.Path.{_≡_, sym, _∙_}
 use borrow.Author.Needs.{needs}
-use Rattle.linspace.specs.declared.reals.Walk.{Walk}
+use borrow.Author.Tests.{not-true, not-false}
 use Rattle.linspace.specs.List.{real}
-use Rattle.linspace.specs.Calls.{stepSize, stepFromIndex}
-use Rattle.linspace.specs.RealSteps.{plusStep}
-use Rattle.linspace.specs.Walks.{tellWalk, PassedBy}
+use Rattle.linspace.specs.Calls.{stepFromIndex}
 use Rattle.linspace.proofs.Axis.{same-axis}
-use Rattle.linspace.proofs.Counts.{from-refused}
+use Rattle.linspace.proofs.Counts.{from-against, from-empty}
 use Rattle.linspace.proofs.Linspacef64.from_index.Statement.{statement}
 use Rattle.linspace.proofs.Linspacef64.from_index.Tie as tie
 
-module _ (c : tie.After-walk-along) where
-  abbrev start : tie.Start
-  start = c .before .before .before
-
-  size-is : stepSize real (start .args .self .inner .0) (start .args .self .inner .1) (start .args .self .step) ≡ tellWalk (c .walk-along .result)
-  size-is = sym (c .walk-along .ensures .0 ∙ same-axis (λ a b d. stepSize real a b d) (c .before .before .steps .ensures))
+-- by the ends and the step themselves
+module _ (c : tie.After-steps) where
+  told : let r = c .steps .result in let s = c .before .args in stepFromIndex real (r .a) (r .b) (r .d) (s .k) ≡ stepFromIndex real (s .self .inner .0) (s .self .inner .1) (s .self .step) (s .k)
+  told = same-axis (λ a b d. stepFromIndex real a b d (c .before .args .k)) (c .steps .ensures)
 
 steps-requires : tie.Need-steps-requires
 steps-requires c κs = search needs
 
-quarter-requires : tie.Need-quarter-requires
-quarter-requires c κs = search needs
-
-walk-along-requires : tie.Need-walk-along-requires
-walk-along-requires c κs = search needs
-
-enum-known-r : tie.Need-enum-known-r
-enum-known-r c = search needs
-
-enum-known-w : tie.Need-enum-known-w
-enum-known-w c = search needs
-
-entry-kept-requires : tie.Need-entry-kept-requires
-entry-kept-requires c κs =
-    let arm = c .before in
-    let w = arm .before .before in
-    let s = w .before .before .steps .result in
-    let kept = subst (λ (r : Walk). PassedBy (plusStep (s .d)) (s .a) (w .before .quarter .result) r) (arm .w .given .1) (w .walk-along .ensures .1) in
-    (kept, (w .before .quarter .ensures, sym (w .walk-along .ensures .0) ∙ ap tellWalk (arm .w .given .1)))
+leads-away-requires : tie.Need-leads-away-requires
+leads-away-requires c κs = search needs
 
 returns : tie.Need-returns
 returns c =
-    let arm = c .before in
-    let w = arm .before .before in
-    let s = start w .args in
-    sym (from-refused (s .self .inner .0) (s .self .inner .1) (s .self .step) (size-is w ∙ ap tellWalk (arm .r .given .1)) (s .k))
+    let at = c .before .before in
+    let r = at .steps .result in
+    from-against (r .a) (r .b) (r .d) (sym (c .before .leads-away .ensures) ∙ c .if1 .taken) (at .before .args .k) ∙ told at
+
+has-entries-requires : tie.Need-has-entries-requires
+has-entries-requires c κs = search needs
 
 returns-2 : tie.Need-returns-2
 returns-2 c =
-    let w = c .before .before .before .before in
-    c .entry-kept .ensures ∙ same-axis (λ a b d. stepFromIndex real a b d (start w .args .k)) (w .before .before .steps .ensures)
+    let on = c .before .before in
+    let at = on .before .before in
+    let r = at .steps .result in
+    from-empty (r .a) (r .b) (r .d) (sym (on .before .leads-away .ensures) ∙ on .if1 .left) (sym (c .before .has-entries .ensures) ∙ not-true _ (c .if2 .taken)) (at .before .args .k) ∙ told at
+
+entry-along-requires : tie.Need-entry-along-requires
+entry-along-requires c κs =
+    (sym (c .before .before .before .leads-away .ensures) ∙ c .before .before .if1 .left, sym (c .before .has-entries .ensures) ∙ not-false _ (c .if2 .left))
+
+returns-3 : tie.Need-returns-3
+returns-3 c = c .entry-along .ensures ∙ told (c .before .before .before .before .before)
 
 pub from-index-spec : {M : Type 1} → statement M
 from-index-spec =
     tie.close
     (tie.spec
     steps-requires
-    quarter-requires
-    walk-along-requires
-    enum-known-r
-    enum-known-w
-    entry-kept-requires
+    leads-away-requires
     returns
-    returns-2)
+    has-entries-requires
+    returns-2
+    entry-along-requires
+    returns-3)

@@ -10,7 +10,6 @@ use Rattle.linspace.specs.Calls.{hasEntries}
 use Rattle.linspace.specs.RealSteps.{plusStep}
 use Rattle.linspace.proofs.Axis.{stepped-empty, walked-count}
 use Rattle.linspace.proofs.Walks.{walk-starts}
-use Rattle.linspace.proofs.Indices.{onward}
 use Rattle.linspace.proofs.Ahead.{walked-far}
 use Rattle.linspace.proofs.reals.count.Statement.{statement}
 use Rattle.linspace.proofs.reals.count.Tie as tie
@@ -31,22 +30,15 @@ returns c = let s = c .before .before .args .s in sym (ap length (stepped-empty 
 precedes-requires : tie.Need-precedes-requires
 precedes-requires c κs = search needs
 
-stride-requires : tie.Need-stride-requires
-stride-requires c κs =
-    let at = c .before in
-    let s = start at .args .s in
-    (start at .pre .1 .0, onward (s .a) (s .b) (s .d) (start at .pre .0) (some at))
-
 count-on-requires : tie.Need-count-on-requires
-count-on-requires c κs = c .stride .ensures .within
+count-on-requires c κs = start (c .before) .pre .1 .0
 
 returns-2 : tie.Need-returns-2
 returns-2 c =
-    let on = c .before .before in
+    let on = c .before in
     let at = on .before in
     let s = start at .args in
     c .count-on .ensures
-    ∙ sym (c .before .stride .ensures .rest)
     ∙ walked-count (s .s .a) (s .s .b) (s .s .d) (s .k) (s .x) (some at)
     (walked-far (s .s .a) (s .s .b) (s .s .d) (at .before .struct-known .given .0) (start at .pre .0) (some at) (s .k) (s .x) (start at .pre .1 .0) (start at .pre .1 .1) (sym (at .precedes .ensures) ∙ on .if2 .taken))
 
@@ -66,7 +58,6 @@ count-spec =
     has-entries-requires
     returns
     precedes-requires
-    stride-requires
     count-on-requires
     returns-2
     count-on-requires-2

@@ -5,9 +5,6 @@ use borrow.Author.Needs.{needs}
 use Rattle.linspace.proofs.reals.counted.Statement.{statement}
 use Rattle.linspace.proofs.reals.counted.Tie as tie
 
-quarter-requires : tie.Need-quarter-requires
-quarter-requires c κs = search needs
-
 walk-along-requires : tie.Need-walk-along-requires
 walk-along-requires c κs = search needs
 
@@ -26,4 +23,4 @@ returns-2 c = let arm = c .before in sym (ap tellWalk (arm .w .given .1)) ∙ ar
 pub counted-spec : {M : Type 1} → statement M
 counted-spec =
     tie.close
-    (tie.spec quarter-requires walk-along-requires enum-known-r enum-known-w returns returns-2)
+    (tie.spec walk-along-requires enum-known-r enum-known-w returns returns-2)
