@@ -125,16 +125,27 @@ fn behind_a_call<C: Call>(call: &C) -> Option<C::Number> {
     call.plotters()
 }
 
+/// Calls the C function, and nothing else that the compiler may not inline.
+#[inline(always)]
+fn timed<C: Library>(call: &C) -> i32 {
+    let mut out = C::Number::fill(0);
+    // SAFETY: the pointer is that of a local number.
+    let code = black_box(unsafe { call.function(&mut out) });
+    black_box(out);
+    code
+}
+
 /// Times a batch of ordinary calls, the C function beside plotters.
+///
+/// # Panics
+/// If one of them is refused.
 pub fn bench<C: Library + Cases>() {
     let mut random = Random::fixed(1);
     let batch: Vec<C> = (0..C::BATCH).map(|_| C::ordinary(&mut random)).collect();
+    assert!(batch.iter().all(|call| timed(call) <= 0), "{}", C::CALL);
     let ours = || {
         for call in black_box(&batch) {
-            let mut out = C::Number::fill(0);
-            // SAFETY: the pointer is that of a local number.
-            black_box(unsafe { call.function(&mut out) });
-            black_box(out);
+            timed(call);
         }
     };
     let plotters = || {

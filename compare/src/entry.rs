@@ -6,7 +6,7 @@ use crate::admitted;
 use crate::number::Number;
 
 pub trait Entry:
-    Copy + PartialOrd + Add<Output = Self> + Sub<Output = Self> + Into<Number> + 'static
+    Copy + Default + PartialOrd + Add<Output = Self> + Sub<Output = Self> + Into<Number> + 'static
 {
     const ZERO: Self;
 

@@ -1,15 +1,18 @@
 //! Rulers: built here from plotters' marks and places, and compared byte for byte.
 
+use culvraod::ruler::{culv_ruler_read, culv_ruler_write};
 use culvraod::ruler::{label_of, pair_record, read, write, Ruler, Written};
 use culvraod::{Limit, RangedCoordi32, Refusal};
 use plotters::coord::ranged1d::Ranged;
 use std::fmt::{self, Display};
+use std::hint::black_box;
 
 use crate::admitted::{film, whole, BOUND};
 use crate::numeric::marks;
 use crate::program::drawn;
 use crate::random::Random;
 use crate::tally::{ensure, Tally};
+use crate::timing::written;
 
 const DRAWN: usize = 5_000_000;
 const DAMAGED: usize = 20_000;
@@ -238,12 +241,8 @@ pub fn compare() -> bool {
 
 /// Writes and reads a ruler of a million marks, in bytes a second.
 pub fn bench() {
-    let (axis, limit, m) = (
-        RangedCoordi32(-500_000, 499_999),
-        Limit(-1_000, 1_000),
-        1_000_000,
-    );
-    let mut out = vec![0; 25 + 20 * 1_000_001];
+    const MARKS: usize = 1_000_000;
+    let mut out = vec![0; 25 + 20 * (MARKS + 1)];
     let mut rate = |title: &str, call: &mut dyn FnMut(&mut [u8]) -> usize| {
         let best = (0..9).map(|_| {
             let start = std::time::Instant::now();
@@ -256,11 +255,26 @@ pub fn bench() {
         );
     };
     rate("writing", &mut |out| {
-        write(axis, limit, m, out).unwrap().bytes
+        let (a, b, p, q, m) = black_box((-500_000, 499_999, -1_000, 1_000, MARKS as u32));
+        let (code, told) = written(out, |out, (bytes, marks): &mut (usize, usize)| {
+            let (to, len) = (out.as_mut_ptr(), out.len());
+            // SAFETY: `out` is bytes of that length, and the results are one number each.
+            unsafe { culv_ruler_write(a, b, p, q, m, to, len, bytes, marks) }
+        });
+        assert_eq!((code, told.1), (0, MARKS));
+        told.0
     });
     rate("reading", &mut |out| {
-        let size = out.len() - 20;
-        assert_eq!(read(&out[..size]).map(|ruler| ruler.marks), Ok(1_000_000));
-        size
+        let ruler = black_box(&out[..out.len() - 20]);
+        let (from, len) = (ruler.as_ptr(), ruler.len());
+        let ([mut a, mut b, mut p, mut q, mut d], mut m, mut marks) = ([0; 5], 0, 0);
+        // SAFETY: `ruler` is bytes of that length, and the results are locals of their own.
+        let code = unsafe {
+            culv_ruler_read(
+                from, len, &mut a, &mut b, &mut p, &mut q, &mut m, &mut d, &mut marks,
+            )
+        };
+        assert_eq!((code, marks), (0, MARKS));
+        len
     });
 }

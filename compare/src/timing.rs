@@ -1,16 +1,18 @@
 //! Times of two calls, taken in turns.
 
+use std::hint::black_box;
 use std::time::Instant;
 
 pub const HEADING: &str = "\
-# Medians of 21 repetitions, both sides in turns, all built for release. Lists lent to ours are
-# made once and not cleared between calls; plotters makes a new Vec or String in every call. Calls
-# that answer with one number, and labels, are timed in a batch of a million ordinary inputs, of
-# fifty thousand on stepped axes, the same for both. The compiler may inline what plotters does, but
-# not a C function; so plotters is timed behind a call as well. On a stepped axis, with segments or
-# without, plotters makes the list in every call; in a lent list it searches without a look at the
-# order that ours tests. Segments stand on whole axes of 2 to 101 values and on stepped ones of 10
-# to 100 entries; plotters makes the axis in every call, and half of the places are centers.";
+# Medians of 21 repetitions, both sides in turns, all built for release. Ours is the C function
+# itself. Lists lent to it are made once and not cleared between calls; plotters makes a new Vec or
+# String in every call. Calls that answer with one number, and labels, are timed in a batch of a
+# million ordinary inputs, of fifty thousand on stepped axes, the same for both. The compiler may
+# inline what plotters does, but not a C function; so plotters is timed behind a call as well. On a
+# stepped axis, with segments or without, plotters makes the list in every call; in a lent list it
+# searches without a look at the order that ours tests. Segments stand on whole axes of 2 to 101
+# values and on stepped ones of 10 to 100 entries; plotters makes the axis in every call, and half
+# of the places are centers.";
 
 const REPETITIONS: usize = 21;
 const AT_LEAST: f64 = 2e6;
@@ -55,8 +57,49 @@ pub fn report(title: &str, mut ours: impl FnMut(u64), mut plotters: impl FnMut(u
     println!("{title}: ours {ours:.1} ns, plotters {plotters:.1} ns, ratio {ratio:.2}");
 }
 
-/// The same with sides that make `n` calls whatever they are told: ours, plotters inlined, and
-/// plotters behind a call.
+/// Calls a C function that writes to a lent list, and gives what it returned and what it told beside
+/// the list. The compiler may not leave the call out, nor put one of its own around it.
+#[inline(always)]
+pub fn written<N, T: Default>(
+    out: &mut [N],
+    call: impl FnOnce(&mut [N], &mut T) -> i32,
+) -> (i32, T) {
+    let mut told = T::default();
+    let code = call(black_box(out), &mut told);
+    black_box((code, told))
+}
+
+/// Prints the times of a C function that writes to a lent list of so many entries, beside plotters
+/// on the same input.
+///
+/// # Panics
+/// If the C function does not answer.
+pub fn report_written<I: Copy, N: Copy + Default, T: Default, P>(
+    title: &str,
+    input: I,
+    len: usize,
+    ours: impl Fn(I, &mut [N], &mut T) -> i32,
+    plotters: impl Fn(I) -> P,
+) {
+    let out = &mut vec![N::default(); len];
+    let mut last_code = |n| {
+        let mut code = 0;
+        for _ in 0..n {
+            (code, _) = written(out, |out, told| ours(black_box(input), out, told));
+        }
+        code
+    };
+    assert_eq!(last_code(1), 0, "{title}");
+    let plotters = |n| {
+        for _ in 0..n {
+            black_box(plotters(black_box(input)));
+        }
+    };
+    report(title, |n| _ = last_code(n), plotters);
+}
+
+/// Prints the times of sides that make `n` calls whatever they are told: ours, plotters inlined,
+/// and plotters behind a call.
 pub fn report_batch(title: &str, n: u64, sides: [&mut dyn FnMut(); 3]) {
     let [ours, plotters, behind] = sides;
     let [ours, plotters, behind] = in_turns(

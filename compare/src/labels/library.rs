@@ -8,7 +8,7 @@ use crate::lent::{lengths, Lent};
 use crate::number::Number;
 use crate::random::Random;
 use crate::tally::{ensure, Tally};
-use crate::timing::report_batch;
+use crate::timing::{report_batch, written};
 
 const DRAWN: usize = 20_000_000;
 const BATCH: usize = 1_000_000;
@@ -24,14 +24,17 @@ impl Asked {
         }
     }
 
-    /// Calls the C function with lent bytes, and tells what was returned and handed out.
-    fn function(self, out: &mut Lent<u8>) -> (i32, usize) {
-        let mut written = usize::MAX;
+    /// Calls the C function itself.
+    fn function(self, out: &mut [u8], len: &mut usize) -> i32 {
         let Asked { n, h, e } = self;
-        let len = out.len();
-        // SAFETY: the bytes have that length, and the result is a local.
-        let code = unsafe { culv_label(n, h, e, out.pointer(), len, &mut written) };
-        (code, written)
+        // SAFETY: `out` is bytes of that length, and `len` is one number.
+        unsafe { culv_label(n, h, e, out.as_mut_ptr(), out.len(), len) }
+    }
+
+    /// The same as it is timed; gives what was returned.
+    #[inline(always)]
+    fn timed(self, out: &mut [u8]) -> i32 {
+        written(out, |out, len| self.function(out, len)).0
     }
 
     fn size(self) -> u128 {
@@ -52,7 +55,8 @@ fn check_length(
         Err(refusal) => Err(*refusal),
     };
     out.refill(len);
-    let (code, written) = asked.function(out);
+    let mut written = usize::MAX;
+    let code = asked.function(out.list(), &mut written);
     let (held, told) = match wanted {
         Ok(text) => (text, (0, text.len())),
         Err(refusal) => (&[][..], (refusal, usize::MAX)),
@@ -105,10 +109,15 @@ pub fn bench() {
         let batch: Vec<Asked> = (0..BATCH)
             .map(|_| cases::ordinary(&mut random, h, e))
             .collect();
+        let title = format!("label with at most {h} and at least {e} decimals");
+        let mut out = [0; LONGEST];
+        assert!(
+            batch.iter().all(|asked| asked.timed(&mut out) == 0),
+            "{title}"
+        );
         let mut ours = || {
-            let mut out = [0; LONGEST];
             for asked in black_box(&batch) {
-                let _ = black_box(asked.printer().print(asked.n, black_box(&mut out)));
+                asked.timed(&mut out);
             }
         };
         let mut plotters = || {
@@ -122,7 +131,7 @@ pub fn bench() {
             }
         };
         report_batch(
-            &format!("label with at most {h} and at least {e} decimals"),
+            &title,
             BATCH as u64,
             [&mut ours, &mut plotters, &mut behind],
         );

@@ -1,14 +1,13 @@
 //! Times of calls on stepped axes.
 
 use plotters::coord::ranged1d::DiscreteRanged;
-use std::hint::black_box;
 
 use super::calls::{FromIndex, IndexOf, Map, Size, Unmap};
 use super::library::Library;
 use super::listing::Listing;
 use super::{rule, Steps};
 use crate::beside;
-use crate::timing::report;
+use crate::timing::report_written;
 
 /// Lists of so many entries are written and marked.
 const ENTRIES: [u64; 4] = [10, 100, 1_000, 65_536];
@@ -16,21 +15,12 @@ const ENTRIES: [u64; 4] = [10, 100, 1_000, 65_536];
 /// Times a call beside what plotters makes of the same.
 fn time<N: Library, T>(call: &str, listing: Listing<N>, made: fn(Listing<N>) -> T) {
     let count = rule::count(listing.axis).unwrap_or(0);
-    let out = &mut vec![N::ZERO; count];
-    let ours = |n| {
-        for _ in 0..n {
-            let (out, mut told) = (black_box(out.as_mut_ptr()), 0);
-            // SAFETY: the list has `count` numbers.
-            let code = unsafe { black_box(listing).function(out, count, &mut told) };
-            black_box((code, told));
-        }
+    let title = format!("{call} of {count} entries");
+    let ours = |listing: Listing<N>, out: &mut [N], told: &mut usize| {
+        // SAFETY: `out` is a list of that length, and `told` is one number.
+        unsafe { listing.function(out.as_mut_ptr(), out.len(), told) }
     };
-    let plotters = |n| {
-        for _ in 0..n {
-            black_box(made(black_box(listing)));
-        }
-    };
-    report(&format!("{call} of {count} entries"), ours, plotters);
+    report_written(&title, listing, count, ours, made);
 }
 
 /// The last entry of plotters' list: it has been made, but need not be handed over.

@@ -94,7 +94,7 @@ mod library {
     use culvraod::{KeyPoints, RangedCoordi32, RangedCoordusize, Refusal};
 
     /// An axis as culvraod has it: by the safe call, and by the C function itself.
-    pub trait Library: Axis<Number: Fill> {
+    pub trait Library: Axis<Number: Fill + Default> {
         const CALL: &'static str;
 
         fn key_points(

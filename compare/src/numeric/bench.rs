@@ -1,10 +1,8 @@
 //! Times of key points.
 
-use std::hint::black_box;
-
 use super::axis::{Index, Library, Whole};
 use super::cases::{case, Case};
-use crate::timing::report;
+use crate::timing::report_written;
 
 const WHOLE: [Case; 7] = [
     case(3, 15, 4),
@@ -27,21 +25,18 @@ const INDEX: [Case; 6] = [
 
 fn axis<A: Library>(case: Case) {
     let count = A::rule(case).map_or(0, |marks| marks.count);
-    let out = &mut vec![A::number(0); count];
-    let (a, b, m) = (A::number(case.a), A::number(case.b), case.m);
-    let ours = |n| {
-        for _ in 0..n {
-            let (a, b, m) = black_box((a, b, m));
-            let _ = black_box(A::key_points(a, b, m, black_box(out)));
-        }
-    };
-    let plotters = |n| {
-        for _ in 0..n {
-            let (a, b, m) = black_box((a, b, m));
-            black_box(A::plotters(a, b, m as usize));
-        }
-    };
-    report(&format!("{} {case}", A::CALL), ours, plotters);
+    let title = format!("{} {case}", A::CALL);
+    let input = (A::number(case.a), A::number(case.b), case.m);
+    report_written(
+        &title,
+        input,
+        count,
+        |(a, b, m), out: &mut [A::Number], (step, told): &mut (A::Number, usize)| {
+            // SAFETY: `out` is a list of that length, and the results are one number each.
+            unsafe { A::function(a, b, m, out.as_mut_ptr(), out.len(), step, told) }
+        },
+        |(a, b, m)| A::plotters(a, b, m as usize),
+    );
 }
 
 pub fn bench() {

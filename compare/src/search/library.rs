@@ -231,19 +231,29 @@ pub fn compare() -> bool {
     run::<i32>() & run::<f64>()
 }
 
+/// Calls the C function, and nothing else that the compiler may not inline.
+#[inline(always)]
+fn timed<N: Library>(list: &[N], target: N, method: u32) -> i32 {
+    let (list, mut k) = (black_box(list), 0);
+    let (start, len) = (list.as_ptr(), list.len());
+    // SAFETY: the pointers are those of a list of this length and of a local number.
+    let code = black_box(unsafe { (N::FUNCTION)(start, len, target, method, &mut k) });
+    black_box(k);
+    code
+}
+
 /// Times searches of a list for targets all over it, ours beside plotters' bare search.
 fn time<N: Library>(len: usize, method: u32) {
     let mut random = Random::fixed(1);
     let list: Vec<N> = (0..len as i32).map(|k| N::whole(3 * k)).collect();
     let targets = [(); 1 << 10].map(|()| N::whole(random.below(3 * len as u64) as i32));
+    let title = format!("{} of {len} entries, method {method}", N::CALL);
+    let answered = |target| timed(&list, target, method) <= 0;
+    assert!(targets.into_iter().all(answered), "{title}");
     let [mut targets, mut others] = [(); 2].map(|()| targets.iter().copied().cycle());
     let ours = |n| {
         for _ in 0..n {
-            let (list, mut k) = (black_box(&list), 0);
-            let target = targets.next().unwrap();
-            // SAFETY: the pointers are those of a list of this length and of a local number.
-            black_box(unsafe { (N::FUNCTION)(list.as_ptr(), len, target, method, &mut k) });
-            black_box(k);
+            timed(&list, targets.next().unwrap(), method);
         }
     };
     let plotters = |n| {
@@ -260,7 +270,6 @@ fn time<N: Library>(len: usize, method: u32) {
             );
         }
     };
-    let title = format!("{} of {len} entries, method {method}", N::CALL);
     report(&title, ours, plotters);
 }
 

@@ -1,15 +1,12 @@
 //! Times of calls on segments.
 
-use std::hint::black_box;
-
 use super::axis::Whole;
 use super::calls::{FromIndex, IndexOf, Map, Size, Unmap};
 use super::library::{Library, Stepped};
 use super::marking::Marking;
 use crate::beside;
-use crate::entry::Entry;
 use crate::linspace::Steps;
-use crate::timing::report;
+use crate::timing::report_written;
 
 /// Axes of so many entries are marked.
 const ENTRIES: [u64; 4] = [10, 100, 1_000, 65_536];
@@ -18,21 +15,17 @@ const MARKS: u32 = 10;
 
 /// Times the marks of an axis of so many entries.
 fn marks<A: Library>(axis: A, n: u64) {
-    let marking = Marking { axis, m: MARKS };
-    let out = &mut [A::Number::ZERO; MARKS as usize + 1];
-    let ours = |n| {
-        for _ in 0..n {
-            let Marking { axis, m } = black_box(marking);
-            let _ = black_box(axis.key_points(m, black_box(out)));
-        }
-    };
-    let plotters = |n| {
-        for _ in 0..n {
-            black_box(black_box(marking).plotters());
-        }
-    };
-    let title = format!("{} of {n} entries", A::NAMES.key_points);
-    report(&title, ours, plotters);
+    report_written(
+        &format!("{} of {n} entries", A::NAMES.key_points),
+        Marking { axis, m: MARKS },
+        MARKS as usize + 1,
+        |Marking { axis, m }, out: &mut [A::Number], (step, told): &mut (A::Number, usize)| {
+            let list = (out.as_mut_ptr(), out.len());
+            // SAFETY: `out` is a list of that length, and the results are one number each.
+            unsafe { axis.c_key_points(m, list, step, told) }
+        },
+        Marking::plotters,
+    );
 }
 
 fn calls<A: Library>() {
