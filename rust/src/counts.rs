@@ -23,7 +23,7 @@ impl RangedCoordi32 {
         let mut n = 0;
         // SAFETY: the result is a local.
         let code = unsafe { culv_whole_size(self.0, self.1, &mut n) };
-        answered("culv_whole_size", code).map(|()| n)
+        answered("culv_whole_size", code, n)
     }
 
     /// The index of a value, which may lie past the second end; none below the first end.

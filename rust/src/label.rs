@@ -56,8 +56,8 @@ impl FloatPrettyPrinter {
                 &mut written,
             )
         };
-        answered("culv_label", code)?;
-        Ok(str::from_utf8(&out[..written]).expect("a label is ASCII"))
+        let label = &out[..answered("culv_label", code, written)?];
+        Ok(str::from_utf8(label).expect("a label is ASCII"))
     }
 }
 

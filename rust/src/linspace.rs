@@ -3,114 +3,6 @@
 use crate::refusal::{answered, answered_or_none, Refusal};
 use crate::{Limit, RangedCoordf64, RangedCoordi32, RoundingMethod};
 
-// As include/culvraod.h declares and describes them.
-extern "C" {
-    /// The C function behind [`Linspacei32::values`].
-    pub fn culv_step_whole_values(
-        a: i32,
-        b: i32,
-        d: i32,
-        out: *mut i32,
-        len: usize,
-        count: *mut usize,
-    ) -> i32;
-
-    /// The C function behind [`Linspacei32::size`].
-    pub fn culv_step_whole_size(a: i32, b: i32, d: i32, n: *mut u64) -> i32;
-
-    /// The C function behind [`Linspacei32::from_index`].
-    pub fn culv_step_whole_from_index(a: i32, b: i32, d: i32, k: u64, v: *mut i32) -> i32;
-
-    /// The C function behind [`Linspacei32::index_of`].
-    pub fn culv_step_whole_index_of(
-        a: i32,
-        b: i32,
-        d: i32,
-        v: i32,
-        method: u32,
-        k: *mut u64,
-    ) -> i32;
-
-    /// The C function behind [`Linspacei32::map`].
-    pub fn culv_step_whole_map(
-        a: i32,
-        b: i32,
-        d: i32,
-        v: i32,
-        p: i32,
-        q: i32,
-        pixel: *mut i32,
-    ) -> i32;
-
-    /// The C function behind [`Linspacei32::unmap`].
-    pub fn culv_step_whole_unmap(
-        a: i32,
-        b: i32,
-        d: i32,
-        x: i32,
-        p: i32,
-        q: i32,
-        v: *mut i32,
-    ) -> i32;
-
-    /// The C function behind [`Linspacei32::key_points`].
-    pub fn culv_step_whole_key_points(
-        a: i32,
-        b: i32,
-        d: i32,
-        m: u32,
-        out: *mut i32,
-        len: usize,
-        count: *mut usize,
-    ) -> i32;
-
-    /// The C function behind [`Linspacef64::values`].
-    pub fn culv_step_real_values(
-        a: f64,
-        b: f64,
-        d: f64,
-        out: *mut f64,
-        len: usize,
-        count: *mut usize,
-    ) -> i32;
-
-    /// The C function behind [`Linspacef64::size`].
-    pub fn culv_step_real_size(a: f64, b: f64, d: f64, n: *mut u64) -> i32;
-
-    /// The C function behind [`Linspacef64::from_index`].
-    pub fn culv_step_real_from_index(a: f64, b: f64, d: f64, k: u64, v: *mut f64) -> i32;
-
-    /// The C function behind [`Linspacef64::index_of`].
-    pub fn culv_step_real_index_of(a: f64, b: f64, d: f64, v: f64, method: u32, k: *mut u64)
-        -> i32;
-
-    /// The C function behind [`Linspacef64::map`].
-    pub fn culv_step_real_map(
-        a: f64,
-        b: f64,
-        d: f64,
-        v: f64,
-        p: i32,
-        q: i32,
-        pixel: *mut i32,
-    ) -> i32;
-
-    /// The C function behind [`Linspacef64::unmap`].
-    pub fn culv_step_real_unmap(a: f64, b: f64, d: f64, x: i32, p: i32, q: i32, v: *mut f64)
-        -> i32;
-
-    /// The C function behind [`Linspacef64::key_points`].
-    pub fn culv_step_real_key_points(
-        a: f64,
-        b: f64,
-        d: f64,
-        m: u32,
-        out: *mut f64,
-        len: usize,
-        count: *mut usize,
-    ) -> i32;
-}
-
 /// A whole axis by a step, within ±1,000,000,000, that leads from the first end to the second.
 ///
 /// Its list is the first end and every further sum before the second end, which is no entry; it is
@@ -133,101 +25,6 @@ pub struct Linspacei32 {
     pub step: i32,
 }
 
-impl RangedCoordi32 {
-    /// The axis by a step.
-    pub fn step(self, step: i32) -> Linspacei32 {
-        Linspacei32 { inner: self, step }
-    }
-}
-
-impl Linspacei32 {
-    /// Writes the list to `out` and gives the number of entries.
-    ///
-    /// Refused as [`Refusal::WholeNotAdmitted`], [`Refusal::StepAgainstAxis`] or
-    /// [`Refusal::ListTooLong`], also where `out` is too short.
-    pub fn values(self, out: &mut [i32]) -> Result<usize, Refusal> {
-        let RangedCoordi32(a, b) = self.inner;
-        let (to, len, mut count) = (out.as_mut_ptr(), out.len(), 0);
-        // SAFETY: `out` is a list of that length, and the result is a local.
-        let code = unsafe { culv_step_whole_values(a, b, self.step, to, len, &mut count) };
-        answered("culv_step_whole_values", code).map(|()| count)
-    }
-
-    /// The number of entries.
-    ///
-    /// Refused as [`Refusal::WholeNotAdmitted`], [`Refusal::StepAgainstAxis`] or
-    /// [`Refusal::ListTooLong`].
-    pub fn size(self) -> Result<u64, Refusal> {
-        let RangedCoordi32(a, b) = self.inner;
-        let mut n = 0;
-        // SAFETY: the result is a local.
-        let code = unsafe { culv_step_whole_size(a, b, self.step, &mut n) };
-        answered("culv_step_whole_size", code).map(|()| n)
-    }
-
-    /// The entry at an index; none past the last one.
-    ///
-    /// Refused as [`Refusal::WholeNotAdmitted`], [`Refusal::StepAgainstAxis`] or
-    /// [`Refusal::ListTooLong`].
-    #[allow(clippy::wrong_self_convention)] // plotters' name
-    pub fn from_index(self, k: u64) -> Result<Option<i32>, Refusal> {
-        let RangedCoordi32(a, b) = self.inner;
-        let mut v = 0;
-        // SAFETY: the result is a local.
-        let code = unsafe { culv_step_whole_from_index(a, b, self.step, k, &mut v) };
-        answered_or_none("culv_step_whole_from_index", code, v)
-    }
-
-    /// The index of the entry that is meant by a value, or none.
-    ///
-    /// Refused as [`Refusal::WholeNotAdmitted`], [`Refusal::StepAgainstAxis`] or
-    /// [`Refusal::ListTooLong`].
-    pub fn index_of(self, v: i32, method: RoundingMethod) -> Result<Option<u64>, Refusal> {
-        let RangedCoordi32(a, b) = self.inner;
-        let mut k = 0;
-        // SAFETY: the result is a local.
-        let code = unsafe { culv_step_whole_index_of(a, b, self.step, v, method.number(), &mut k) };
-        answered_or_none("culv_step_whole_index_of", code, k)
-    }
-
-    /// The pixel of a value, which may lie outside the axis or between entries.
-    ///
-    /// Refused as [`Refusal::WholeNotAdmitted`], [`Refusal::LimitNotAdmitted`],
-    /// [`Refusal::TooFar`], [`Refusal::StepAgainstAxis`] or [`Refusal::ListTooLong`].
-    pub fn map(self, v: i32, limit: Limit) -> Result<i32, Refusal> {
-        let (RangedCoordi32(a, b), Limit(p, q)) = (self.inner, limit);
-        let mut pixel = 0;
-        // SAFETY: the result is a local.
-        let code = unsafe { culv_step_whole_map(a, b, self.step, v, p, q, &mut pixel) };
-        answered("culv_step_whole_map", code).map(|()| pixel)
-    }
-
-    /// The entry whose share of the film holds pixel `x`, the first one before the film; none
-    /// behind it.
-    ///
-    /// Refused as [`Refusal::WholeNotAdmitted`], [`Refusal::LimitNotAdmitted`],
-    /// [`Refusal::StepAgainstAxis`] or [`Refusal::ListTooLong`].
-    pub fn unmap(self, x: i32, limit: Limit) -> Result<Option<i32>, Refusal> {
-        let (RangedCoordi32(a, b), Limit(p, q)) = (self.inner, limit);
-        let mut v = 0;
-        // SAFETY: the result is a local.
-        let code = unsafe { culv_step_whole_unmap(a, b, self.step, x, p, q, &mut v) };
-        answered_or_none("culv_step_whole_unmap", code, v)
-    }
-
-    /// Writes the marks, at most `m` + 1 of the entries, to `out` and gives their number.
-    ///
-    /// Refused as [`Refusal::WholeNotAdmitted`], [`Refusal::NoStep`],
-    /// [`Refusal::StepAgainstAxis`], [`Refusal::ListTooLong`] or [`Refusal::OutTooShort`].
-    pub fn key_points(self, m: u32, out: &mut [i32]) -> Result<usize, Refusal> {
-        let RangedCoordi32(a, b) = self.inner;
-        let (to, len, mut count) = (out.as_mut_ptr(), out.len(), 0);
-        // SAFETY: `out` is a list of that length, and the result is a local.
-        let code = unsafe { culv_step_whole_key_points(a, b, self.step, m, to, len, &mut count) };
-        answered("culv_step_whole_key_points", code).map(|()| count)
-    }
-}
-
 /// A real axis by a step that leads from the first end to the second.
 ///
 /// Its list is the first end and every further sum, rounded, before the second end, which is no
@@ -240,98 +37,213 @@ pub struct Linspacef64 {
     pub step: f64,
 }
 
-impl RangedCoordf64 {
-    /// The axis by a step.
-    pub fn step(self, step: f64) -> Linspacef64 {
-        Linspacef64 { inner: self, step }
-    }
+/// A stepped axis: the same calls for whole and for real numbers, by their C functions. `$also` is
+/// the refusal that whole numbers alone meet, `$search` are the others of a search.
+macro_rules! stepped {
+    (
+        $axis:ident, $ends:ident, $number:ty, also $also:literal, search $search:literal,
+        $values:ident, $size:ident, $from_index:ident, $index_of:ident, $map:ident, $unmap:ident,
+        $key_points:ident
+    ) => {
+        // As include/culvraod.h declares and describes them.
+        extern "C" {
+            #[doc = concat!("The C function behind [`", stringify!($axis), "::values`].")]
+            pub fn $values(
+                a: $number,
+                b: $number,
+                d: $number,
+                out: *mut $number,
+                len: usize,
+                count: *mut usize,
+            ) -> i32;
+
+            #[doc = concat!("The C function behind [`", stringify!($axis), "::size`].")]
+            pub fn $size(a: $number, b: $number, d: $number, n: *mut u64) -> i32;
+
+            #[doc = concat!("The C function behind [`", stringify!($axis), "::from_index`].")]
+            pub fn $from_index(a: $number, b: $number, d: $number, k: u64, v: *mut $number) -> i32;
+
+            #[doc = concat!("The C function behind [`", stringify!($axis), "::index_of`].")]
+            pub fn $index_of(
+                a: $number,
+                b: $number,
+                d: $number,
+                v: $number,
+                method: u32,
+                k: *mut u64,
+            ) -> i32;
+
+            #[doc = concat!("The C function behind [`", stringify!($axis), "::map`].")]
+            pub fn $map(
+                a: $number,
+                b: $number,
+                d: $number,
+                v: $number,
+                p: i32,
+                q: i32,
+                pixel: *mut i32,
+            ) -> i32;
+
+            #[doc = concat!("The C function behind [`", stringify!($axis), "::unmap`].")]
+            pub fn $unmap(
+                a: $number,
+                b: $number,
+                d: $number,
+                x: i32,
+                p: i32,
+                q: i32,
+                v: *mut $number,
+            ) -> i32;
+
+            #[doc = concat!("The C function behind [`", stringify!($axis), "::key_points`].")]
+            pub fn $key_points(
+                a: $number,
+                b: $number,
+                d: $number,
+                m: u32,
+                out: *mut $number,
+                len: usize,
+                count: *mut usize,
+            ) -> i32;
+        }
+
+        impl $ends {
+            /// The axis by a step.
+            pub fn step(self, step: $number) -> $axis {
+                $axis { inner: self, step }
+            }
+        }
+
+        impl $axis {
+            /// Writes the list to `out` and gives the number of entries.
+            ///
+            #[doc = concat!("Refused as ", $also, "[`Refusal::StepAgainstAxis`] or")]
+            /// [`Refusal::ListTooLong`], also where `out` is too short.
+            pub fn values(self, out: &mut [$number]) -> Result<usize, Refusal> {
+                let $axis {
+                    inner: $ends(a, b),
+                    step: d,
+                } = self;
+                let (to, len, mut count) = (out.as_mut_ptr(), out.len(), 0);
+                // SAFETY: `out` is a list of that length, and the result is a local.
+                let code = unsafe { $values(a, b, d, to, len, &mut count) };
+                answered(stringify!($values), code, count)
+            }
+
+            /// The number of entries.
+            ///
+            #[doc = concat!("Refused as ", $also, "[`Refusal::StepAgainstAxis`] or")]
+            /// [`Refusal::ListTooLong`].
+            pub fn size(self) -> Result<u64, Refusal> {
+                let $axis {
+                    inner: $ends(a, b),
+                    step: d,
+                } = self;
+                let mut n = 0;
+                // SAFETY: the result is a local.
+                let code = unsafe { $size(a, b, d, &mut n) };
+                answered(stringify!($size), code, n)
+            }
+
+            /// The entry at an index; none past the last one.
+            ///
+            #[doc = concat!("Refused as ", $also, "[`Refusal::StepAgainstAxis`] or")]
+            /// [`Refusal::ListTooLong`].
+            #[allow(clippy::wrong_self_convention)] // plotters' name
+            pub fn from_index(self, k: u64) -> Result<Option<$number>, Refusal> {
+                let $axis {
+                    inner: $ends(a, b),
+                    step: d,
+                } = self;
+                let mut v = <$number>::default();
+                // SAFETY: the result is a local.
+                let code = unsafe { $from_index(a, b, d, k, &mut v) };
+                answered_or_none(stringify!($from_index), code, v)
+            }
+
+            /// The index of the entry that is meant by a value, or none.
+            ///
+            #[doc = concat!("Refused as ", $also, $search, ".")]
+            pub fn index_of(
+                self,
+                v: $number,
+                method: RoundingMethod,
+            ) -> Result<Option<u64>, Refusal> {
+                let $axis {
+                    inner: $ends(a, b),
+                    step: d,
+                } = self;
+                let mut k = 0;
+                // SAFETY: the result is a local.
+                let code = unsafe { $index_of(a, b, d, v, method.number(), &mut k) };
+                answered_or_none(stringify!($index_of), code, k)
+            }
+
+            /// The pixel of a value, which may lie outside the axis or between entries.
+            ///
+            #[doc = concat!("Refused as ", $also, "[`Refusal::LimitNotAdmitted`],")]
+            /// [`Refusal::TooFar`], [`Refusal::StepAgainstAxis`] or [`Refusal::ListTooLong`].
+            pub fn map(self, v: $number, limit: Limit) -> Result<i32, Refusal> {
+                let $axis {
+                    inner: $ends(a, b),
+                    step: d,
+                } = self;
+                let (Limit(p, q), mut pixel) = (limit, 0);
+                // SAFETY: the result is a local.
+                let code = unsafe { $map(a, b, d, v, p, q, &mut pixel) };
+                answered(stringify!($map), code, pixel)
+            }
+
+            /// The entry whose share of the film holds pixel `x`, the first one before the film;
+            /// none behind it.
+            ///
+            #[doc = concat!("Refused as ", $also, "[`Refusal::LimitNotAdmitted`],")]
+            /// [`Refusal::StepAgainstAxis`] or [`Refusal::ListTooLong`].
+            pub fn unmap(self, x: i32, limit: Limit) -> Result<Option<$number>, Refusal> {
+                let $axis {
+                    inner: $ends(a, b),
+                    step: d,
+                } = self;
+                let (Limit(p, q), mut v) = (limit, <$number>::default());
+                // SAFETY: the result is a local.
+                let code = unsafe { $unmap(a, b, d, x, p, q, &mut v) };
+                answered_or_none(stringify!($unmap), code, v)
+            }
+
+            /// Writes the marks, at most `m` + 1 of the entries, to `out` and gives their number.
+            ///
+            #[doc = concat!("Refused as ", $also, "[`Refusal::NoStep`],")]
+            /// [`Refusal::StepAgainstAxis`], [`Refusal::ListTooLong`] or
+            /// [`Refusal::OutTooShort`].
+            pub fn key_points(self, m: u32, out: &mut [$number]) -> Result<usize, Refusal> {
+                let $axis {
+                    inner: $ends(a, b),
+                    step: d,
+                } = self;
+                let (to, len, mut count) = (out.as_mut_ptr(), out.len(), 0);
+                // SAFETY: `out` is a list of that length, and the result is a local.
+                let code = unsafe { $key_points(a, b, d, m, to, len, &mut count) };
+                answered(stringify!($key_points), code, count)
+            }
+        }
+    };
 }
 
-impl Linspacef64 {
-    /// Writes the list to `out` and gives the number of entries.
-    ///
-    /// Refused as [`Refusal::StepAgainstAxis`] or [`Refusal::ListTooLong`], also where `out` is
-    /// too short.
-    pub fn values(self, out: &mut [f64]) -> Result<usize, Refusal> {
-        let RangedCoordf64(a, b) = self.inner;
-        let (to, len, mut count) = (out.as_mut_ptr(), out.len(), 0);
-        // SAFETY: `out` is a list of that length, and the result is a local.
-        let code = unsafe { culv_step_real_values(a, b, self.step, to, len, &mut count) };
-        answered("culv_step_real_values", code).map(|()| count)
-    }
+stepped!(
+    Linspacei32, RangedCoordi32, i32, also "[`Refusal::WholeNotAdmitted`], ",
+    search "[`Refusal::StepAgainstAxis`] or [`Refusal::ListTooLong`]",
+    culv_step_whole_values, culv_step_whole_size, culv_step_whole_from_index,
+    culv_step_whole_index_of, culv_step_whole_map, culv_step_whole_unmap,
+    culv_step_whole_key_points
+);
 
-    /// The number of entries.
-    ///
-    /// Refused as [`Refusal::StepAgainstAxis`] or [`Refusal::ListTooLong`].
-    pub fn size(self) -> Result<u64, Refusal> {
-        let RangedCoordf64(a, b) = self.inner;
-        let mut n = 0;
-        // SAFETY: the result is a local.
-        let code = unsafe { culv_step_real_size(a, b, self.step, &mut n) };
-        answered("culv_step_real_size", code).map(|()| n)
-    }
-
-    /// The entry at an index; none past the last one.
-    ///
-    /// Refused as [`Refusal::StepAgainstAxis`] or [`Refusal::ListTooLong`].
-    #[allow(clippy::wrong_self_convention)] // plotters' name
-    pub fn from_index(self, k: u64) -> Result<Option<f64>, Refusal> {
-        let RangedCoordf64(a, b) = self.inner;
-        let mut v = 0.0;
-        // SAFETY: the result is a local.
-        let code = unsafe { culv_step_real_from_index(a, b, self.step, k, &mut v) };
-        answered_or_none("culv_step_real_from_index", code, v)
-    }
-
-    /// The index of the entry that is meant by a value, or none.
-    ///
-    /// Refused as [`Refusal::StepAgainstAxis`], [`Refusal::ListTooLong`] or
-    /// [`Refusal::NanTarget`].
-    pub fn index_of(self, v: f64, method: RoundingMethod) -> Result<Option<u64>, Refusal> {
-        let RangedCoordf64(a, b) = self.inner;
-        let mut k = 0;
-        // SAFETY: the result is a local.
-        let code = unsafe { culv_step_real_index_of(a, b, self.step, v, method.number(), &mut k) };
-        answered_or_none("culv_step_real_index_of", code, k)
-    }
-
-    /// The pixel of a value, which may lie outside the axis or between entries.
-    ///
-    /// Refused as [`Refusal::LimitNotAdmitted`], [`Refusal::TooFar`],
-    /// [`Refusal::StepAgainstAxis`] or [`Refusal::ListTooLong`].
-    pub fn map(self, v: f64, limit: Limit) -> Result<i32, Refusal> {
-        let (RangedCoordf64(a, b), Limit(p, q)) = (self.inner, limit);
-        let mut pixel = 0;
-        // SAFETY: the result is a local.
-        let code = unsafe { culv_step_real_map(a, b, self.step, v, p, q, &mut pixel) };
-        answered("culv_step_real_map", code).map(|()| pixel)
-    }
-
-    /// The entry whose share of the film holds pixel `x`, the first one before the film; none
-    /// behind it.
-    ///
-    /// Refused as [`Refusal::LimitNotAdmitted`], [`Refusal::StepAgainstAxis`] or
-    /// [`Refusal::ListTooLong`].
-    pub fn unmap(self, x: i32, limit: Limit) -> Result<Option<f64>, Refusal> {
-        let (RangedCoordf64(a, b), Limit(p, q)) = (self.inner, limit);
-        let mut v = 0.0;
-        // SAFETY: the result is a local.
-        let code = unsafe { culv_step_real_unmap(a, b, self.step, x, p, q, &mut v) };
-        answered_or_none("culv_step_real_unmap", code, v)
-    }
-
-    /// Writes the marks, at most `m` + 1 of the entries, to `out` and gives their number.
-    ///
-    /// Refused as [`Refusal::NoStep`], [`Refusal::StepAgainstAxis`], [`Refusal::ListTooLong`] or
-    /// [`Refusal::OutTooShort`].
-    pub fn key_points(self, m: u32, out: &mut [f64]) -> Result<usize, Refusal> {
-        let RangedCoordf64(a, b) = self.inner;
-        let (to, len, mut count) = (out.as_mut_ptr(), out.len(), 0);
-        // SAFETY: `out` is a list of that length, and the result is a local.
-        let code = unsafe { culv_step_real_key_points(a, b, self.step, m, to, len, &mut count) };
-        answered("culv_step_real_key_points", code).map(|()| count)
-    }
-}
+stepped!(
+    Linspacef64, RangedCoordf64, f64, also "",
+    search "[`Refusal::StepAgainstAxis`], [`Refusal::ListTooLong`] or [`Refusal::NanTarget`]",
+    culv_step_real_values, culv_step_real_size, culv_step_real_from_index,
+    culv_step_real_index_of, culv_step_real_map, culv_step_real_unmap,
+    culv_step_real_key_points
+);
 
 #[cfg(test)]
 mod tests {

@@ -5,31 +5,6 @@ use crate::refusal::{answered, Refusal};
 #[cfg(not(target_pointer_width = "64"))]
 compile_error!("culvraod needs a usize of 64 bits");
 
-// As include/culvraod.h declares and describes them.
-extern "C" {
-    /// The C function behind [`RangedCoordi32::key_points`].
-    pub fn culv_whole_key_points(
-        a: i32,
-        b: i32,
-        m: u32,
-        out: *mut i32,
-        len: usize,
-        step: *mut i32,
-        count: *mut usize,
-    ) -> i32;
-
-    /// The C function behind [`RangedCoordusize::key_points`].
-    pub fn culv_index_key_points(
-        a: u64,
-        b: u64,
-        m: u32,
-        out: *mut u64,
-        len: usize,
-        step: *mut u64,
-        count: *mut usize,
-    ) -> i32;
-}
-
 /// Marks that were written to the beginning of a lent list.
 #[derive(Clone, Copy, Debug, Default, PartialEq, Eq)]
 pub struct KeyPoints<T> {
@@ -43,61 +18,55 @@ pub struct KeyPoints<T> {
 #[derive(Clone, Copy, Debug, PartialEq, Eq)]
 pub struct RangedCoordi32(pub i32, pub i32);
 
-impl RangedCoordi32 {
-    /// Writes the marks, at most `m` + 1, to `out`, ascending.
-    ///
-    /// Refused as [`Refusal::WholeNotAdmitted`], [`Refusal::NoStep`] or
-    /// [`Refusal::OutTooShort`].
-    pub fn key_points(self, m: u32, out: &mut [i32]) -> Result<KeyPoints<i32>, Refusal> {
-        let mut told = KeyPoints::default();
-        // SAFETY: `out` is a list of that length, and the two results are locals of their own.
-        let code = unsafe {
-            culv_whole_key_points(
-                self.0,
-                self.1,
-                m,
-                out.as_mut_ptr(),
-                out.len(),
-                &mut told.step,
-                &mut told.count,
-            )
-        };
-        answered("culv_whole_key_points", code).map(|()| told)
-    }
-}
-
 /// An index axis: its two ends, at most 1,000,000,000, rising or falling.
 #[derive(Clone, Copy, Debug, PartialEq, Eq)]
 pub struct RangedCoordusize(pub usize, pub usize);
 
-impl RangedCoordusize {
-    /// Writes the marks, at most `m` + 1, to `out`, ascending.
-    ///
-    /// Refused as [`Refusal::WholeNotAdmitted`], [`Refusal::NoStep`] or
-    /// [`Refusal::OutTooShort`].
-    pub fn key_points(self, m: u32, out: &mut [usize]) -> Result<KeyPoints<usize>, Refusal> {
-        let (mut step, mut count) = (0, 0);
-        // SAFETY: `out` is a list of that length, usize has the 64 bits of u64, and the two
-        // results are locals of their own.
-        let code = unsafe {
-            culv_index_key_points(
-                self.0 as u64,
-                self.1 as u64,
-                m,
-                out.as_mut_ptr().cast(),
-                out.len(),
-                &mut step,
-                &mut count,
-            )
-        };
-        let step = step as usize;
-        answered("culv_index_key_points", code).map(|()| KeyPoints { step, count })
-    }
-}
-
 /// A real axis: its two ends, any numbers, rising or falling.
 #[derive(Clone, Copy, Debug, PartialEq)]
 pub struct RangedCoordf64(pub f64, pub f64);
+
+/// Marks of one kind of axis, by their C function, which has its numbers as `$c`, of the same size.
+macro_rules! marks {
+    ($axis:ident, $number:ty, $function:ident of $c:ty) => {
+        // As include/culvraod.h declares and describes it.
+        extern "C" {
+            #[doc = concat!("The C function behind [`", stringify!($axis), "::key_points`].")]
+            pub fn $function(
+                a: $c,
+                b: $c,
+                m: u32,
+                out: *mut $c,
+                len: usize,
+                step: *mut $c,
+                count: *mut usize,
+            ) -> i32;
+        }
+
+        impl $axis {
+            /// Writes the marks, at most `m` + 1, to `out`, ascending.
+            ///
+            /// Refused as [`Refusal::WholeNotAdmitted`], [`Refusal::NoStep`] or
+            /// [`Refusal::OutTooShort`].
+            pub fn key_points(
+                self,
+                m: u32,
+                out: &mut [$number],
+            ) -> Result<KeyPoints<$number>, Refusal> {
+                let (a, b, to, len) = (self.0 as $c, self.1 as $c, out.as_mut_ptr(), out.len());
+                let mut told = KeyPoints::<$number>::default();
+                let (step, count) = (&raw mut told.step, &raw mut told.count);
+                // SAFETY: `out` is a list of that length, and the two results are locals of their
+                // own; the numbers of both have the size that C gives them.
+                let code = unsafe { $function(a, b, m, to.cast(), len, step.cast(), count) };
+                answered(stringify!($function), code, told)
+            }
+        }
+    };
+}
+
+marks!(RangedCoordi32, i32, culv_whole_key_points of i32);
+marks!(RangedCoordusize, usize, culv_index_key_points of u64);
 
 #[cfg(test)]
 mod tests {

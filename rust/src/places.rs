@@ -3,39 +3,34 @@
 use crate::refusal::{answered, Refusal};
 use crate::{Limit, RangedCoordf64, RangedCoordi32};
 
-// As include/culvraod.h declares and describes them.
-extern "C" {
-    /// The C function behind [`RangedCoordi32::map`].
-    pub fn culv_whole_map(a: i32, b: i32, v: i32, p: i32, q: i32, pixel: *mut i32) -> i32;
+/// Places on one kind of axis, by their C function. `$also` is the refusal that whole numbers alone
+/// meet.
+macro_rules! places {
+    ($axis:ident, $number:ty, also $also:literal, $map:ident) => {
+        // As include/culvraod.h declares and describes it.
+        extern "C" {
+            #[doc = concat!("The C function behind [`", stringify!($axis), "::map`].")]
+            pub fn $map(a: $number, b: $number, v: $number, p: i32, q: i32, pixel: *mut i32)
+                -> i32;
+        }
 
-    /// The C function behind [`RangedCoordf64::map`].
-    pub fn culv_real_map(a: f64, b: f64, v: f64, p: i32, q: i32, pixel: *mut i32) -> i32;
+        impl $axis {
+            /// The pixel of a value, which may lie outside the axis.
+            ///
+            #[doc = concat!("Refused as ", $also, "[`Refusal::LimitNotAdmitted`] or")]
+            /// [`Refusal::TooFar`].
+            pub fn map(self, v: $number, limit: Limit) -> Result<i32, Refusal> {
+                let ($axis(a, b), Limit(p, q), mut pixel) = (self, limit, 0);
+                // SAFETY: the result is a local.
+                let code = unsafe { $map(a, b, v, p, q, &mut pixel) };
+                answered(stringify!($map), code, pixel)
+            }
+        }
+    };
 }
 
-impl RangedCoordi32 {
-    /// The pixel of a value, which may lie outside the axis.
-    ///
-    /// Refused as [`Refusal::WholeNotAdmitted`], [`Refusal::LimitNotAdmitted`] or
-    /// [`Refusal::TooFar`].
-    pub fn map(self, v: i32, limit: Limit) -> Result<i32, Refusal> {
-        let mut pixel = 0;
-        // SAFETY: the result is a local.
-        let code = unsafe { culv_whole_map(self.0, self.1, v, limit.0, limit.1, &mut pixel) };
-        answered("culv_whole_map", code).map(|()| pixel)
-    }
-}
-
-impl RangedCoordf64 {
-    /// The pixel of a value, which may lie outside the axis.
-    ///
-    /// Refused as [`Refusal::LimitNotAdmitted`] or [`Refusal::TooFar`].
-    pub fn map(self, v: f64, limit: Limit) -> Result<i32, Refusal> {
-        let mut pixel = 0;
-        // SAFETY: the result is a local.
-        let code = unsafe { culv_real_map(self.0, self.1, v, limit.0, limit.1, &mut pixel) };
-        answered("culv_real_map", code).map(|()| pixel)
-    }
-}
+places!(RangedCoordi32, i32, also "[`Refusal::WholeNotAdmitted`], ", culv_whole_map);
+places!(RangedCoordf64, f64, also "", culv_real_map);
 
 #[cfg(test)]
 mod tests {

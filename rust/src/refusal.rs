@@ -105,26 +105,26 @@ impl fmt::Display for Refusal {
 
 impl std::error::Error for Refusal {}
 
-/// Reads what a call that never answers none has returned.
+/// Reads what a call that never answers none has returned, beside the value it wrote if it did.
 ///
 /// # Panics
 /// If the code is none that such a call returns.
-pub(crate) fn answered(call: &str, code: i32) -> Result<(), Refusal> {
+pub(crate) fn answered<T>(call: &str, code: i32, value: T) -> Result<T, Refusal> {
     match code {
-        0 => Ok(()),
+        0 => Ok(value),
         _ => Err(Refusal::from_number(code)
             .unwrap_or_else(|| panic!("{call} returned {code}, which is no code of this call"))),
     }
 }
 
-/// Reads what a call that may answer none has returned, beside the value it wrote if it did.
+/// The same for a call that may answer none.
 ///
 /// # Panics
 /// If the code is none that such a call returns.
 pub(crate) fn answered_or_none<T>(call: &str, code: i32, value: T) -> Result<Option<T>, Refusal> {
     match code {
         -1 => Ok(None),
-        _ => answered(call, code).map(|()| Some(value)),
+        _ => answered(call, code, Some(value)),
     }
 }
 
@@ -136,8 +136,8 @@ mod tests {
     fn numbers_are_1_to_14_in_order() {
         assert!(ALL.iter().map(|refusal| refusal.number()).eq(1..=14));
         assert_eq!(Refusal::from_number(13), Some(OutTooShort));
-        assert_eq!(answered("call", 0), Ok(()));
-        assert_eq!(answered("call", 14), Err(NotARuler));
+        assert_eq!(answered("call", 0, 7), Ok(7));
+        assert_eq!(answered("call", 14, 7), Err(NotARuler));
     }
 
     #[test]
@@ -150,12 +150,12 @@ mod tests {
     #[test]
     #[should_panic(expected = "call returned 15")]
     fn an_unknown_code_is_not_accepted() {
-        let _ = answered("call", 15);
+        let _ = answered("call", 15, 7);
     }
 
     #[test]
     #[should_panic(expected = "call returned -1")]
     fn none_is_not_accepted_where_it_is_no_answer() {
-        let _ = answered("call", -1);
+        let _ = answered("call", -1, 7);
     }
 }

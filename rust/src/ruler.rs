@@ -102,7 +102,7 @@ pub fn write(
             &mut told.marks,
         )
     };
-    answered("culv_ruler_write", code).map(|()| told)
+    answered("culv_ruler_write", code, told)
 }
 
 /// Reads a ruler, or refuses bytes that are none as [`Refusal::NotARuler`].
@@ -123,13 +123,14 @@ pub fn read(bytes: &[u8]) -> Result<Ruler, Refusal> {
             &mut marks,
         )
     };
-    answered("culv_ruler_read", code).map(|()| Ruler {
+    let ruler = Ruler {
         axis,
         limit,
         m,
         step,
         marks,
-    })
+    };
+    answered("culv_ruler_read", code, ruler)
 }
 
 /// The label of a mark, without its blanks: a part of the ruler, or empty.
@@ -138,8 +139,8 @@ pub fn label_of(bytes: &[u8], value: i32) -> &[u8] {
     // SAFETY: `bytes` has that length, and the two results are locals of their own.
     let code =
         unsafe { culv_ruler_label(bytes.as_ptr(), bytes.len(), value, &mut start, &mut len) };
-    answered("culv_ruler_label", code).expect("a look-up is always answered");
-    &bytes[start..start + len]
+    let part = answered("culv_ruler_label", code, start..start + len);
+    &bytes[part.expect("a look-up is always answered")]
 }
 
 /// The record of a mark in the left ruler if it is below zero, otherwise in the right one: a part
@@ -159,8 +160,8 @@ pub fn pair_record<'a>(left: &'a [u8], right: &'a [u8], value: i32) -> &'a [u8] 
             &mut len,
         )
     };
-    answered("culv_ruler_pair", code).expect("a look-up is always answered");
-    &[left, right][which as usize][start..start + len]
+    let part = answered("culv_ruler_pair", code, start..start + len);
+    &[left, right][which as usize][part.expect("a look-up is always answered")]
 }
 
 #[cfg(test)]

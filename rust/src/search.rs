@@ -2,27 +2,6 @@
 
 use crate::refusal::{answered_or_none, Refusal};
 
-// As include/culvraod.h declares and describes them.
-extern "C" {
-    /// The C function behind [`search_whole`].
-    pub fn culv_search_whole(
-        list: *const i32,
-        len: usize,
-        target: i32,
-        method: u32,
-        k: *mut u64,
-    ) -> i32;
-
-    /// The C function behind [`search_real`].
-    pub fn culv_search_real(
-        list: *const f64,
-        len: usize,
-        target: f64,
-        method: u32,
-        k: *mut u64,
-    ) -> i32;
-}
-
 /// Which entry of a list is meant by a target.
 #[derive(Clone, Copy, Debug, PartialEq, Eq, Hash)]
 #[repr(u32)]
@@ -44,42 +23,55 @@ impl RoundingMethod {
     }
 }
 
-/// The index of the entry that is meant, or none.
-///
-/// Refused as [`Refusal::WholeNotAdmitted`] or [`Refusal::NotMonotone`].
-///
-/// ```
-/// use culvraod::{search_whole, RoundingMethod};
-///
-/// assert_eq!(search_whole(&[0, 4, 8], 2, RoundingMethod::Round), Ok(Some(1)));
-/// assert_eq!(search_whole(&[0, 4, 8], 2, RoundingMethod::Exact), Ok(None));
-/// ```
-pub fn search_whole(
-    list: &[i32],
-    target: i32,
-    method: RoundingMethod,
-) -> Result<Option<u64>, Refusal> {
-    let mut k = 0;
-    // SAFETY: `list` has that length, and the result is a local.
-    let code =
-        unsafe { culv_search_whole(list.as_ptr(), list.len(), target, method.number(), &mut k) };
-    answered_or_none("culv_search_whole", code, k)
+/// A search, by its C function.
+macro_rules! search {
+    ($(#[$doc:meta])* $search:ident, $number:ty, $function:ident) => {
+        // As include/culvraod.h declares and describes it.
+        extern "C" {
+            #[doc = concat!("The C function behind [`", stringify!($search), "`].")]
+            pub fn $function(
+                list: *const $number,
+                len: usize,
+                target: $number,
+                method: u32,
+                k: *mut u64,
+            ) -> i32;
+        }
+
+        $(#[$doc])*
+        pub fn $search(
+            list: &[$number],
+            target: $number,
+            method: RoundingMethod,
+        ) -> Result<Option<u64>, Refusal> {
+            let (start, len, mut k) = (list.as_ptr(), list.len(), 0);
+            // SAFETY: `list` has that length, and the result is a local.
+            let code = unsafe { $function(start, len, target, method.number(), &mut k) };
+            answered_or_none(stringify!($function), code, k)
+        }
+    };
 }
 
-/// The index of the entry that is meant, or none; differences are rounded.
-///
-/// Refused as [`Refusal::NotMonotone`] or [`Refusal::NanTarget`].
-pub fn search_real(
-    list: &[f64],
-    target: f64,
-    method: RoundingMethod,
-) -> Result<Option<u64>, Refusal> {
-    let mut k = 0;
-    // SAFETY: `list` has that length, and the result is a local.
-    let code =
-        unsafe { culv_search_real(list.as_ptr(), list.len(), target, method.number(), &mut k) };
-    answered_or_none("culv_search_real", code, k)
-}
+search!(
+    /// The index of the entry that is meant, or none.
+    ///
+    /// Refused as [`Refusal::WholeNotAdmitted`] or [`Refusal::NotMonotone`].
+    ///
+    /// ```
+    /// use culvraod::{search_whole, RoundingMethod};
+    ///
+    /// assert_eq!(search_whole(&[0, 4, 8], 2, RoundingMethod::Round), Ok(Some(1)));
+    /// assert_eq!(search_whole(&[0, 4, 8], 2, RoundingMethod::Exact), Ok(None));
+    /// ```
+    search_whole, i32, culv_search_whole
+);
+
+search!(
+    /// The index of the entry that is meant, or none; differences are rounded.
+    ///
+    /// Refused as [`Refusal::NotMonotone`] or [`Refusal::NanTarget`].
+    search_real, f64, culv_search_real
+);
 
 #[cfg(test)]
 mod tests {

@@ -48,126 +48,6 @@ extern "C" {
         step: *mut i32,
         count: *mut usize,
     ) -> i32;
-
-    /// The C function behind [`SegmentedCoord::size`] over a stepped axis of whole numbers.
-    pub fn culv_seg_step_whole_size(a: i32, b: i32, d: i32, n: *mut u64) -> i32;
-
-    /// The C function behind [`SegmentedCoord::map`] over a stepped axis of whole numbers.
-    pub fn culv_seg_step_whole_map(
-        a: i32,
-        b: i32,
-        d: i32,
-        method: u32,
-        kind: u32,
-        v: i32,
-        p: i32,
-        q: i32,
-        pixel: *mut i32,
-    ) -> i32;
-
-    /// The C function behind [`SegmentedCoord::index_of`] over a stepped axis of whole numbers.
-    pub fn culv_seg_step_whole_index_of(
-        a: i32,
-        b: i32,
-        d: i32,
-        method: u32,
-        kind: u32,
-        v: i32,
-        k: *mut u64,
-    ) -> i32;
-
-    /// The C function behind [`SegmentedCoord::from_index`] over a stepped axis of whole numbers.
-    pub fn culv_seg_step_whole_from_index(
-        a: i32,
-        b: i32,
-        d: i32,
-        k: u64,
-        kind: *mut u32,
-        v: *mut i32,
-    ) -> i32;
-
-    /// The C function behind [`SegmentedCoord::unmap`] over a stepped axis of whole numbers.
-    pub fn culv_seg_step_whole_unmap(
-        a: i32,
-        b: i32,
-        d: i32,
-        x: i32,
-        p: i32,
-        q: i32,
-        kind: *mut u32,
-        v: *mut i32,
-    ) -> i32;
-
-    /// The C function behind [`SegmentedCoord::key_points`] over a stepped axis of whole numbers.
-    pub fn culv_seg_step_whole_key_points(
-        a: i32,
-        b: i32,
-        d: i32,
-        m: u32,
-        out: *mut i32,
-        len: usize,
-        count: *mut usize,
-    ) -> i32;
-
-    /// The C function behind [`SegmentedCoord::size`] over a stepped axis of reals.
-    pub fn culv_seg_step_real_size(a: f64, b: f64, d: f64, n: *mut u64) -> i32;
-
-    /// The C function behind [`SegmentedCoord::map`] over a stepped axis of reals.
-    pub fn culv_seg_step_real_map(
-        a: f64,
-        b: f64,
-        d: f64,
-        method: u32,
-        kind: u32,
-        v: f64,
-        p: i32,
-        q: i32,
-        pixel: *mut i32,
-    ) -> i32;
-
-    /// The C function behind [`SegmentedCoord::index_of`] over a stepped axis of reals.
-    pub fn culv_seg_step_real_index_of(
-        a: f64,
-        b: f64,
-        d: f64,
-        method: u32,
-        kind: u32,
-        v: f64,
-        k: *mut u64,
-    ) -> i32;
-
-    /// The C function behind [`SegmentedCoord::from_index`] over a stepped axis of reals.
-    pub fn culv_seg_step_real_from_index(
-        a: f64,
-        b: f64,
-        d: f64,
-        k: u64,
-        kind: *mut u32,
-        v: *mut f64,
-    ) -> i32;
-
-    /// The C function behind [`SegmentedCoord::unmap`] over a stepped axis of reals.
-    pub fn culv_seg_step_real_unmap(
-        a: f64,
-        b: f64,
-        d: f64,
-        x: i32,
-        p: i32,
-        q: i32,
-        kind: *mut u32,
-        v: *mut f64,
-    ) -> i32;
-
-    /// The C function behind [`SegmentedCoord::key_points`] over a stepped axis of reals.
-    pub fn culv_seg_step_real_key_points(
-        a: f64,
-        b: f64,
-        d: f64,
-        m: u32,
-        out: *mut f64,
-        len: usize,
-        count: *mut usize,
-    ) -> i32;
 }
 
 /// A value of a segmented axis.
@@ -245,7 +125,7 @@ impl SegmentedCoord<RangedCoordi32> {
         let mut n = 0;
         // SAFETY: the result is a local.
         let code = unsafe { culv_seg_whole_size(a, b, &mut n) };
-        answered("culv_seg_whole_size", code).map(|()| n)
+        answered("culv_seg_whole_size", code, n)
     }
 
     /// The pixel of a value, which may carry a number outside the axis.
@@ -258,7 +138,7 @@ impl SegmentedCoord<RangedCoordi32> {
         let mut pixel = 0;
         // SAFETY: the result is a local.
         let code = unsafe { culv_seg_whole_map(a, b, kind, v, p, q, &mut pixel) };
-        answered("culv_seg_whole_map", code).map(|()| pixel)
+        answered("culv_seg_whole_map", code, pixel)
     }
 
     /// The index of a value, also past the end; none for a number before the axis.
@@ -317,7 +197,7 @@ impl SegmentedCoord<RangedCoordi32> {
         let (mut step, mut count) = (0, 0);
         // SAFETY: `out` is a list of that length, and the results are locals of their own.
         let code = unsafe { culv_seg_whole_key_points(a, b, m, to, len, &mut step, &mut count) };
-        answered("culv_seg_whole_key_points", code).map(|()| KeyPoints { step, count })
+        answered("culv_seg_whole_key_points", code, KeyPoints { step, count })
     }
 }
 
@@ -325,9 +205,72 @@ impl SegmentedCoord<RangedCoordi32> {
 /// functions. `$also` and `$nan` are the refusals that one kind alone meets.
 macro_rules! stepped_segments {
     (
-        $axis:ident, $ends:ident, $number:ty, also $also:literal, nan $nan:literal,
+        $axis:ident, $ends:ident, $number:ty, $over:literal, also $also:literal, nan $nan:literal,
         $size:ident, $map:ident, $index_of:ident, $from_index:ident, $unmap:ident, $key_points:ident
     ) => {
+        // As include/culvraod.h declares and describes them.
+        extern "C" {
+            #[doc = concat!("The C function behind [`SegmentedCoord::size`] over ", $over, ".")]
+            pub fn $size(a: $number, b: $number, d: $number, n: *mut u64) -> i32;
+
+            #[doc = concat!("The C function behind [`SegmentedCoord::map`] over ", $over, ".")]
+            pub fn $map(
+                a: $number,
+                b: $number,
+                d: $number,
+                method: u32,
+                kind: u32,
+                v: $number,
+                p: i32,
+                q: i32,
+                pixel: *mut i32,
+            ) -> i32;
+
+            #[doc = concat!("The C function behind [`SegmentedCoord::index_of`] over ", $over, ".")]
+            pub fn $index_of(
+                a: $number,
+                b: $number,
+                d: $number,
+                method: u32,
+                kind: u32,
+                v: $number,
+                k: *mut u64,
+            ) -> i32;
+
+            #[doc = concat!("The C function behind [`SegmentedCoord::from_index`] over ", $over, ".")]
+            pub fn $from_index(
+                a: $number,
+                b: $number,
+                d: $number,
+                k: u64,
+                kind: *mut u32,
+                v: *mut $number,
+            ) -> i32;
+
+            #[doc = concat!("The C function behind [`SegmentedCoord::unmap`] over ", $over, ".")]
+            pub fn $unmap(
+                a: $number,
+                b: $number,
+                d: $number,
+                x: i32,
+                p: i32,
+                q: i32,
+                kind: *mut u32,
+                v: *mut $number,
+            ) -> i32;
+
+            #[doc = concat!("The C function behind [`SegmentedCoord::key_points`] over ", $over, ".")]
+            pub fn $key_points(
+                a: $number,
+                b: $number,
+                d: $number,
+                m: u32,
+                out: *mut $number,
+                len: usize,
+                count: *mut usize,
+            ) -> i32;
+        }
+
         impl $axis {
             /// Segments over the axis.
             pub fn into_segmented(self) -> SegmentedCoord<$axis> {
@@ -345,7 +288,7 @@ macro_rules! stepped_segments {
                 let mut n = 0;
                 // SAFETY: the result is a local.
                 let code = unsafe { $size(a, b, d, &mut n) };
-                answered(stringify!($size), code).map(|()| n)
+                answered(stringify!($size), code, n)
             }
 
             /// The pixel of a value, which may carry a number outside the axis or between entries.
@@ -364,7 +307,7 @@ macro_rules! stepped_segments {
                 let mut pixel = 0;
                 // SAFETY: the result is a local.
                 let code = unsafe { $map(a, b, d, method.number(), kind, v, p, q, &mut pixel) };
-                answered(stringify!($map), code).map(|()| pixel)
+                answered(stringify!($map), code, pixel)
             }
 
             /// The index of the entry that is meant by a value, or none; the last value has the
@@ -432,20 +375,21 @@ macro_rules! stepped_segments {
                 let (to, len, mut count) = (out.as_mut_ptr(), out.len(), 0);
                 // SAFETY: `out` is a list of that length, and the result is a local.
                 let code = unsafe { $key_points(a, b, d, m, to, len, &mut count) };
-                answered(stringify!($key_points), code).map(|()| count)
+                answered(stringify!($key_points), code, count)
             }
         }
     };
 }
 
 stepped_segments!(
-    Linspacei32, RangedCoordi32, i32, also "[`Refusal::WholeNotAdmitted`], ", nan "",
+    Linspacei32, RangedCoordi32, i32, "a stepped axis of whole numbers",
+    also "[`Refusal::WholeNotAdmitted`], ", nan "",
     culv_seg_step_whole_size, culv_seg_step_whole_map, culv_seg_step_whole_index_of,
     culv_seg_step_whole_from_index, culv_seg_step_whole_unmap, culv_seg_step_whole_key_points
 );
 
 stepped_segments!(
-    Linspacef64, RangedCoordf64, f64, also "",
+    Linspacef64, RangedCoordf64, f64, "a stepped axis of reals", also "",
     nan ", where a search is made also as [`Refusal::NanTarget`]",
     culv_seg_step_real_size, culv_seg_step_real_map, culv_seg_step_real_index_of,
     culv_seg_step_real_from_index, culv_seg_step_real_unmap, culv_seg_step_real_key_points
