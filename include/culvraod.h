@@ -17,7 +17,13 @@
  *     All entries from there on keep their contents.
  *   - No call allocates or keeps a pointer after it has returned.
  *
- * Every combination of numbers may be passed.
+ * Numbers:
+ *   - Every combination of numbers may be passed.
+ *   - Admitted are ends, values, steps and list entries from -1000000000 to
+ *     1000000000 where they are whole, and all where they are doubles; ends of
+ *     an index axis up to 1000000000; limits and pixels from -1000000 to
+ *     1000000; methods up to 3; kinds up to 2.
+ *   - An axis leads from a to b and a film from p to q; both may rise or fall.
  */
 #ifndef CULVRAOD_H
 #define CULVRAOD_H
@@ -52,8 +58,7 @@ enum {
 /* ---- Axes of whole numbers and of indices ---- */
 
 /*
- * Marks on the whole axis from a to b, which may rise or fall, with the mark
- * limit m.
+ * Marks on the whole axis from a to b, with the mark limit m.
  *
  * Of the 28 steps 1, 2, 5, 10, 20, 50 up to 1000000000 the first is chosen
  * that divides the axis into at most m parts if it is a power of ten, and into
@@ -63,9 +68,9 @@ enum {
  * mark may lie past it. There may be no mark, and there are at most m + 1.
  *
  * 0: *step is the step, *count the number of marks, out[0] to out[*count - 1]
- *    are the marks. out[*count] to out[len - 1] are as before.
- * Refused, with nothing written:
- *    1: a or b is not within -1000000000 to 1000000000;
+ *    are the marks.
+ * Refused:
+ *    1: a or b is not admitted;
  *    3: no step serves: m is 0 and a is not b, or m is 1 and the ends are more
  *       than 1000000000 apart;
  *   13: len is less than the number of marks.
@@ -75,13 +80,13 @@ int32_t culv_whole_key_points(int32_t a, int32_t b, uint32_t m,
                               int32_t *step, size_t *count);
 
 /*
- * Marks on the index axis from a to b, which may rise or fall, with the mark
- * limit m. Steps and marks are those of culv_whole_key_points.
+ * Marks on the index axis from a to b, with the mark limit m. Steps and marks
+ * are those of culv_whole_key_points.
  *
  * 0: *step is the step, *count the number of marks, out[0] to out[*count - 1]
- *    are the marks. out[*count] to out[len - 1] are as before.
- * Refused, with nothing written:
- *    1: a or b is above 1000000000;
+ *    are the marks.
+ * Refused:
+ *    1: a or b is not admitted;
  *    3: no step serves: m is 0 and a is not b;
  *   13: len is less than the number of marks.
  */
@@ -92,8 +97,8 @@ int32_t culv_index_key_points(uint64_t a, uint64_t b, uint32_t m,
 /* ---- Places on the film ---- */
 
 /*
- * The pixel of the value v on the whole axis from a to b, which may rise or
- * fall, on a film from p to q, which may too. v may lie outside the axis.
+ * The pixel of the value v on the whole axis from a to b, on a film from p to
+ * q. v may lie outside the axis.
  *
  * If a is b, the place is q - p halved and cut toward zero; p is not added.
  * Otherwise t is (v - a) / (b - a). If p is q, the place is q. If q is above
@@ -101,23 +106,23 @@ int32_t culv_index_key_points(uint64_t a, uint64_t b, uint32_t m,
  * ceiling of (q - p) * t - 0.001. Every operation is rounded as a double.
  *
  * 0: *pixel is the place.
- * Refused, with nothing written:
- *    1: a, b or v is not within -1000000000 to 1000000000;
- *    2: p or q is not within -1000000 to 1000000;
+ * Refused:
+ *    1: a, b or v is not admitted;
+ *    2: p or q is not admitted;
  *    5: the whole number added to p is not within -1000000000 to 1000000000.
  */
 int32_t culv_whole_map(int32_t a, int32_t b, int32_t v, int32_t p, int32_t q,
                        int32_t *pixel);
 
 /*
- * The pixel of the value v on the real axis from a to b. All doubles may be
- * passed, and -0.0 is 0.0. The place is that of culv_whole_map, and besides,
- * unless a is b or p is q: where t is infinite, the place is q, or p if t is
- * below zero; where t is NaN, the whole number added to p is 0.
+ * The pixel of the value v on the real axis from a to b; -0.0 is 0.0. The place
+ * is that of culv_whole_map, and besides, unless a is b or p is q: where t is
+ * infinite, the place is q, or p if t is below zero; where t is NaN, the whole
+ * number added to p is 0.
  *
  * 0: *pixel is the place.
- * Refused, with nothing written:
- *    2: p or q is not within -1000000 to 1000000;
+ * Refused:
+ *    2: p or q is not admitted;
  *    5: the whole number added to p is not within -1000000000 to 1000000000.
  */
 int32_t culv_real_map(double a, double b, double v, int32_t p, int32_t q,
@@ -130,8 +135,8 @@ int32_t culv_real_map(double a, double b, double v, int32_t p, int32_t q,
  * below a.
  *
  * 0: *n is the number.
- * Refused, with nothing written:
- *    1: a or b is not within -1000000000 to 1000000000.
+ * Refused:
+ *    1: a or b is not admitted.
  */
 int32_t culv_whole_size(int32_t a, int32_t b, uint64_t *n);
 
@@ -140,9 +145,9 @@ int32_t culv_whole_size(int32_t a, int32_t b, uint64_t *n);
  * above b.
  *
  * 0: *k is the index.
- * None, with nothing written: v is below a.
- * Refused, with nothing written:
- *    1: a, b or v is not within -1000000000 to 1000000000.
+ * None: v is below a.
+ * Refused:
+ *    1: a, b or v is not admitted.
  */
 int32_t culv_whole_index_of(int32_t a, int32_t b, int32_t v, uint64_t *k);
 
@@ -151,9 +156,9 @@ int32_t culv_whole_index_of(int32_t a, int32_t b, int32_t v, uint64_t *k);
  * is above b.
  *
  * 0: *v is the value.
- * None, with nothing written: k is above 2147483647.
- * Refused, with nothing written:
- *    1: a or b is not within -1000000000 to 1000000000;
+ * None: k is above 2147483647.
+ * Refused:
+ *    1: a or b is not admitted;
  *   10: k is at most 2147483647, but a + k is above it.
  */
 int32_t culv_whole_from_index(int32_t a, int32_t b, uint64_t k, int32_t *v);
@@ -161,8 +166,7 @@ int32_t culv_whole_from_index(int32_t a, int32_t b, uint64_t k, int32_t *v);
 /* ---- Readings ---- */
 
 /*
- * The value of the whole axis from a to b at the pixel x of a film from p to
- * q, which may rise or fall.
+ * The value of the whole axis from a to b at the pixel x of a film from p to q.
  *
  * With n as in culv_whole_size, its index is the floor of
  * (x - p) * n / (q - p), worked out exactly, and 0 where that is below zero;
@@ -170,24 +174,23 @@ int32_t culv_whole_from_index(int32_t a, int32_t b, uint64_t k, int32_t *v);
  * but there is none where x is above p and n is not 0.
  *
  * 0: *v is the value.
- * None, with nothing written: the index is above 2147483647, or there is none.
- * Refused, with nothing written:
- *    1: a or b is not within -1000000000 to 1000000000;
- *    2: x, p or q is not within -1000000 to 1000000;
+ * None: the index is above 2147483647, or there is none.
+ * Refused:
+ *    1: a or b is not admitted;
+ *    2: x, p or q is not admitted;
  *   10: the index is at most 2147483647, but a plus the index is above it.
  */
 int32_t culv_whole_unmap(int32_t a, int32_t b, int32_t x, int32_t p, int32_t q,
                          int32_t *v);
 
 /*
- * The value of the real axis from a to b at the pixel x of a film from p to
- * q, which may rise or fall: (b - a) * ((x - p) / (q - p)) + a, every
- * operation rounded as a double. All doubles may be passed.
+ * The value of the real axis from a to b at the pixel x of a film from p to q:
+ * (b - a) * ((x - p) / (q - p)) + a, every operation rounded as a double.
  *
  * 0: *v is the value, which may be infinite or NaN.
- * None, with nothing written: x is not from p to q, or p is q.
- * Refused, with nothing written:
- *    2: x, p or q is not within -1000000 to 1000000.
+ * None: x is not from p to q, or p is q.
+ * Refused:
+ *    2: x, p or q is not admitted.
  */
 int32_t culv_real_unmap(double a, double b, int32_t x, int32_t p, int32_t q,
                         double *v);
@@ -206,24 +209,22 @@ int32_t culv_real_unmap(double a, double b, int32_t x, int32_t p, int32_t q,
  * In an empty list the nearest has the index 0.
  *
  * 0: *k is the index, counted from 0.
- * None, with nothing written: there is no such entry.
- * Refused, with nothing written:
- *    1: an entry or target is not within -1000000000 to 1000000000, or method
- *       is above 3;
+ * None: there is no such entry.
+ * Refused:
+ *    1: an entry, target or method is not admitted;
  *    8: the list neither strictly rises nor strictly falls.
  */
 int32_t culv_search_whole(const int32_t *list, size_t len, int32_t target,
                           uint32_t method, uint64_t *k);
 
 /*
- * The index of an entry of a list of doubles. All doubles may be passed, -0.0
- * is 0.0, and the entries are those of culv_search_whole; the differences are
- * rounded as doubles.
+ * The index of an entry of a list of doubles; -0.0 is 0.0. The entries are
+ * those of culv_search_whole; the differences are rounded as doubles.
  *
  * 0: *k is the index, counted from 0.
- * None, with nothing written: there is no such entry.
- * Refused, with nothing written:
- *    1: method is above 3;
+ * None: there is no such entry.
+ * Refused:
+ *    1: method is not admitted;
  *    8: the list neither strictly rises nor strictly falls, or holds NaN;
  *    9: target is NaN, the list has entries, and method is not 0.
  */
@@ -233,16 +234,31 @@ int32_t culv_search_real(const double *list, size_t len, double target,
 /* ---- Stepped lists ---- */
 
 /*
- * The list of the whole axis from a to b by the step d: a, a + d and so on
- * while before b, so that b is never an entry. The list is empty if a is b, or
- * if a + d has reached or passed b; otherwise it has two entries or more.
+ * The list of an axis from a to b by the step d is a, a + d, (a + d) + d and
+ * so on while before b, so that b is never an entry. It is empty if a is b, or
+ * if a + d has reached or passed b; otherwise it has two entries or more. On a
+ * real axis every sum is rounded as a double, and -0.0 is 0.0; the list is
+ * empty too if a, b or a + d is NaN, and has no end where the step is too small
+ * to move a sum.
+ *
+ * Each of these calls names its refusals by their numbers, which mean:
+ *    1: a, b, d, v or method is not admitted;
+ *    2: x, p or q is not admitted;
+ *    3: m is 0 and the list has entries, be there too many of them or without
+ *       end;
+ *    5: the whole number added to p is not within -1000000000 to 1000000000;
+ *    6: a is below b and d is 0 or below, or a is above b and d is 0 or above;
+ *    7: the list has more than 65536 entries;
+ *    9: v is NaN, the list has entries, and method is not 0;
+ *   13: len is less than the number of marks.
+ */
+
+/*
+ * The list of the whole axis from a to b by the step d.
  *
  * 0: *count is the number of entries, out[0] to out[*count - 1] are the
- *    entries. out[*count] to out[len - 1] are as before.
- * Refused, with nothing written:
- *    1: a, b or d is not within -1000000000 to 1000000000;
- *    6: d is 0 or leads away from b, and a is not b;
- *    7: the list has more than 65536 entries, or more than len.
+ *    entries.
+ * Refused: 1, 6, and 7 also where the list has more than len entries.
  */
 int32_t culv_step_whole_values(int32_t a, int32_t b, int32_t d,
                                int32_t *out, size_t len, size_t *count);
@@ -251,10 +267,7 @@ int32_t culv_step_whole_values(int32_t a, int32_t b, int32_t d,
  * The number of entries of the list of culv_step_whole_values.
  *
  * 0: *n is the number.
- * Refused, with nothing written:
- *    1: a, b or d is not within -1000000000 to 1000000000;
- *    6: d is 0 or leads away from b, and a is not b;
- *    7: the list has more than 65536 entries.
+ * Refused: 1, 6, 7.
  */
 int32_t culv_step_whole_size(int32_t a, int32_t b, int32_t d, uint64_t *n);
 
@@ -263,11 +276,8 @@ int32_t culv_step_whole_size(int32_t a, int32_t b, int32_t d, uint64_t *n);
  * culv_step_whole_values.
  *
  * 0: *v is the entry.
- * None, with nothing written: the list has no more than k entries.
- * Refused, with nothing written:
- *    1: a, b or d is not within -1000000000 to 1000000000;
- *    6: d is 0 or leads away from b, and a is not b;
- *    7: the list has more than 65536 entries.
+ * None: the list has no more than k entries.
+ * Refused: 1, 6, 7.
  */
 int32_t culv_step_whole_from_index(int32_t a, int32_t b, int32_t d, uint64_t k,
                                    int32_t *v);
@@ -277,12 +287,8 @@ int32_t culv_step_whole_from_index(int32_t a, int32_t b, int32_t d, uint64_t k,
  * culv_search_whole.
  *
  * 0: *k is the index, counted from 0.
- * None, with nothing written: there is no such entry.
- * Refused, with nothing written:
- *    1: a, b, d or v is not within -1000000000 to 1000000000, or method is
- *       above 3;
- *    6: d is 0 or leads away from b, and a is not b;
- *    7: the list has more than 65536 entries.
+ * None: there is no such entry.
+ * Refused: 1, 6, 7.
  */
 int32_t culv_step_whole_index_of(int32_t a, int32_t b, int32_t d, int32_t v,
                                  uint32_t method, uint64_t *k);
@@ -292,19 +298,14 @@ int32_t culv_step_whole_index_of(int32_t a, int32_t b, int32_t d, int32_t v,
  * on the axis from a to b.
  *
  * 0: *pixel is the place.
- * Refused, with nothing written:
- *    1: a, b, d or v is not within -1000000000 to 1000000000;
- *    2: p or q is not within -1000000 to 1000000;
- *    5: the whole number added to p is not within -1000000000 to 1000000000;
- *    6: d is 0 or leads away from b, and a is not b;
- *    7: the list of culv_step_whole_values has more than 65536 entries.
+ * Refused: 1, 2, 5, 6, 7.
  */
 int32_t culv_step_whole_map(int32_t a, int32_t b, int32_t d, int32_t v,
                             int32_t p, int32_t q, int32_t *pixel);
 
 /*
  * The entry of the list of culv_step_whole_values at the pixel x of a film
- * from p to q, which may rise or fall.
+ * from p to q.
  *
  * With n as in culv_step_whole_size, its index is the floor of
  * (x - p) * n / (q - p), worked out exactly, and 0 where that is below zero.
@@ -312,12 +313,8 @@ int32_t culv_step_whole_map(int32_t a, int32_t b, int32_t d, int32_t v,
  * 0.
  *
  * 0: *v is the entry.
- * None, with nothing written: there is no index, or no entry at it.
- * Refused, with nothing written:
- *    1: a, b or d is not within -1000000000 to 1000000000;
- *    2: x, p or q is not within -1000000 to 1000000;
- *    6: d is 0 or leads away from b, and a is not b;
- *    7: the list has more than 65536 entries.
+ * None: there is no index, or no entry at it.
+ * Refused: 1, 2, 6, 7.
  */
 int32_t culv_step_whole_unmap(int32_t a, int32_t b, int32_t d, int32_t x,
                               int32_t p, int32_t q, int32_t *v);
@@ -329,30 +326,17 @@ int32_t culv_step_whole_unmap(int32_t a, int32_t b, int32_t d, int32_t x,
  * are at most m + 1.
  *
  * 0: *count is the number of marks, out[0] to out[*count - 1] are the marks.
- *    out[*count] to out[len - 1] are as before.
- * Refused, with nothing written:
- *    1: a, b or d is not within -1000000000 to 1000000000;
- *    3: m is 0 and the list has entries, be there too many of them or without
- *       end;
- *    6: d is 0 or leads away from b, and a is not b;
- *    7: the list has more than 65536 entries;
- *   13: len is less than the number of marks.
+ * Refused: 1, 3, 6, 7, 13.
  */
 int32_t culv_step_whole_key_points(int32_t a, int32_t b, int32_t d, uint32_t m,
                                    int32_t *out, size_t len, size_t *count);
 
 /*
- * The list of the real axis from a to b by the step d: a, a + d, (a + d) + d
- * and so on while before b, every sum rounded as a double. All doubles may be
- * passed, and -0.0 is 0.0. The list is empty if a is b, if a + d has reached
- * or passed b, or if a, b or a + d is NaN; otherwise it has two entries or
- * more, and no end where the step is too small to move a sum.
+ * The list of the real axis from a to b by the step d.
  *
  * 0: *count is the number of entries, out[0] to out[*count - 1] are the
- *    entries. out[*count] to out[len - 1] are as before.
- * Refused, with nothing written:
- *    6: a is below b and d is 0 or below, or a is above b and d is 0 or above;
- *    7: the list has more than 65536 entries, or more than len.
+ *    entries.
+ * Refused: 6, and 7 also where the list has more than len entries.
  */
 int32_t culv_step_real_values(double a, double b, double d,
                               double *out, size_t len, size_t *count);
@@ -361,9 +345,7 @@ int32_t culv_step_real_values(double a, double b, double d,
  * The number of entries of the list of culv_step_real_values.
  *
  * 0: *n is the number.
- * Refused, with nothing written:
- *    6: as in culv_step_real_values;
- *    7: the list has more than 65536 entries.
+ * Refused: 6, 7.
  */
 int32_t culv_step_real_size(double a, double b, double d, uint64_t *n);
 
@@ -372,10 +354,8 @@ int32_t culv_step_real_size(double a, double b, double d, uint64_t *n);
  * culv_step_real_values.
  *
  * 0: *v is the entry.
- * None, with nothing written: the list has no more than k entries.
- * Refused, with nothing written:
- *    6: as in culv_step_real_values;
- *    7: the list has more than 65536 entries.
+ * None: the list has no more than k entries.
+ * Refused: 6, 7.
  */
 int32_t culv_step_real_from_index(double a, double b, double d, uint64_t k,
                                   double *v);
@@ -385,12 +365,8 @@ int32_t culv_step_real_from_index(double a, double b, double d, uint64_t k,
  * culv_search_real.
  *
  * 0: *k is the index, counted from 0.
- * None, with nothing written: there is no such entry.
- * Refused, with nothing written:
- *    1: method is above 3;
- *    6: as in culv_step_real_values;
- *    7: the list has more than 65536 entries;
- *    9: v is NaN, the list has entries, and method is not 0.
+ * None: there is no such entry.
+ * Refused: 1, 6, 7, 9.
  */
 int32_t culv_step_real_index_of(double a, double b, double d, double v,
                                 uint32_t method, uint64_t *k);
@@ -400,26 +376,18 @@ int32_t culv_step_real_index_of(double a, double b, double d, double v,
  * the axis from a to b.
  *
  * 0: *pixel is the place.
- * Refused, with nothing written:
- *    2: p or q is not within -1000000 to 1000000;
- *    5: the whole number added to p is not within -1000000000 to 1000000000;
- *    6: as in culv_step_real_values;
- *    7: the list of culv_step_real_values has more than 65536 entries.
+ * Refused: 2, 5, 6, 7.
  */
 int32_t culv_step_real_map(double a, double b, double d, double v,
                            int32_t p, int32_t q, int32_t *pixel);
 
 /*
  * The entry of the list of culv_step_real_values at the pixel x of a film from
- * p to q, which may rise or fall. Its index is worked out as in
- * culv_step_whole_unmap.
+ * p to q. Its index is worked out as in culv_step_whole_unmap.
  *
  * 0: *v is the entry.
- * None, with nothing written: there is no index, or no entry at it.
- * Refused, with nothing written:
- *    2: x, p or q is not within -1000000 to 1000000;
- *    6: as in culv_step_real_values;
- *    7: the list has more than 65536 entries.
+ * None: there is no index, or no entry at it.
+ * Refused: 2, 6, 7.
  */
 int32_t culv_step_real_unmap(double a, double b, double d, int32_t x,
                              int32_t p, int32_t q, double *v);
@@ -431,13 +399,7 @@ int32_t culv_step_real_unmap(double a, double b, double d, int32_t x,
  * are at most m + 1.
  *
  * 0: *count is the number of marks, out[0] to out[*count - 1] are the marks.
- *    out[*count] to out[len - 1] are as before.
- * Refused, with nothing written:
- *    3: m is 0 and the list has entries, be there too many of them or without
- *       end;
- *    6: as in culv_step_real_values;
- *    7: the list has more than 65536 entries;
- *   13: len is less than the number of marks.
+ * Refused: 3, 6, 7, 13.
  */
 int32_t culv_step_real_key_points(double a, double b, double d, uint32_t m,
                                   double *out, size_t len, size_t *count);
@@ -452,6 +414,17 @@ int32_t culv_step_real_key_points(double a, double b, double d, uint32_t m,
  *    1   center: the middle of the segment of v;
  *    2   last: what stands behind all entries. v is not looked at where it is
  *        passed, and is 0 where it is given back.
+ *
+ * Each of these calls names its refusals by their numbers, which mean:
+ *    1: a, b, d, v, method or kind is not admitted;
+ *    2: x, p or q is not admitted;
+ *    3: as where the axis is marked without segments;
+ *    4: the whole axis has no values, b being below a, or more than 16777216,
+ *       or the list is empty;
+ *    5: neither 6 nor 7 applies, and the whole number added to p for the place
+ *       of exact v is not within -1000000000 to 1000000000;
+ *    6, 7: as for stepped lists;
+ *   13: len is less than the number of marks.
  */
 
 /*
@@ -459,15 +432,13 @@ int32_t culv_step_real_key_points(double a, double b, double d, uint32_t m,
  * more than culv_whole_size gives.
  *
  * 0: *n is the number.
- * Refused, with nothing written:
- *    1: a or b is not within -1000000000 to 1000000000;
- *    4: the axis has no values, b being below a, or more than 16777216.
+ * Refused: 1, 4.
  */
 int32_t culv_seg_whole_size(int32_t a, int32_t b, uint64_t *n);
 
 /*
  * The pixel of a value of the segments over the whole axis from a to b, on a
- * film from p to q, which may rise or fall. v may lie outside the axis.
+ * film from p to q. v may lie outside the axis.
  *
  * The margin is (q - p) / n, n being that of culv_whole_size, rounded as a
  * float and then to a whole number, halves away from zero. The place of exact
@@ -477,12 +448,7 @@ int32_t culv_seg_whole_size(int32_t a, int32_t b, uint64_t *n);
  * margin, cut toward zero. That of last is q.
  *
  * 0: *pixel is the place.
- * Refused, with nothing written:
- *    1: a, b or v is not within -1000000000 to 1000000000, or kind is above 2;
- *    2: p or q is not within -1000000 to 1000000;
- *    4: the axis has no values, b being below a, or more than 16777216;
- *    5: the whole number added to p for the place of exact v is not within
- *       -1000000000 to 1000000000.
+ * Refused: 1, 2, 4, 5.
  */
 int32_t culv_seg_whole_map(int32_t a, int32_t b, uint32_t kind, int32_t v,
                            int32_t p, int32_t q, int32_t *pixel);
@@ -493,10 +459,8 @@ int32_t culv_seg_whole_map(int32_t a, int32_t b, uint32_t kind, int32_t v,
  * axis for last.
  *
  * 0: *k is the index, counted from 0.
- * None, with nothing written: v is below a.
- * Refused, with nothing written:
- *    1: a, b or v is not within -1000000000 to 1000000000, or kind is above 2;
- *    4: the axis has no values, b being below a, or more than 16777216.
+ * None: v is below a.
+ * Refused: 1, 4.
  */
 int32_t culv_seg_whole_index_of(int32_t a, int32_t b, uint32_t kind, int32_t v,
                                 uint64_t *k);
@@ -506,28 +470,23 @@ int32_t culv_seg_whole_index_of(int32_t a, int32_t b, uint32_t kind, int32_t v,
  * exact for each value of the axis, then last.
  *
  * 0: *kind and *v are the value.
- * None, with nothing written: k is above the index of last.
- * Refused, with nothing written:
- *    1: a or b is not within -1000000000 to 1000000000;
- *    4: the axis has no values, b being below a, or more than 16777216.
+ * None: k is above the index of last.
+ * Refused: 1, 4.
  */
 int32_t culv_seg_whole_from_index(int32_t a, int32_t b, uint64_t k,
                                   uint32_t *kind, int32_t *v);
 
 /*
  * The value of the segments over the whole axis from a to b at the pixel x of
- * a film from p to q, which may rise or fall.
+ * a film from p to q.
  *
  * With n as in culv_seg_whole_size, its index is the floor of
  * (x - p) * n / (q - p), worked out exactly, and 0 where that is below zero.
  * If p is q, the index is 0, but there is none where x is above p.
  *
  * 0: *kind and *v are the value.
- * None, with nothing written: there is no index, or no value at it.
- * Refused, with nothing written:
- *    1: a or b is not within -1000000000 to 1000000000;
- *    2: x, p or q is not within -1000000 to 1000000;
- *    4: the axis has no values, b being below a, or more than 16777216.
+ * None: there is no index, or no value at it.
+ * Refused: 1, 2, 4.
  */
 int32_t culv_seg_whole_unmap(int32_t a, int32_t b, int32_t x, int32_t p,
                              int32_t q, uint32_t *kind, int32_t *v);
@@ -537,12 +496,8 @@ int32_t culv_seg_whole_unmap(int32_t a, int32_t b, int32_t x, int32_t p,
  * m: those of culv_whole_key_points, each of which stands for center of it.
  *
  * 0: *step is the step, *count the number of marks, out[0] to out[*count - 1]
- *    are the marks. out[*count] to out[len - 1] are as before.
- * Refused, with nothing written:
- *    1: a or b is not within -1000000000 to 1000000000;
- *    3: no step serves, as in culv_whole_key_points;
- *    4: the axis has no values, b being below a, or more than 16777216;
- *   13: len is less than the number of marks.
+ *    are the marks.
+ * Refused: 1, 3, 4, 13.
  */
 int32_t culv_seg_whole_key_points(int32_t a, int32_t b, uint32_t m,
                                   int32_t *out, size_t len,
@@ -553,18 +508,13 @@ int32_t culv_seg_whole_key_points(int32_t a, int32_t b, uint32_t m,
  * one more than its entries.
  *
  * 0: *n is the number.
- * Refused, with nothing written:
- *    1: a, b or d is not within -1000000000 to 1000000000;
- *    4: the list is empty;
- *    6: d is 0 or leads away from b, and a is not b;
- *    7: the list has more than 65536 entries.
+ * Refused: 1, 4, 6, 7.
  */
 int32_t culv_seg_step_whole_size(int32_t a, int32_t b, int32_t d, uint64_t *n);
 
 /*
  * The pixel of a value of the segments over the list of culv_step_whole_values,
- * on a film from p to q, which may rise or fall. v may lie outside the axis or
- * between entries.
+ * on a film from p to q. v may lie outside the axis or between entries.
  *
  * The margin is that of culv_seg_whole_map, n being the number of entries. The
  * place of exact v is that of culv_whole_map on the axis from a to b with the
@@ -575,15 +525,7 @@ int32_t culv_seg_step_whole_size(int32_t a, int32_t b, int32_t d, uint64_t *n);
  * is q.
  *
  * 0: *pixel is the place.
- * Refused, with nothing written:
- *    1: a, b, d or v is not within -1000000000 to 1000000000, method is above
- *       3, or kind is above 2;
- *    2: p or q is not within -1000000 to 1000000;
- *    4: the list is empty;
- *    5: neither 6 nor 7 applies, and the whole number added to p for the place
- *       of exact v is not within -1000000000 to 1000000000;
- *    6: d is 0 or leads away from b, and a is not b;
- *    7: the list has more than 65536 entries.
+ * Refused: 1, 2, 4, 5, 6, 7.
  */
 int32_t culv_seg_step_whole_map(int32_t a, int32_t b, int32_t d,
                                 uint32_t method, uint32_t kind, int32_t v,
@@ -595,13 +537,8 @@ int32_t culv_seg_step_whole_map(int32_t a, int32_t b, int32_t d,
  * entries for last.
  *
  * 0: *k is the index, counted from 0.
- * None, with nothing written: there is no such entry.
- * Refused, with nothing written:
- *    1: a, b, d or v is not within -1000000000 to 1000000000, method is above
- *       3, or kind is above 2;
- *    4: the list is empty;
- *    6: d is 0 or leads away from b, and a is not b;
- *    7: the list has more than 65536 entries.
+ * None: there is no such entry.
+ * Refused: 1, 4, 6, 7.
  */
 int32_t culv_seg_step_whole_index_of(int32_t a, int32_t b, int32_t d,
                                      uint32_t method, uint32_t kind,
@@ -612,12 +549,8 @@ int32_t culv_seg_step_whole_index_of(int32_t a, int32_t b, int32_t d,
  * culv_step_whole_values: exact for each entry, then last.
  *
  * 0: *kind and *v are the value.
- * None, with nothing written: k is above the index of last.
- * Refused, with nothing written:
- *    1: a, b or d is not within -1000000000 to 1000000000;
- *    4: the list is empty;
- *    6: d is 0 or leads away from b, and a is not b;
- *    7: the list has more than 65536 entries.
+ * None: k is above the index of last.
+ * Refused: 1, 4, 6, 7.
  */
 int32_t culv_seg_step_whole_from_index(int32_t a, int32_t b, int32_t d,
                                        uint64_t k, uint32_t *kind,
@@ -625,17 +558,12 @@ int32_t culv_seg_step_whole_from_index(int32_t a, int32_t b, int32_t d,
 
 /*
  * The value of the segments over the list of culv_step_whole_values at the
- * pixel x of a film from p to q, which may rise or fall. Its index is worked
- * out as in culv_seg_whole_unmap, with the n of culv_seg_step_whole_size.
+ * pixel x of a film from p to q. Its index is worked out as in
+ * culv_seg_whole_unmap, with the n of culv_seg_step_whole_size.
  *
  * 0: *kind and *v are the value.
- * None, with nothing written: there is no index, or no value at it.
- * Refused, with nothing written:
- *    1: a, b or d is not within -1000000000 to 1000000000;
- *    2: x, p or q is not within -1000000 to 1000000;
- *    4: the list is empty;
- *    6: d is 0 or leads away from b, and a is not b;
- *    7: the list has more than 65536 entries.
+ * None: there is no index, or no value at it.
+ * Refused: 1, 2, 4, 6, 7.
  */
 int32_t culv_seg_step_whole_unmap(int32_t a, int32_t b, int32_t d, int32_t x,
                                   int32_t p, int32_t q, uint32_t *kind,
@@ -647,15 +575,7 @@ int32_t culv_seg_step_whole_unmap(int32_t a, int32_t b, int32_t d, int32_t x,
  * of it.
  *
  * 0: *count is the number of marks, out[0] to out[*count - 1] are the marks.
- *    out[*count] to out[len - 1] are as before.
- * Refused, with nothing written:
- *    1: a, b or d is not within -1000000000 to 1000000000;
- *    3: m is 0 and the list has entries, be there too many of them or without
- *       end;
- *    4: the list is empty;
- *    6: d is 0 or leads away from b, and a is not b;
- *    7: the list has more than 65536 entries;
- *   13: len is less than the number of marks.
+ * Refused: 1, 3, 4, 6, 7, 13.
  */
 int32_t culv_seg_step_whole_key_points(int32_t a, int32_t b, int32_t d,
                                        uint32_t m, int32_t *out, size_t len,
@@ -663,34 +583,23 @@ int32_t culv_seg_step_whole_key_points(int32_t a, int32_t b, int32_t d,
 
 /*
  * The number of values of the segments over the list of culv_step_real_values:
- * one more than its entries. All doubles may be passed, here and below.
+ * one more than its entries.
  *
  * 0: *n is the number.
- * Refused, with nothing written:
- *    4: the list is empty;
- *    6: as in culv_step_real_values;
- *    7: the list has more than 65536 entries.
+ * Refused: 4, 6, 7.
  */
 int32_t culv_seg_step_real_size(double a, double b, double d, uint64_t *n);
 
 /*
  * The pixel of a value of the segments over the list of culv_step_real_values,
- * on a film from p to q, which may rise or fall. v may lie outside the axis or
- * between entries.
+ * on a film from p to q. v may lie outside the axis or between entries.
  *
  * Places are those of culv_seg_step_whole_map, with culv_real_map for the place
  * of exact v, and the method of culv_search_real.
  *
  * 0: *pixel is the place.
- * Refused, with nothing written:
- *    1: method is above 3, or kind is above 2;
- *    2: p or q is not within -1000000 to 1000000;
- *    4: the list is empty;
- *    5: neither 6 nor 7 applies, and the whole number added to p for the place
- *       of exact v is not within -1000000000 to 1000000000;
- *    6: as in culv_step_real_values;
- *    7: the list has more than 65536 entries;
- *    9: v is NaN, kind is 1, and method is not 0.
+ * Refused: 1, 2, 4, 5, 6, 7, and 9 where v is NaN, kind is 1, and method is
+ * not 0.
  */
 int32_t culv_seg_step_real_map(double a, double b, double d,
                                uint32_t method, uint32_t kind, double v,
@@ -702,13 +611,9 @@ int32_t culv_seg_step_real_map(double a, double b, double d,
  * entries for last.
  *
  * 0: *k is the index, counted from 0.
- * None, with nothing written: there is no such entry.
- * Refused, with nothing written:
- *    1: method is above 3, or kind is above 2;
- *    4: the list is empty;
- *    6: as in culv_step_real_values;
- *    7: the list has more than 65536 entries;
- *    9: v is NaN, kind is not 2, and method is not 0.
+ * None: there is no such entry.
+ * Refused: 1, 4, 6, 7, and 9 where v is NaN, kind is not 2, and method is
+ * not 0.
  */
 int32_t culv_seg_step_real_index_of(double a, double b, double d,
                                     uint32_t method, uint32_t kind,
@@ -719,11 +624,8 @@ int32_t culv_seg_step_real_index_of(double a, double b, double d,
  * culv_step_real_values: exact for each entry, then last.
  *
  * 0: *kind and *v are the value.
- * None, with nothing written: k is above the index of last.
- * Refused, with nothing written:
- *    4: the list is empty;
- *    6: as in culv_step_real_values;
- *    7: the list has more than 65536 entries.
+ * None: k is above the index of last.
+ * Refused: 4, 6, 7.
  */
 int32_t culv_seg_step_real_from_index(double a, double b, double d,
                                       uint64_t k, uint32_t *kind,
@@ -731,16 +633,12 @@ int32_t culv_seg_step_real_from_index(double a, double b, double d,
 
 /*
  * The value of the segments over the list of culv_step_real_values at the
- * pixel x of a film from p to q, which may rise or fall. Its index is worked
- * out as in culv_seg_whole_unmap, with the n of culv_seg_step_real_size.
+ * pixel x of a film from p to q. Its index is worked out as in
+ * culv_seg_whole_unmap, with the n of culv_seg_step_real_size.
  *
  * 0: *kind and *v are the value.
- * None, with nothing written: there is no index, or no value at it.
- * Refused, with nothing written:
- *    2: x, p or q is not within -1000000 to 1000000;
- *    4: the list is empty;
- *    6: as in culv_step_real_values;
- *    7: the list has more than 65536 entries.
+ * None: there is no index, or no value at it.
+ * Refused: 2, 4, 6, 7.
  */
 int32_t culv_seg_step_real_unmap(double a, double b, double d, int32_t x,
                                  int32_t p, int32_t q, uint32_t *kind,
@@ -752,14 +650,7 @@ int32_t culv_seg_step_real_unmap(double a, double b, double d, int32_t x,
  * of it.
  *
  * 0: *count is the number of marks, out[0] to out[*count - 1] are the marks.
- *    out[*count] to out[len - 1] are as before.
- * Refused, with nothing written:
- *    3: m is 0 and the list has entries, be there too many of them or without
- *       end;
- *    4: the list is empty;
- *    6: as in culv_step_real_values;
- *    7: the list has more than 65536 entries;
- *   13: len is less than the number of marks.
+ * Refused: 3, 4, 6, 7, 13.
  */
 int32_t culv_seg_step_real_key_points(double a, double b, double d,
                                       uint32_t m, double *out, size_t len,
@@ -777,9 +668,9 @@ int32_t culv_seg_step_real_key_points(double a, double b, double d,
  * its left, 11 bytes in all. Numbers have four bytes, the lowest first.
  *
  * 0: *bytes is the number of bytes written, 25 + 20 * *marks.
- * Refused, with nothing written:
- *    1: a or b is not within -1000000000 to 1000000000;
- *    2: p or q is not within -1000000 to 1000000;
+ * Refused:
+ *    1: a or b is not admitted;
+ *    2: p or q is not admitted;
  *    3: no step serves;
  *   13: len is too small.
  */
@@ -791,7 +682,7 @@ int32_t culv_ruler_write(int32_t a, int32_t b, int32_t p, int32_t q, uint32_t m,
  * no others.
  *
  * 0: the numbers that it was written for, its step and the number of marks.
- * Refused, with nothing written:
+ * Refused:
  *   14: the bytes are no ruler.
  */
 int32_t culv_ruler_read(const uint8_t *bytes, size_t len, int32_t *a, int32_t *b,
@@ -839,7 +730,7 @@ int32_t culv_ruler_pair(const uint8_t *left, size_t left_len,
  * whole part. A negative zero is "-0".
  *
  * 0: *written is the number of bytes of the label.
- * Refused, with nothing written:
+ * Refused:
  *   11: n is NaN, infinite, or of size 2^53 or more;
  *   12: max_decimal is above 10, or min_decimal above 20;
  *   13: len is less than the number of bytes of the label.
