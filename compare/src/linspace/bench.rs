@@ -28,6 +28,11 @@ fn last<A: DiscreteRanged>(axis: A) -> Option<A::ValueType> {
     axis.from_index(axis.size() - 1)
 }
 
+/// Every entry of plotters' list, in a list of the caller's, as ours gives them.
+fn every<A: DiscreteRanged>(axis: A) -> Vec<A::ValueType> {
+    axis.values().collect()
+}
+
 fn kind<N: Library>(step: N) {
     beside::bench::<Size<N>>();
     beside::bench::<FromIndex<N>>();
@@ -41,7 +46,9 @@ fn kind<N: Library>(step: N) {
             d: step,
         };
         let (list, marks) = (Listing { axis, m: None }, Listing { axis, m: Some(10) });
+        let handed = format!("{}, handed over,", N::NAMES.values);
         time(N::NAMES.values, list, |list| last(N::plotters(list.axis)));
+        time(&handed, list, |list| every(N::plotters(list.axis)));
         time(N::NAMES.key_points, marks, Listing::plotters);
     }
 }
