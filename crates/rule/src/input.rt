@@ -8,21 +8,6 @@ pub struct Turn {
     pub held: usize,
 }
 
-// Where the line that holds the byte at `at` ends: at its newline, or at the end.
-pub(crate) fn line_end(s: &[u8], at: usize) -> usize
-    requires { ⌜ at ≤ length (now s) ⌝ }
-    ensures { λ r. ⌜ (at ≤ r) × (r ≤ length (now (s .entry))) ⌝ }
-{
-    let mut i = at;
-    while i < s.len() {
-        if s[i] == b'\n' {
-            return i;
-        }
-        i += 1;
-    }
-    i
-}
-
 // The part behind the first n bytes of what is held, as much of it as there is room for; how much is held then.
 pub(crate) fn hold(part: &[u8], held: &mut [u8], n: usize) -> usize
     ensures { λ r. ⌜ r ≤ length (now (held .exit)) ⌝ }

@@ -93,7 +93,7 @@ fn take(read: &[u8], held: &mut [u8], out: &mut [u8], start: State) -> State {
     let mut s = start;
     let mut at = 0;
     while at < read.len() {
-        let end = input::line_end(read, at);
+        let end = bytes::scan::find(read, at, read.len(), b'\n');
         s = go_on(&read[at..end], end < read.len(), held, out, s);
         at = end + 1;
     }

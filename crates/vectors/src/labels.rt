@@ -3,7 +3,6 @@ ghost use Prim.Native.Nat.{_≤_};
 ghost use lib.ListN.{length};
 use crate::bits::double;
 use crate::bits::low_half;
-use crate::text::equal;
 use float::FloatPrettyPrinter;
 use float::Label;
 
@@ -16,7 +15,7 @@ fn ends_with(line: &[u8], text: &[u8]) -> bool {
     if line[at - 1] != b' ' {
         return false;
     }
-    equal(&line[at..], text)
+    check::same(&line[at..], text)
 }
 
 fn printed(line: &[u8], numbers: &[u64], n: usize, out: &mut [u8]) -> bool

@@ -25,152 +25,152 @@ const DIFFERS: usize = 44;
 const COMMENT: usize = 45;
 
 fn call_of(word: &[u8]) -> usize {
-    if text::equal(word, b"whole") {
+    if check::same(word, b"whole") {
         return 0;
     }
-    if text::equal(word, b"index") {
+    if check::same(word, b"index") {
         return 1;
     }
-    if text::equal(word, b"wmap") {
+    if check::same(word, b"wmap") {
         return 2;
     }
-    if text::equal(word, b"rmap") {
+    if check::same(word, b"rmap") {
         return 3;
     }
-    if text::equal(word, b"size") {
+    if check::same(word, b"size") {
         return 4;
     }
-    if text::equal(word, b"index_of") {
+    if check::same(word, b"index_of") {
         return 5;
     }
-    if text::equal(word, b"from_index") {
+    if check::same(word, b"from_index") {
         return 6;
     }
-    if text::equal(word, b"unmap") {
+    if check::same(word, b"unmap") {
         return 7;
     }
-    if text::equal(word, b"runmap") {
+    if check::same(word, b"runmap") {
         return 8;
     }
-    if text::equal(word, b"wsearch") {
+    if check::same(word, b"wsearch") {
         return 9;
     }
-    if text::equal(word, b"rsearch") {
+    if check::same(word, b"rsearch") {
         return 10;
     }
     step_call_of(word)
 }
 
 fn step_call_of(word: &[u8]) -> usize {
-    if text::equal(word, b"wstepsize") {
+    if check::same(word, b"wstepsize") {
         return 11;
     }
-    if text::equal(word, b"wstepat") {
+    if check::same(word, b"wstepat") {
         return 12;
     }
-    if text::equal(word, b"wstepidx") {
+    if check::same(word, b"wstepidx") {
         return 13;
     }
-    if text::equal(word, b"wstepmap") {
+    if check::same(word, b"wstepmap") {
         return 14;
     }
-    if text::equal(word, b"wstepread") {
+    if check::same(word, b"wstepread") {
         return 15;
     }
-    if text::equal(word, b"rstepsize") {
+    if check::same(word, b"rstepsize") {
         return 16;
     }
-    if text::equal(word, b"rstepat") {
+    if check::same(word, b"rstepat") {
         return 17;
     }
-    if text::equal(word, b"rstepidx") {
+    if check::same(word, b"rstepidx") {
         return 18;
     }
-    if text::equal(word, b"rstepmap") {
+    if check::same(word, b"rstepmap") {
         return 19;
     }
-    if text::equal(word, b"rstepread") {
+    if check::same(word, b"rstepread") {
         return 20;
     }
     segment_call_of(word)
 }
 
 fn segment_call_of(word: &[u8]) -> usize {
-    if text::equal(word, b"segsize") {
+    if check::same(word, b"segsize") {
         return 21;
     }
-    if text::equal(word, b"segat") {
+    if check::same(word, b"segat") {
         return 22;
     }
-    if text::equal(word, b"segidx") {
+    if check::same(word, b"segidx") {
         return 23;
     }
-    if text::equal(word, b"segmap") {
+    if check::same(word, b"segmap") {
         return 24;
     }
-    if text::equal(word, b"segread") {
+    if check::same(word, b"segread") {
         return 25;
     }
     step_segment_call_of(word)
 }
 
 fn step_segment_call_of(word: &[u8]) -> usize {
-    if text::equal(word, b"wsegsize") {
+    if check::same(word, b"wsegsize") {
         return 26;
     }
-    if text::equal(word, b"wsegat") {
+    if check::same(word, b"wsegat") {
         return 27;
     }
-    if text::equal(word, b"wsegidx") {
+    if check::same(word, b"wsegidx") {
         return 28;
     }
-    if text::equal(word, b"wsegmap") {
+    if check::same(word, b"wsegmap") {
         return 29;
     }
-    if text::equal(word, b"wsegread") {
+    if check::same(word, b"wsegread") {
         return 30;
     }
-    if text::equal(word, b"rsegsize") {
+    if check::same(word, b"rsegsize") {
         return 31;
     }
-    if text::equal(word, b"rsegat") {
+    if check::same(word, b"rsegat") {
         return 32;
     }
-    if text::equal(word, b"rsegidx") {
+    if check::same(word, b"rsegidx") {
         return 33;
     }
-    if text::equal(word, b"rsegmap") {
+    if check::same(word, b"rsegmap") {
         return 34;
     }
-    if text::equal(word, b"rsegread") {
+    if check::same(word, b"rsegread") {
         return 35;
     }
     list_call_of(word)
 }
 
 fn list_call_of(word: &[u8]) -> usize {
-    if text::equal(word, b"wsteplist") {
+    if check::same(word, b"wsteplist") {
         return 36;
     }
-    if text::equal(word, b"wstepmarks") {
+    if check::same(word, b"wstepmarks") {
         return 37;
     }
-    if text::equal(word, b"rsteplist") {
+    if check::same(word, b"rsteplist") {
         return 38;
     }
-    if text::equal(word, b"rstepmarks") {
+    if check::same(word, b"rstepmarks") {
         return 39;
     }
-    if text::equal(word, b"segmarks") {
+    if check::same(word, b"segmarks") {
         return 40;
     }
-    if text::equal(word, b"wsegmarks") {
+    if check::same(word, b"wsegmarks") {
         return 41;
     }
-    if text::equal(word, b"rsegmarks") {
+    if check::same(word, b"rsegmarks") {
         return 42;
     }
-    if text::equal(word, b"label") {
+    if check::same(word, b"label") {
         return LABEL;
     }
     DIFFERS
@@ -268,7 +268,7 @@ fn judge(line: &[u8], numbers: &mut [u64]) -> usize {
     if line[0] == b'#' {
         return COMMENT;
     }
-    let end = text::find(line, 0, b' ');
+    let end = bytes::scan::find(line, 0, line.len(), b' ');
     let call = call_of(&line[0..end]);
     let n = text::numbers(line, end + 1, numbers);
     if call == LABEL {
@@ -294,7 +294,7 @@ fn count(totals: &mut [u32], which: usize) {
 fn replay(s: &[u8], numbers: &mut [u64], totals: &mut [u32]) {
     let mut at = 0;
     while at < s.len() {
-        let end = text::find(s, at, b'\n');
+        let end = bytes::scan::find(s, at, s.len(), b'\n');
         count(totals, judge(&s[at..end], numbers));
         at = end + 1;
     }

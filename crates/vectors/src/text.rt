@@ -7,38 +7,6 @@ pub struct Number {
     pub next: usize,
 }
 
-// Where the first byte b is from `at` on, or the end.
-pub(crate) fn find(s: &[u8], at: usize, b: u8) -> usize
-    requires { ⌜ at ≤ length (now s) ⌝ }
-    ensures { λ r. ⌜ (at ≤ r) × (r ≤ length (now (s .entry))) ⌝ }
-{
-    let mut i = at;
-    while i < s.len() {
-        if s[i] == b {
-            return i;
-        }
-        i += 1;
-    }
-    i
-}
-
-pub(crate) fn equal(s: &[u8], t: &[u8]) -> bool {
-    if s.len() != t.len() {
-        return false;
-    }
-    let mut i = 0;
-    while i < s.len() {
-        if t.len() <= i {
-            return false;
-        }
-        if s[i] != t[i] {
-            return false;
-        }
-        i += 1;
-    }
-    true
-}
-
 // v with one digit more; v itself where that is too large for a u64.
 fn push(v: u64, digit: u8) -> u64
     requires { ⌜ digit < 10 ⌝ }

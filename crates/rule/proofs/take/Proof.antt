@@ -15,8 +15,8 @@ abbrev μ-loop : tie.MeasureT-loop
 loop-holds : tie.Need-loop-holds Inv-loop μ-loop
 loop-holds c = search needs
 
-line-end-requires : tie.Need-line-end-requires Inv-loop μ-loop
-line-end-requires c κs = search needs
+find-requires : tie.Need-find-requires Inv-loop μ-loop
+find-requires c κs = search needs
 
 sub-go-on : tie.Need-sub-go-on Inv-loop μ-loop
 sub-go-on c = search needs
@@ -55,7 +55,7 @@ take-spec =
     Inv-loop
     μ-loop
     loop-holds
-    line-end-requires
+    find-requires
     sub-go-on
     part-go-on-start
     part-go-on-end
