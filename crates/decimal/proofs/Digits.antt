@@ -1,5 +1,5 @@
 -- Base ten, a digit at a time from the right. Assumes nothing.
-use mathlib.Core.Path.{_≡_, refl, sym, ap, _∙_}
+use mathlib.Core.Path.{_≡_, refl, sym, ap, subst, _∙_}
 use mathlib.Core.Bool.{Bool, true, false, cond}
 use mathlib.Core.List.{List, [], _∷_, _++_, append-assoc, append-nil}
 use Prim.Native.Nat.{ℕ, zero, suc, _+_, _-_, _/_, _%_, _^_, _≤_, _<_}
@@ -14,6 +14,9 @@ use Rattle.decimal.specs.declared.LongText.{LongText}
 use lib.ListN.{length, set, drop, replicate, length-append, length-replicate, replicate-append-replicate}
 use lib.Seq.{set-at, drop-at}
 use Rattle.decimal.specs.Print.{digit, minus, digits, natural, decimal, filledTo, filled}
+
+pub tenth-small : (n k : ℕ) → n < 10 ^ suc k → n / 10 < 10 ^ k
+tenth-small n k h = div-lt-iff-lt-mul (zero-lt-suc 9) .1 (rw (pow-suc 10 k) at h)
 
 -- n has at most i digits
 abbrev pub small : ℕ → ℕ → Type 0
@@ -66,6 +69,18 @@ spelt-none f N h =
       blank = rw e (sym (append-nil (replicate (f + 2) 32)));
       told = rw g (append-nil (digits f N));
     }
+
+small-below : (i n : ℕ) → n < 10 ^ i → small i n
+small-below zero n h = omega (arith, h)
+small-below (suc i) n h = small-below i (n / 10) (tenth-small n i h)
+
+pub spelt-blank : (t : List ℕ) (N : ℕ) → 2 ≤ length t → t ≡ replicate (length t) 32 → N < 10 ^ (length t - 1) → Spelt (length t - 2) N (length t - 1) N t
+spelt-blank t N two e h =
+    let f = length t - 2 in
+    let i : f + 1 ≡ length t - 1 = omega (arith, two) in
+    let w : f + 2 ≡ length t = omega (arith, two) in
+    subst (λ (u : List ℕ). Spelt f N (length t - 1) N u) (ap (λ (k : ℕ). replicate k 32) w ∙ sym e)
+    (subst (λ (k : ℕ). Spelt f N k N (replicate (f + 2) 32)) i (spelt-none f N (subst (λ (k : ℕ). small k N) (sym i) (small-below (length t - 1) N h))))
 
 -- a character takes the place of the last blank
 pub set-blank : (i d : ℕ) (u : List ℕ) → set (replicate (i + 1) 32 ++ u) i d ≡ replicate i 32 ++ (d ∷ u)
@@ -151,9 +166,6 @@ pub unfilled-to : (w : ℕ) (t : List ℕ) → drop (w - length t) (filledTo w t
 unfilled-to w t = drop-at (replicate (w - length t) 32) t (w - length t) (length-replicate {A = ℕ} (w - length t) 32)
 
 -- ---- enough digits: a number below 10 ^ k has at most k, and more fuel than it needs changes nothing
-pub tenth-small : (n k : ℕ) → n < 10 ^ suc k → n / 10 < 10 ^ k
-tenth-small n k h = div-lt-iff-lt-mul (zero-lt-suc 9) .1 (rw (pow-suc 10 k) at h)
-
 pub digits-fuel : (f n : ℕ) → n < 10 ^ suc f → digits f n ≡ digits (suc f) n
 unfolding digits
 digits-fuel zero n h = rw (lt-ltb n 10 h)

@@ -1,7 +1,7 @@
 -- Whole numbers in base ten: 01 "Ruler bytes" for labels, and the lines of the ruler program in 01 "From the drafting table". A text is
 -- a list of bytes. Assumes nothing.
 use Prim.Native.Nat.{ℕ, zero, suc, _+_, _-_, _/_, _%_}
-use mathlib.Core.Bool.{cond}
+use mathlib.Core.Bool.{Bool, cond}
 use mathlib.Core.List.{List, [], _∷_, _++_}
 use lib.Dec.{ltb}
 use lib.IntN.{ℤ, pos, negsuc}
@@ -31,6 +31,10 @@ natural n = digits 9 n
 -- and twenty for every number of 64 bits
 abbrev pub longNatural : ℕ → List ℕ
 longNatural n = digits 19 n
+
+-- a minus sign in front of the digits, where it is asked for
+abbrev pub signedDigits : Bool → ℕ → ℕ → List ℕ
+signedDigits negative f n = cond negative (minus ∷ digits f n) (digits f n)
 
 -- a minus sign in front of a negative number, and only there
 abbrev pub decimal : ℤ → List ℕ

@@ -1,11 +1,11 @@
 // Whole numbers in base ten, as labels have them, and their reader.
 ghost use mathlib.Core.Path.{_≡_};
-ghost use Prim.Native.Nat.{_-_, _≤_};
+ghost use Prim.Native.Nat.{_-_, _^_, _≤_, _<_};
 ghost use mathlib.Core.Bool.{cond};
-ghost use lib.ListN.{length, drop};
+ghost use lib.ListN.{length, drop, replicate};
 ghost use lib.IntN.{pos, negℤ};
 ghost use mathlib.Core.List.{_∷_};
-ghost use Rattle.decimal.specs.Print.{minus, natural, longNatural, decimal, textOf, longTextOf};
+ghost use Rattle.decimal.specs.Print.{minus, blank, natural, longNatural, signedDigits, decimal, filledTo, textOf, longTextOf};
 ghost use Rattle.decimal.specs.Read.{valueOf, sameBytes, readI32, readU32, tellWhole, tellNatural};
 ghost use Rattle.decimal.specs.Steps.{keepI32, keepPrinted};
 
@@ -31,12 +31,15 @@ pub enum Natural {
     Nothing,
 }
 
-// The digits of size, and a minus sign in front of them where it is asked for. Ten digits and the sign fill the text at most.
-fn spell(negative: bool, size: u32) -> Text
-    ensures { λ r. ⌜ r ≡ textOf (cond negative (minus ∷ natural size) (natural size)) ⌝ }
+// The digits of size at the end of a blank text, and a minus sign in front of them where it is asked for, also in front of a zero. Returns how many
+// blanks are left. There is room for every digit and the sign.
+fn spell_into(t: &mut [u8], negative: bool, size: u64) -> usize
+    requires { ⌜ 2 ≤ length (now t) ⌝ }
+    requires { ⌜ now t ≡ replicate (length (now t)) blank ⌝ }
+    requires { ⌜ size < 10 ^ (length (now t) - 1) ⌝ }
+    ensures { λ r. ⌜ (now (t .exit) ≡ filledTo (length (now (t .entry))) (signedDigits negative (length (now (t .entry)) - 2) size)) × (r ≡ length (now (t .entry)) - length (signedDigits negative (length (now (t .entry)) - 2) size)) ⌝ }
 {
-    let mut t = [32u8; 11];
-    let mut i: usize = 10;
+    let mut i = t.len() - 1;
     let mut n = size;
     while 9 < n {
         t[i] = 48 + (n % 10) as u8;
@@ -46,15 +49,18 @@ fn spell(negative: bool, size: u32) -> Text
     t[i] = 48 + n as u8;
     if negative {
         t[i - 1] = 45;
-        return Text {
-            bytes: t,
-            blanks: i - 1,
-        };
+        return i - 1;
     }
-    Text {
-        bytes: t,
-        blanks: i,
-    }
+    i
+}
+
+// The digits of size, with a minus sign where it is asked for. Ten digits and the sign fill the text at most.
+fn spell(negative: bool, size: u32) -> Text
+    ensures { λ r. ⌜ r ≡ textOf (signedDigits negative 9 size) ⌝ }
+{
+    let mut bytes = [32u8; 11];
+    let blanks = spell_into(&mut bytes, negative, size as u64);
+    Text { bytes, blanks }
 }
 
 // The label of v.
@@ -71,30 +77,13 @@ pub fn natural_label(n: u32) -> Text
     spell(false, n)
 }
 
-// The digits of a size of up to 64 bits, and a minus sign in front of them where it is asked for, also in front of a zero.
+// The same of a size of up to 64 bits: twenty digits and the sign.
 pub fn long_label(negative: bool, size: u64) -> LongText
     ensures { λ r. ⌜ r ≡ longTextOf (cond negative (minus ∷ longNatural size) (longNatural size)) ⌝ }
 {
-    let mut t = [32u8; 21];
-    let mut i: usize = 20;
-    let mut n = size;
-    while 9 < n {
-        t[i] = 48 + (n % 10) as u8;
-        n /= 10;
-        i -= 1;
-    }
-    t[i] = 48 + n as u8;
-    if negative {
-        t[i - 1] = 45;
-        return LongText {
-            bytes: t,
-            blanks: i - 1,
-        };
-    }
-    LongText {
-        bytes: t,
-        blanks: i,
-    }
+    let mut bytes = [32u8; 21];
+    let blanks = spell_into(&mut bytes, negative, size);
+    LongText { bytes, blanks }
 }
 
 // What the bytes from `at` on stand for if they are digits. Eleven bytes at most, so that the number stays far below 2^63.
