@@ -13,8 +13,9 @@ use lib.ListN.{length, getD, drop, length-append, List·getD-append}
 use mir.Syntax.{w32}
 use mir.Val.{SFits}
 use Rattle.ranged1d.specs.Answer.{given, none}
+use Rattle.ranged1d.specs.Numbers.{isI32}
 use Rattle.decimal.specs.Print.{digit, digits, natural, decimal, filled}
-use Rattle.decimal.specs.Read.{valueOf, signedValue, sameBytes, isI32, readI32, readU32}
+use Rattle.decimal.specs.Read.{valueOf, signedValue, sameBytes, readI32, readU32}
 use Rattle.decimal.specs.Steps.{keepI32, keepPrinted}
 use Rattle.decimal.proofs.Digits.{digits-most, decimal-most, unfilled-to}
 use Rattle.decimal.proofs.Texts.{same-self, same-equal}

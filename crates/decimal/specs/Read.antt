@@ -4,9 +4,9 @@ use Prim.Native.Nat.{ℕ, _+_, _-_, _*_}
 use mathlib.Core.Bool.{Bool, true, false, cond, _&&_}
 use mathlib.Core.List.{List, [], _∷_}
 use lib.Dec.{leb, eqb}
-use lib.IntN.{ℤ, pos, negsuc, negℤ}
-use lib.Signed.{leZ}
+use lib.IntN.{ℤ, pos, negℤ}
 use Rattle.ranged1d.specs.Answer.{Answer, given, none}
+use Rattle.ranged1d.specs.Numbers.{isI32}
 use Rattle.decimal.specs.Print.{minus, natural, decimal}
 use Rattle.decimal.specs.declared.Whole.{Whole}
 use Rattle.decimal.specs.declared.Whole.the-variants as whole-is
@@ -28,9 +28,6 @@ sameBytes [] [] = true
 sameBytes [] (y ∷ ys) = false
 sameBytes (x ∷ xs) [] = false
 sameBytes (x ∷ xs) (y ∷ ys) = eqb x y && sameBytes xs ys
-
-abbrev pub isI32 : ℤ → Bool
-isI32 z = leZ (negsuc 2_147_483_647) z && leZ z (pos 2_147_483_647)
 
 -- a text is read as the number that is printed so; every other text, and a number outside the type, is none
 unfoldable pub readI32 : List ℕ → Answer ℤ

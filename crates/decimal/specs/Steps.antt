@@ -4,8 +4,9 @@ use mathlib.Core.Bool.{cond}
 use mathlib.Core.List.{List}
 use lib.IntN.{ℤ}
 use Rattle.ranged1d.specs.Answer.{Answer, given, none, refused}
+use Rattle.ranged1d.specs.Numbers.{isI32}
 use Rattle.decimal.specs.Print.{decimal}
-use Rattle.decimal.specs.Read.{isI32, sameBytes}
+use Rattle.decimal.specs.Read.{sameBytes}
 
 abbrev pub keepI32 : ℤ → Answer ℤ
 keepI32 z = cond (isI32 z) (given z) none

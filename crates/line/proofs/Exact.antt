@@ -10,8 +10,9 @@ use lib.Dec.{ltb, eqb}
 use lib.IntN.{ℤ, pos, negsuc}
 use lib.ListN.{length, drop, length-append}
 use Rattle.ranged1d.specs.Answer.{Answer, given, none, refused}
+use Rattle.ranged1d.specs.Numbers.{isI32}
 use Rattle.decimal.specs.Print.{digit, digits, natural, decimal}
-use Rattle.decimal.specs.Read.{isI32, sameBytes, readI32, readU32}
+use Rattle.decimal.specs.Read.{sameBytes, readI32, readU32}
 use Rattle.decimal.proofs.Texts.{same-self, same-equal}
 use Rattle.decimal.proofs.Reader.{reads-i32, reads-u32, printed-i32, printed-u32}
 use Rattle.line.specs.declared.Request.{Request}

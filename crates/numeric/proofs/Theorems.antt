@@ -13,10 +13,11 @@ use lib.IntN.{ℤ, pos, negsuc, negℤ, natAbs, _*ℤ_}
 use lib.ListN.{length, getD}
 use lib.Signed.{leZ, _≤ℤ_}
 use Rattle.ranged1d.specs.Answer.{given, none}
+use Rattle.ranged1d.specs.Numbers.{isI32}
 use Rattle.ranged1d.proofs.Whole.{neg-times}
 use Rattle.numeric.specs.declared.KeyPoints.{KeyPoints}
 use Rattle.numeric.specs.Marks.{low, high, firstIndex, lastIndex, howMany, multiple, ceilDiv, stepOf, marksFor, marks}
-use Rattle.numeric.specs.Calls.{wholePlan, element, isI32, pointAt, indexMarks}
+use Rattle.numeric.specs.Calls.{wholePlan, element, pointAt, indexMarks}
 use Rattle.numeric.proofs.Signs.{yes-le, le-yes, neg-order, below-all}
 use Rattle.numeric.proofs.Lists.{entry, list-ext, map-list}
 use Rattle.numeric.proofs.Plans.{planned-good, low-pos}

@@ -4,12 +4,12 @@ use Prim.Native.Nat.{ℕ}
 use mathlib.Core.Bool.{Bool, cond, not, _&&_}
 use mathlib.Core.List.{List, [], _∷_, map}
 use lib.Dec.{ltb}
-use lib.IntN.{ℤ, pos, negsuc, natAbs, _+ℤ_, _*ℤ_}
+use lib.IntN.{ℤ, pos, natAbs, _+ℤ_, _*ℤ_}
 use lib.ListN.{length}
-use lib.Signed.{leZ}
 use Rattle.ranged1d.specs.Answer.{Answer, given, none, refused, _when_, lowest, written}
 use Rattle.ranged1d.specs.Refusals.{numberOf}
 use Rattle.ranged1d.specs.Admitted.{wholeAdmitted, indexAdmitted}
+use Rattle.ranged1d.specs.Numbers.{isI32}
 use Rattle.numeric.specs.declared.KeyPoints.{KeyPoints}
 use Rattle.numeric.specs.declared.Marks.{Marks}
 use Rattle.numeric.specs.declared.Marks.the-variants as marks-are
@@ -68,9 +68,6 @@ wholePlan a b m = lowest (1 when not (wholeAdmitted a && wholeAdmitted b) ∷ 3 
 -- ---- KeyPoints
 -- `get`: mark i, counted from 0; none from the count on. A value of the struct that no plan gives may lead past the range of an i32:
 -- none there too.
-abbrev pub isI32 : ℤ → Bool
-isI32 z = leZ (negsuc 2_147_483_647) z && leZ z (pos 2_147_483_647)
-
 abbrev pub element : ℤ → ℤ → ℕ → ℤ
 element first step i = first +ℤ pos i *ℤ step
 

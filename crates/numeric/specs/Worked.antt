@@ -4,8 +4,9 @@ use Prim.Native.Nat.{ℕ}
 use mathlib.Core.Bool.{Bool, true, false, _&&_}
 use mathlib.Core.List.{List, [], _∷_}
 use lib.Dec.{eqb}
-use lib.IntN.{ℤ, pos, negsuc, negℤ}
+use lib.IntN.{ℤ, pos, negℤ}
 use Rattle.ranged1d.specs.Answer.{Answer, given, none, refused}
+use Rattle.ranged1d.specs.Numbers.{eqZ}
 use Rattle.numeric.specs.Marks.{stepOf, marks}
 use Rattle.numeric.specs.Calls.{wholePlan}
 
@@ -22,12 +23,6 @@ pub record Row : Type 0 where
   pub says : Says
 
 -- a row holds: the call accepts or refuses as the row has it, with that step, and with those marks and no others
-abbrev pub eqZ : ℤ → ℤ → Bool
-eqZ (pos x) (pos y) = eqb x y
-eqZ (pos x) (negsuc y) = false
-eqZ (negsuc x) (pos y) = false
-eqZ (negsuc x) (negsuc y) = eqb x y
-
 abbrev pub sameList : List ℤ → List ℤ → Bool
 sameList [] [] = true
 sameList [] (y ∷ ys) = false

@@ -1,3 +1,4 @@
 pub mod Answer
 pub mod Refusals
 pub mod Admitted
+pub mod Numbers

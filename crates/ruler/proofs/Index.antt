@@ -8,9 +8,10 @@ use native.Mathlib.Decide.{decLt}
 use native.Mathlib.Omega.{arith}
 use lib.IntN.{ℤ}
 use lib.ListN.{length}
+use Rattle.ranged1d.specs.Numbers.{eqZ}
 use Rattle.numeric.specs.Marks.{listOf}
 use Rattle.numeric.proofs.Lists.{length-of}
-use Rattle.ruler.specs.Rule.{eqZ, indexOf}
+use Rattle.ruler.specs.Rule.{indexOf}
 use Rattle.ruler.proofs.Numbers.{eqZ-same, eqZ-other, eqZ-true}
 
 -- where it is not in the first list, it is looked for in the second

@@ -10,6 +10,7 @@ use lib.IntN.{ℤ}
 use lib.ListN.{length, take, drop, replicate, length-replicate}
 use lib.Seq.{drop-drop, drop-at}
 use borrow.Author.Tests.{ltb-true, lt-ltb, le-ltb}
+use Rattle.ranged1d.specs.Numbers.{eqZ}
 use Rattle.ranged1d.proofs.Bools.{both-true}
 use Rattle.numeric.specs.declared.KeyPoints.{KeyPoints}
 use Rattle.numeric.specs.Marks.{listOf}
@@ -21,7 +22,7 @@ use Rattle.ruler.specs.declared.Draft.{Draft}
 use Rattle.ruler.specs.declared.Part.{Part}
 use Rattle.ruler.specs.Bytes.{whole, mark, markBody, laid}
 use Rattle.ruler.specs.Place.{placeOf}
-use Rattle.ruler.specs.Rule.{markAt, aIn, bIn, limitIn, mIn, marksIn, isRuler, eqZ, indexOf, hasMark, recordText, labelText, recordAt, labelAt, nowhere, recordIn, labelIn, part, further}
+use Rattle.ruler.specs.Rule.{markAt, aIn, bIn, limitIn, mIn, marksIn, isRuler, indexOf, hasMark, recordText, labelText, recordAt, labelAt, nowhere, recordIn, labelIn, part, further}
 use Rattle.ruler.specs.Steps.{Inside, draftIn}
 use Rattle.ruler.proofs.Numbers.{eqZ-same, eqZ-true}
 use Rattle.ruler.proofs.Lists.{drop-take}

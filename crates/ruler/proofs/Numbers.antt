@@ -11,7 +11,7 @@ use borrow.Author.Tests.{ltb-true, eq-eqb, ne-eqb, eqb-true}
 use mir.Facts.{toZ-neg, toZ-ofZ, fits-ofZ}
 use mir.Syntax.{w32}
 use mir.Val.{bits, hbits, ofZ, toZ, SFits}
-use Rattle.ruler.specs.Rule.{eqZ}
+use Rattle.ranged1d.specs.Numbers.{eqZ}
 
 pub bits-below : (z : ℤ) → ltZ z (pos 0) ≡ true → (0 < natAbs z) × (4294967295 - (natAbs z - 1) ≡ ofZ w32 z)
 bits-below (pos n) h = absurd (omega (arith, ltb-true n 0 h))

@@ -1,15 +1,16 @@
 -- Rulers: what the writer gives, what the reader takes, and the two look-ups, on every input. 01 "Ruler bytes", with the refusals of 01
 -- "Why a call stops". Assumes nothing.
 use Prim.Native.Nat.{ℕ, suc, _+_, _-_, _*_}
-use mathlib.Core.Bool.{Bool, false, cond, not, _&&_}
+use mathlib.Core.Bool.{Bool, cond, not, _&&_}
 use mathlib.Core.List.{List, [], _∷_, map}
-use lib.Dec.{ltb, eqb}
-use lib.IntN.{ℤ, pos, negsuc}
+use lib.Dec.{ltb}
+use lib.IntN.{ℤ, pos}
 use lib.ListN.{length, take, drop}
 use lib.Signed.{ltZ}
 use Rattle.ranged1d.specs.Answer.{Answer, given, refused, _when_, lowest, written}
 use Rattle.ranged1d.specs.Refusals.{numberOf}
 use Rattle.ranged1d.specs.Admitted.{wholeAdmitted, limitAdmitted}
+use Rattle.ranged1d.specs.Numbers.{eqZ}
 use Rattle.ranged1d.specs.declared.Limit.{Limit}
 use Rattle.numeric.specs.declared.KeyPoints.{KeyPoints}
 use Rattle.numeric.specs.Marks.{noStep, stepOf, marks}
@@ -112,12 +113,6 @@ rulerRead l =
     }))
 
 -- ---- 01 "Ruler bytes": the look-ups
-abbrev pub eqZ : ℤ → ℤ → Bool
-eqZ (pos x) (pos y) = eqb x y
-eqZ (pos x) (negsuc y) = false
-eqZ (negsuc x) (pos y) = false
-eqZ (negsuc x) (negsuc y) = eqb x y
-
 -- where v stands first in a list; the list's length if it does not
 abbrev pub indexOf : ℤ → List ℤ → ℕ
 indexOf v [] = 0
