@@ -1,5 +1,5 @@
 -- The reader: its rule by steps, and that printing and reading undo each other. Assumes nothing.
-use mathlib.Core.Path.{_≡_, refl, sym, ap, _∙_, subst}
+use mathlib.Core.Path.{_≡_, refl, ap, _∙_, subst}
 use mathlib.Core.Bool.{Bool, true, false, cond, _&&_}
 use mathlib.Core.List.{List, [], _∷_, _++_}
 use mathlib.Core.Logic.{_⊎_, inl, inr}
@@ -14,11 +14,13 @@ use mir.Syntax.{w32}
 use mir.Val.{SFits}
 use Rattle.ranged1d.specs.Answer.{given, none}
 use Rattle.ranged1d.specs.Numbers.{isI32}
+use Rattle.ranged1d.proofs.Answers.{choice}
+use Rattle.ranged1d.proofs.Bools.{both-true}
 use Rattle.decimal.specs.Print.{digit, digits, natural, decimal, filled}
 use Rattle.decimal.specs.Read.{valueOf, signedValue, sameBytes, readI32, readU32}
 use Rattle.decimal.specs.Steps.{keepI32, keepPrinted}
 use Rattle.decimal.proofs.Digits.{digits-most, decimal-most, unfilled-to}
-use Rattle.decimal.proofs.Texts.{same-self, same-equal}
+use Rattle.decimal.proofs.Texts.{same-self, same-equal, same-no}
 
 -- ---- what is an i32
 pub minus-i32 : (n : ℕ) → n ≤ 2147483648 → isI32 (negℤ (pos n)) ≡ true
@@ -51,13 +53,6 @@ decimal-some (negsuc n) = omega arith
 pub unfilled : (t : List ℕ) → drop (11 - length t) (filled t) ≡ t
 unfilled = unfilled-to 11
 
-differ : (l k : List ℕ) → (length l ≡ length k → ⊥) → sameBytes l k ≡ false
-differ l k f = go (sameBytes l k) refl
-  where
-    go : (t : Bool) → sameBytes l k ≡ t → t ≡ false
-    go true e = absurd (f (ap length (same-equal l k e)))
-    go false e = refl
-
 -- a test that fails leaves none
 fails : {A : Type 0} (t u : Bool) (a : A) → u ≡ false → cond (t && u) (given a) none ≡ none
 fails true u a e = rw e
@@ -66,7 +61,7 @@ fails false u a e = refl
 -- bytes that are too few or too many are printed of no number
 pub no-i32 : (s : List ℕ) → (length s ≡ 0) ⊎ (11 < length s) → readI32 s ≡ none
 unfolding readI32
-no-i32 s w = fails (isI32 (signedValue s)) (sameBytes s (decimal (signedValue s))) (signedValue s) (differ s (decimal (signedValue s)) (off w))
+no-i32 s w = fails (isI32 (signedValue s)) (sameBytes s (decimal (signedValue s))) (signedValue s) (same-no s (decimal (signedValue s)) (λ e. off w (ap length e)))
   where
     off : (length s ≡ 0) ⊎ (11 < length s) → length s ≡ length (decimal (signedValue s)) → ⊥
     off (inl e) q = omega (arith, decimal-some (signedValue s))
@@ -74,7 +69,7 @@ no-i32 s w = fails (isI32 (signedValue s)) (sameBytes s (decimal (signedValue s)
 
 pub no-u32 : (s : List ℕ) → 11 < length s → readU32 s ≡ none
 unfolding readU32
-no-u32 s h = fails (leb (valueOf 0 s) 4294967295) (sameBytes s (natural (valueOf 0 s))) (valueOf 0 s) (differ s (natural (valueOf 0 s)) (λ q. omega (arith, digits-most 9 (valueOf 0 s))))
+no-u32 s h = fails (leb (valueOf 0 s) 4294967295) (sameBytes s (natural (valueOf 0 s))) (valueOf 0 s) (same-no s (natural (valueOf 0 s)) (λ e. omega (arith, ap length e, digits-most 9 (valueOf 0 s))))
 
 -- ---- the rule by steps: the value, whether it is an i32, whether it is printed so
 pub i32-by-steps : (s : List ℕ) → keepPrinted s (keepI32 (signedValue s)) ≡ readI32 s
@@ -133,15 +128,7 @@ unfolding readU32
 reads-u32 n h = rw (value-digits 9 n, le-leb n 4294967295 h, same-self (natural n))
 
 holds : {A : Type 0} (t u : Bool) (a b : A) → cond (t && u) (given a) none ≡ given b → (t ≡ true) × (u ≡ true) × (a ≡ b)
-holds true true a b e = (refl, refl, (cc))
-holds true false a b e = absurd (apart (sym e))
-  where
-    apart : given b ≡ none → ⊥
-    apart q = let z : _≡_ {A = ℕ} 0 1 = cc in omega arith
-holds false u a b e = absurd (apart (sym e))
-  where
-    apart : given b ≡ none → ⊥
-    apart q = let z : _≡_ {A = ℕ} 0 1 = cc in omega arith
+holds t u a b e = let h = choice (t && u) a b e in let s = both-true t u (h .0) in (s .0, s .1, h .1)
 
 pub printed-i32 : (s : List ℕ) (z : ℤ) → readI32 s ≡ given z → (isI32 z ≡ true) × (s ≡ decimal z)
 unfolding readI32

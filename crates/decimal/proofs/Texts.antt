@@ -1,6 +1,6 @@
 -- Texts: when two are the same, and that the value of a short one stays small. Assumes nothing.
 use mathlib.Core.Path.{_≡_, refl, sym, ap₂, subst}
-use mathlib.Core.Bool.{Bool, true, false, _&&_}
+use mathlib.Core.Bool.{Bool, true, false, true≢false, _&&_}
 use mathlib.Core.List.{List, [], _∷_}
 use Prim.Native.Nat.{ℕ, zero, suc, _+_, _-_, _*_, _≤_, _<_}
 use native.Mathlib.Omega.{arith}
@@ -28,14 +28,20 @@ same-equal (x ∷ xs) (y ∷ ys) e = go (eqb x y) refl e (same-equal xs ys)
     go true q e r = ap₂ (λ (z : ℕ) (zs : List ℕ). z ∷ zs) (eqb-true x y q) (r e)
     go false q e r = absurd (subst T (sym e) tt)
 
+pub same-yes : (l k : List ℕ) → l ≡ k → sameBytes l k ≡ true
+same-yes l k e = rw e (same-self k)
+
+pub same-no : (l k : List ℕ) → (l ≡ k → ⊥) → sameBytes l k ≡ false
+same-no l k f = go (sameBytes l k) refl
+  where
+    go : (t : Bool) → sameBytes l k ≡ t → t ≡ false
+    go true e = absurd (f (same-equal l k e))
+    go false e = refl
+
 -- a test that is true exactly where they are equal
 pub same-is : (r : Bool) (l k : List ℕ) → (r ≡ true → l ≡ k) → (l ≡ k → r ≡ true) → r ≡ sameBytes l k
-same-is true l k f g = sym (subst (λ (j : List ℕ). sameBytes l j ≡ true) (f refl) (same-self l))
-same-is false l k f g = go (sameBytes l k) refl
-  where
-    go : (t : Bool) → sameBytes l k ≡ t → false ≡ t
-    go true e = g (same-equal l k e)
-    go false e = refl
+same-is true l k f g = sym (same-yes l k (f refl))
+same-is false l k f g = sym (same-no l k (λ e. true≢false (sym (g e))))
 
 -- ---- with r bytes more to come, each at most 207 away from the byte of 0, a value stays within 10^14
 abbrev pub Room : ℕ → ℕ → Type 0

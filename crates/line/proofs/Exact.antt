@@ -11,6 +11,7 @@ use lib.IntN.{ℤ, pos, negsuc}
 use lib.ListN.{length, drop, length-append}
 use Rattle.ranged1d.specs.Answer.{Answer, given, none, refused}
 use Rattle.ranged1d.specs.Numbers.{isI32}
+use Rattle.ranged1d.proofs.Answers.{not-both, not-none, choice}
 use Rattle.decimal.specs.Print.{digit, digits, natural, decimal}
 use Rattle.decimal.specs.Read.{sameBytes, readI32, readU32}
 use Rattle.decimal.proofs.Texts.{same-self, same-equal}
@@ -70,12 +71,8 @@ split (c ∷ cs) h = go (eqb c 32) refl h (split cs)
 -- ---- what was given came from its parts
 then-given : {A B : Type 0} (x : Answer A) (f : A → Answer B) (b : B) → andThen x f ≡ given b → (a : A) × (x ≡ given a) × (f a ≡ given b)
 then-given (given a) f b e = (a, refl, e)
-then-given none f b e = absurd (let z : _≡_ {A = ℕ} 0 1 = cc in omega arith)
-then-given (refused n) f b e = absurd (let z : _≡_ {A = ℕ} 0 1 = cc in omega arith)
-
-choice : {A : Type 0} (t : Bool) (a b : A) → cond t (given a) none ≡ given b → (t ≡ true) × (a ≡ b)
-choice true a b e = (refl, (cc))
-choice false a b e = absurd (let z : _≡_ {A = ℕ} 0 1 = cc in omega arith)
+then-given none f b e = absurd (not-none e)
+then-given (refused n) f b e = absurd (not-both (sym e))
 
 field-is : (s : List ℕ) (f : List ℕ × List ℕ) → field s ≡ given f → s ≡ f .0 ++ (32 ∷ f .1)
 field-is s f e =

@@ -1,21 +1,18 @@
 -- 01 "Mirroring, real reading, stepped axes": a stepped list has no entry or at least two, and b is none of them. Assumes nothing.
 use mathlib.Core.Path.{_≡_, refl, sym, ap, subst, _∙_}
 use mathlib.Core.Logic.{_⊎_, inl, inr}
-use mathlib.Core.Bool.{Bool, true, false, cond, true≢false, _&&_}
+use mathlib.Core.Bool.{Bool, true, false, cond, true≢false}
 use mathlib.Core.List.{List, []}
 use Prim.Native.Nat.{ℕ, suc, _≤_, _<_}
 use native.Mathlib.Omega.{arith}
 use lib.IntN.{ℤ}
 use lib.ListN.{length, getD}
 use lib.Ieee.{Float}
+use Rattle.ranged1d.proofs.Bools.{both-true}
 use Rattle.search.proofs.RealOrder.{real-order}
 use Rattle.search.proofs.WholeOrder.{whole-order}
 use Rattle.linspace.specs.List.{Kind, whole, real, entries, most, toward, upward, downward, run, stepped}
 use Rattle.linspace.proofs.Walks.{entries-on, entry-is, entry-passes}
-
-both : (x y : Bool) → (x && y) ≡ true → (x ≡ true) × (y ≡ true)
-both true y h = (refl, h)
-both false y h = absurd (true≢false (sym h))
 
 module _ {A : Type 0} (kind : Kind A) (a b d : A) where
   abbrev next : A → A
@@ -34,8 +31,8 @@ module _ {A : Type 0} (kind : Kind A) (a b d : A) where
   by-way P f e = go (upward kind a b d) refl (downward kind a b d) refl
     where
       go : (u : Bool) → upward kind a b d ≡ u → (w : Bool) → downward kind a b d ≡ w → P (cond u (run kind a b d true) (cond w (run kind a b d false) []))
-      go true h w k = let s = both (kind .numbers .less a b) (kind .numbers .less (next a) b) h in f true (s .0) (s .1)
-      go false h true k = let s = both (kind .numbers .less b a) (kind .numbers .less b (next a)) k in f false (s .0) (s .1)
+      go true h w k = let s = both-true (kind .numbers .less a b) (kind .numbers .less (next a) b) h in f true (s .0) (s .1)
+      go false h true k = let s = both-true (kind .numbers .less b a) (kind .numbers .less b (next a)) k in f false (s .0) (s .1)
       go false h false k = e
 
   pub none-or-two : (length (stepped kind a b d) ≡ 0) ⊎ (2 ≤ length (stepped kind a b d))

@@ -10,7 +10,7 @@ use lib.IntN.{ℤ}
 use lib.ListN.{length, getD}
 use lib.Ieee.{Float, nan, inf, fin, binary64, fits, isNan, add, lt, le, eq}
 use Rattle.ranged1d.specs.Answer.{Answer, refused, _when_, lowest}
-use Rattle.ranged1d.proofs.Bools.{both-false}
+use Rattle.ranged1d.proofs.Bools.{both-false, or-right}
 use Rattle.real.proofs.Exact.{eq-self}
 use Rattle.real.proofs.Signs.{zeroOf, zeros-equal}
 use Rattle.search.specs.Search.{reals}
@@ -114,11 +114,7 @@ module _ (a b d : Float) where
       where
         go : (t : Bool) → ascends (search-steps.toward t lt) l ≡ true → (ascends lt l || ascends (λ x y. lt y x) l) ≡ true
         go true h = rw h refl
-        go false h = either (ascends lt l) h
-          where
-            either : (t : Bool) → ascends (λ x y. lt y x) l ≡ true → (t || ascends (λ x y. lt y x) l) ≡ true
-            either true h = refl
-            either false h = h
+        go false h = or-right (ascends lt l) (ascends (λ x y. lt y x) l) h
 
     -- a NaN
     pub index-nan : (v : Float) (method : RoundingMethod) → v ≡ nan → settledNan method (length l) ≡ stepIndexOf real a b d v method

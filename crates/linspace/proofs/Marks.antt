@@ -13,6 +13,7 @@ use lib.Dec.{leb, eqb, leb·zero}
 use lib.IntN.{ℤ, pos, natAbs, _*ℤ_}
 use lib.ListN.{length, drop, getD}
 use Rattle.ranged1d.specs.Answer.{Answer, given, refused}
+use Rattle.ranged1d.proofs.Answers.{not-both}
 use Rattle.numeric.specs.declared.KeyPoints.{KeyPoints}
 use Rattle.numeric.specs.Marks.{low, high, distance, chosen, stepAt, firstIndex, lastIndex, howMany, ceilDiv, listOf, multiple, multiples, noStepFor, stepFor, marksFor}
 use Rattle.numeric.specs.Calls.{wholePlan, planOf}
@@ -54,10 +55,7 @@ plan-is h m near some = rw (le-leb h 1000000000 near, served) refl
         go (no g) = absurd (neither (none-served d m (omega (arith, apart h, near)) (omega (arith, g))))
 
 pub plan-given : (h m : ℕ) → h ≤ 1000000000 → 0 < m → {r : ℕ} → wholePlan (pos 0) (pos h) m ≡ refused r → ⊥
-plan-given h m near some {r} e = never (sym (plan-is h m near some) ∙ e)
-  where
-    never : given (planOf (pos 0) (pos h) m) ≡ refused r → ⊥
-    never e = let z : _≡_ {A = ℕ} 0 1 = cc in omega (arith, z)
+plan-given h m near some e = not-both (sym (plan-is h m near some) ∙ e)
 
 -- and every mark lies on it
 inside : (lo hi : ℤ) (s h k : ℕ) → lo ≡ pos 0 → hi ≡ pos h → 0 < s → k < length (multiples (firstIndex lo s) (lastIndex hi s) s) → natAbs (firstIndex lo s *ℤ pos s) + k * s ≤ h

@@ -19,7 +19,7 @@ use lib.Ieee.Fits.{up-pos, down-pos, and-l, and-r, neg-fits, add-fits}
 use lib.Ieee.Order.{round-mono, le-of-values}
 use Rattle.rounding.proofs.Order.{eq-zero}
 use Rattle.rounding.proofs.Signs.{round-neg}
-use Rattle.real.proofs.Signs.{zeroOf, Alike, same-through, turns-alike, add-turns}
+use Rattle.real.proofs.Signs.{zeroOf, Alike, neg-zero, same-through, turns-alike, add-turns}
 use Rattle.search.proofs.RealOrder.{never, real-order, lt-neg}
 use Rattle.search.proofs.Mirror.{lt-zero}
 
@@ -257,13 +257,9 @@ never-back (fin s m e) (fin true n d) f h = never h
 never-back (fin s m e) (fin false n d) f h = sum-back s m e f (down d) (n * up d * down e) (down-pos d)
 
 -- ---- downward, by the mirror
-neg-zero : neg (zeroOf false) ≡ zeroOf true
-unfolding neg
-neg-zero = refl
-
 -- a sum with a negative number is never more
 pub never-on : (x d : Float) → T (fits binary64 x) → lt d (zeroOf false) ≡ true → lt x (add binary64 x d) ≡ false
 never-on x d f h =
     sym (lt-neg (add binary64 x d) x)
     ∙ sym (same-through (λ (z : Float). lt z (neg x)) (lt-zero (neg x)) (turns-alike (add-turns x d)))
-    ∙ never-back (neg x) (neg d) (neg-fits binary64 x f) (lt-zero (neg d) false true ∙ ap (λ (z : Float). lt z (neg d)) (sym neg-zero) ∙ lt-neg (zeroOf false) d ∙ h)
+    ∙ never-back (neg x) (neg d) (neg-fits binary64 x f) (lt-zero (neg d) false true ∙ ap (λ (z : Float). lt z (neg d)) (sym (neg-zero false)) ∙ lt-neg (zeroOf false) d ∙ h)

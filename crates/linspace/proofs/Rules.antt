@@ -3,7 +3,6 @@ use mathlib.Core.Path.{_≡_, refl, sym, ap, _∙_}
 use mathlib.Core.Bool.{Bool, true, false, not, _&&_, _||_}
 use mathlib.Core.List.{List, [], _∷_, _++_}
 use Prim.Native.Nat.{ℕ, _≤_, _<_}
-use native.Mathlib.Omega.{arith}
 use borrow.Author.Tests.{lt-ltb, le-ltb}
 use lib.Dec.{ltb, eqb}
 use lib.IntN.{ℤ}
@@ -11,6 +10,7 @@ use lib.ListN.{length, drop}
 use Rattle.ranged1d.specs.Answer.{Answer, given, none, refused, _when_, lowest, written}
 use Rattle.ranged1d.specs.Admitted.{pixelAdmitted, limitAdmitted}
 use Rattle.ranged1d.specs.declared.Limit.{Limit}
+use Rattle.ranged1d.proofs.Answers.{given-is, not-both}
 use Rattle.discrete.specs.Index.{pixelIndex}
 use Rattle.real.specs.Place.{isBeyond, number}
 use Rattle.search.specs.declared.RoundingMethod.{RoundingMethod}
@@ -31,12 +31,6 @@ placeListed (given z) counts = onceListed counts (given z)
 placeListed none counts = none
 placeListed (refused n) counts = refused n
 
-given-is : {x y : ℕ} → _≡_ {A = Answer ℕ} (given x) (given y) → x ≡ y
-given-is e = cc
-
-not-both : (m n : ℕ) → _≡_ {A = Answer ℕ} (given n) (refused m) → ⊥
-not-both m n e = let z : _≡_ {A = ℕ} 0 1 = cc in omega (arith, z)
-
 module _ {A : Type 0} (kind : Kind A) (a b d : A) where
   -- the number of entries, or 6 or 7
   abbrev pub counts : Answer ℕ
@@ -51,8 +45,8 @@ module _ {A : Type 0} (kind : Kind A) (a b d : A) where
   counted {n} = go (against kind a b d) refl (tooLong kind a b d) refl
     where
       go : (t : Bool) → against kind a b d ≡ t → (u : Bool) → tooLong kind a b d ≡ u → lowest (6 when t ∷ 7 when u ∷ []) (given (length (stepped kind a b d))) ≡ given n → Counted n
-      go true e u f h = absurd (not-both 6 n (sym h))
-      go false e true f h = absurd (not-both 7 n (sym h))
+      go true e u f h = absurd (not-both (sym h))
+      go false e true f h = absurd (not-both (sym h))
       go false e false f h = record { onward = e; short = f; size = given-is h }
 
   once-listed : {B : Type 0} (r : Answer B) → lowest (6 when against kind a b d ∷ 7 when tooLong kind a b d ∷ []) r ≡ onceListed counts r
@@ -154,7 +148,7 @@ module _ {A : Type 0} (kind : Kind A) (a b d : A) where
           go : (t u w : Bool) → lowest (6 when t ∷ 7 when u ∷ []) (given (length (stepped kind a b d))) ≡ refused n → valuesBy t u w ≡ (refused n, old)
           go true u w e = ap (λ (r : Answer ℕ). (r, old)) e
           go false true w e = ap (λ (r : Answer ℕ). (r, old)) e
-          go false false w e = absurd (not-both n (length (stepped kind a b d)) e)
+          go false false w e = absurd (not-both e)
 
       pub values-short : {n : ℕ} → counts ≡ given n → length old < n → (refused 7, old) ≡ stepValues kind a b d old
       values-short {n} e l = let k = counted e in sym (values-by ∙ rw (k .onward, k .short, k .size, lt-ltb (length old) n l) refl)
@@ -181,7 +175,7 @@ module _ {A : Type 0} (kind : Kind A) (a b d : A) where
             go : (t u : Bool) → lowest (6 when t ∷ 7 when u ∷ []) (given (length (stepped kind a b d))) ≡ refused n → pointsBy t u ≡ (refused n, old)
             go true u e = ap (λ (r : Answer ℕ). (r, old)) e
             go false true e = ap (λ (r : Answer ℕ). (r, old)) e
-            go false false e = absurd (not-both n (length (stepped kind a b d)) e)
+            go false false e = absurd (not-both e)
 
         pub points-is : {n : ℕ} → counts ≡ given n → marksWritten (stepMarks kind a b d m) old ≡ stepKeyPoints kind a b d m old
         points-is e = let k = counted e in sym (points-by ∙ rw (k .onward, k .short) refl)

@@ -15,6 +15,7 @@ use mir.Facts.{and-yes}
 use Rattle.ranged1d.specs.Answer.{given, none, _when_, lowest}
 use Rattle.ranged1d.specs.Admitted.{wholeAdmitted, pixelAdmitted, limitAdmitted}
 use Rattle.ranged1d.specs.declared.Limit.{Limit}
+use Rattle.ranged1d.proofs.Answers.{given-is, not-both, not-none}
 use Rattle.ranged1d.proofs.Whole.{sub-cases, minus-far, not-lt, ordered}
 use Rattle.discrete.specs.Index.{noIndex}
 use Rattle.discrete.proofs.Index.{not-zero}
@@ -40,15 +41,15 @@ not-too-high (negsuc m) n k h top l = sub-cases k (suc m) (λ z. ltZ (pos 214748
 
 -- ---- what a given answer says of the tests that led to it
 index-tests : {d k : ℕ} (t u : Bool) → lowest (1 when not t ∷ []) (cond u none (given d)) ≡ given k → (t ≡ true) × (u ≡ false) × (d ≡ k)
-index-tests true false e = (refl, refl, cc)
-index-tests true true e = let z : _≡_ {A = ℕ} 0 1 = cc in absurd (omega arith)
-index-tests false u e = let z : _≡_ {A = ℕ} 0 1 = cc in absurd (omega arith)
+index-tests true false e = (refl, refl, given-is e)
+index-tests true true e = absurd (not-none e)
+index-tests false u e = absurd (not-both (sym e))
 
 value-tests : {w v : ℤ} (t i h : Bool) → lowest (1 when not t ∷ 10 when (i && h) ∷ []) (cond i (given w) none) ≡ given v → (t ≡ true) × (w ≡ v)
-value-tests true true false e = (refl, cc)
-value-tests true true true e = let z : _≡_ {A = ℕ} 0 1 = cc in absurd (omega arith)
-value-tests true false h e = let z : _≡_ {A = ℕ} 0 1 = cc in absurd (omega arith)
-value-tests false i h e = let z : _≡_ {A = ℕ} 0 1 = cc in absurd (omega arith)
+value-tests true true false e = (refl, given-is e)
+value-tests true true true e = absurd (not-both (sym e))
+value-tests true false h e = absurd (not-none e)
+value-tests false i h e = absurd (not-both (sym e))
 
 -- ---- from a value to its index and back
 module _ (a b v : ℤ) where

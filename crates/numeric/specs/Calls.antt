@@ -1,7 +1,7 @@
 -- What each call of numeric answers, on every input, and what the list lent to it holds afterwards: 01 "Marks on a whole axis" with the
 -- refusals of 01 "Why a call stops". Assumes nothing.
 use Prim.Native.Nat.{ℕ}
-use mathlib.Core.Bool.{Bool, cond, not, _&&_}
+use mathlib.Core.Bool.{cond, not, _&&_}
 use mathlib.Core.List.{List, [], _∷_, map}
 use lib.Dec.{ltb}
 use lib.IntN.{ℤ, pos, natAbs, _+ℤ_, _*ℤ_}

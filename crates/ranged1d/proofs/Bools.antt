@@ -1,6 +1,6 @@
--- What a test that is put together of two says of each. Assumes nothing.
+-- What a test that is put together of two says of each, and what it is by one of them. Assumes nothing.
 use mathlib.Core.Path.{_≡_, refl, sym}
-use mathlib.Core.Bool.{Bool, true, false, true≢false, _&&_, _||_}
+use mathlib.Core.Bool.{Bool, true, false, true≢false, _&&_, _||_, or-true}
 
 pub both-true : (x y : Bool) → (x && y) ≡ true → (x ≡ true) × (y ≡ true)
 both-true true y h = (refl, h)
@@ -9,3 +9,6 @@ both-true false y h = absurd (true≢false (sym h))
 pub both-false : (x y : Bool) → (x || y) ≡ false → (x ≡ false) × (y ≡ false)
 both-false true y h = absurd (true≢false h)
 both-false false y h = (refl, h)
+
+pub or-right : (x y : Bool) → y ≡ true → (x || y) ≡ true
+or-right x y h = rw h (or-true x)

@@ -1,4 +1,5 @@
 pub mod Bools
+pub mod Answers
 pub mod Whole
 pub mod Lowest
 pub mod Table

@@ -1,9 +1,9 @@
 -- What a caller needs of places: how far from 0 they are; that a whole place is the real one behind the refusal 1; and that 5 is not met
 -- where the value lies within eleven times the axis's length of its first end. Assumes nothing.
-use mathlib.Core.Path.{_≡_, refl, ap}
+use mathlib.Core.Path.{_≡_, refl, sym, ap}
 use mathlib.Core.Bool.{Bool, true, false, not, cond, _&&_}
 use mathlib.Core.List.{[], _∷_}
-use Prim.Native.Nat.{ℕ, zero, suc, _*_, _≤_, zero-le}
+use Prim.Native.Nat.{zero, suc, _*_, _≤_, zero-le}
 use native.Mathlib.Omega.{arith}
 use lib.Dec.{lit≤}
 use lib.IntN.{ℤ, pos, negsuc, natAbs, _+ℤ_, _-ℤ_}
@@ -14,6 +14,7 @@ use borrow.Author.Tests.{leb-true}
 use Rattle.ranged1d.specs.Answer.{Answer, given, refused, _when_, lowest}
 use Rattle.ranged1d.specs.Admitted.{wholeAdmitted, limitAdmitted}
 use Rattle.ranged1d.specs.declared.Limit.{Limit}
+use Rattle.ranged1d.proofs.Answers.{given-is, not-both}
 use Rattle.ranged1d.proofs.Whole.{add-far, minus-far, quot-far}
 use Rattle.rounding.specs.Integral.{Way, floors, ceils}
 use Rattle.rounding.specs.declared.Whole.{Whole}
@@ -77,12 +78,12 @@ unfolding realPlace
 given-near a b v limit z e = go (limitAdmitted limit) refl e
   where
     of-answer : (w : Whole) → natAbs (number w) ≤ 1_001_000_000 → answered w ≡ given z → natAbs z ≤ 1_001_000_000
-    of-answer (Number k) n e = let same : k ≡ z = cc in omega (arith, ap natAbs same)
-    of-answer Beyond n e = let no : _≡_ {A = ℕ} 0 1 = cc in absurd (omega arith)
+    of-answer (Number k) n e = omega (arith, ap natAbs (given-is e))
+    of-answer Beyond n e = absurd (not-both (sym e))
 
     go : (c : Bool) → limitAdmitted limit ≡ c → cond (not c) (refused 2) (answered (spot a b v limit)) ≡ given z → natAbs z ≤ 1_001_000_000
     go true h e = of-answer (spot a b v limit) (spot-near a b v limit h) e
-    go false h e = let no : _≡_ {A = ℕ} 0 1 = cc in absurd (omega arith)
+    go false h e = absurd (not-both (sym e))
 
 -- ---- a whole place is the real place of the three numbers as floats
 pub whole-is-real : (a b v : ℤ) (limit : Limit)

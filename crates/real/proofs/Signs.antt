@@ -87,7 +87,7 @@ round-zero f s n d p e = ap (λ (k : ℕ). round f s k d) e ∙ round-same f s 0
 zeros : (s t : Bool) (m n d : ℕ) → 0 < d → m ≡ 0 → n ≡ 0 → Alike (round binary64 s m d) (round binary64 t n d)
 zeros s t m n d p e g = inr ((s, round-zero binary64 s m d p e), (t, round-zero binary64 t n d p g))
 
-neg-zero : (s : Bool) → neg (zeroOf s) ≡ zeroOf (not s)
+pub neg-zero : (s : Bool) → neg (zeroOf s) ≡ zeroOf (not s)
 unfolding neg
 neg-zero s = refl
 

@@ -9,7 +9,7 @@ use lib.ListN.{length, getD, set, take, drop, drop-of-length-le}
 use lib.Seq.{drop-cons, take-length, take-nil}
 use borrow.Rule.Slice.PartMut.{putMid}
 use Rattle.decimal.specs.Read.{sameBytes}
-use Rattle.decimal.proofs.Texts.{same-self, same-equal, same-is}
+use Rattle.decimal.proofs.Texts.{same-no, same-is}
 use Rattle.ranged1d.proofs.Pieces.{put-more, more-long}
 use Rattle.ruler.specs.Bytes.{word}
 
@@ -27,17 +27,6 @@ gets-drop (suc n) k l e =
 pub put-first : (kind : ℕ) (o : List ℕ) → 1 ≤ length o → set o 0 kind ≡ kind ∷ drop 1 o
 put-first kind [] h = absurd (omega arith)
 put-first kind (x ∷ xs) h = refl
-
--- the test for equal lists
-pub same-yes : (x y : List ℕ) → x ≡ y → sameBytes x y ≡ true
-same-yes x y e = rw e (same-self y)
-
-pub same-no : (x y : List ℕ) → (x ≡ y → ⊥) → sameBytes x y ≡ false
-same-no x y f = go (sameBytes x y) refl
-  where
-    go : (t : Bool) → sameBytes x y ≡ t → t ≡ false
-    go true e = absurd (f (same-equal x y e))
-    go false e = refl
 
 -- a part of a part
 pub drop-take : (c w : ℕ) (l : List ℕ) → drop c (take (c + w) l) ≡ take w (drop c l)

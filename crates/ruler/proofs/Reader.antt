@@ -11,13 +11,12 @@ use Rattle.numeric.specs.declared.KeyPoints.{KeyPoints}
 use Rattle.numeric.specs.Marks.{listOf}
 use Rattle.numeric.specs.Calls.{planOf, element}
 use Rattle.decimal.specs.Read.{sameBytes}
-use Rattle.decimal.proofs.Texts.{same-equal}
+use Rattle.decimal.proofs.Texts.{same-equal, same-yes, same-no}
 use Rattle.ruler.specs.declared.Draft.{Draft}
 use Rattle.ruler.specs.declared.Seen.{Seen}
 use Rattle.ruler.specs.declared.Seen.the-variants as seen-is
 use Rattle.ruler.specs.Rule.{aIn, bIn, limitIn, mIn, marksIn, rulerBytes, hasRuler, isRuler, rulerRead, rulerPlan}
 use Rattle.ruler.specs.Steps.{seenBy, draftIn, seenOf}
-use Rattle.ruler.proofs.Lists.{same-yes, same-no}
 use Rattle.ruler.proofs.Drawn.{Drawn, is-drawn, none-drawn, has-plan, ruler-long}
 
 abbrev pub bytesOf : Draft → List ℕ

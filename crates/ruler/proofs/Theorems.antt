@@ -16,19 +16,20 @@ use borrow.Author.Tests.{leb-true}
 use Rattle.ranged1d.specs.Answer.{Answer, given, none, refused}
 use Rattle.ranged1d.specs.Admitted.{pixelAdmitted, limitAdmitted}
 use Rattle.ranged1d.specs.declared.Limit.{Limit}
+use Rattle.ranged1d.proofs.Answers.{not-both, not-none}
 use Rattle.ranged1d.proofs.Bools.{both-true}
 use Rattle.ranged1d.proofs.Whole.{fits32}
 use Rattle.numeric.specs.declared.KeyPoints.{KeyPoints}
 use Rattle.numeric.specs.Marks.{stepOf, marks}
 use Rattle.numeric.specs.Calls.{planOf}
 use Rattle.decimal.specs.Read.{sameBytes}
+use Rattle.decimal.proofs.Texts.{same-yes}
 use Rattle.ruler.specs.declared.Draft.{Draft}
 use Rattle.ruler.specs.declared.Ruler.{Ruler}
 use Rattle.ruler.specs.Bytes.{wholeAt, axis, axisBody, laid}
 use Rattle.ruler.specs.Rule.{aIn, bIn, limitIn, mIn, rulerBytes, rulerWrite, rulerRead, hasRuler, isRuler, rulerPlan}
 use Rattle.ruler.specs.Steps.{draftIn}
 use Rattle.ruler.proofs.Numbers.{word-back, number-back}
-use Rattle.ruler.proofs.Lists.{same-yes}
 use Rattle.ruler.proofs.Drawn.{is-drawn, has-plan, ruler-is, ruler-long, marks-long, marksRun, write-refused, write-none, write-short, write-fits}
 use Rattle.ruler.proofs.Places.{film}
 use Rattle.ruler.proofs.Reader.{bytesOf, Known, ruler-in, read-known, read-nothing}
@@ -108,9 +109,7 @@ module _ (a b : ℤ) (limit : Limit) (m : ℕ) (old : List ℕ) where
           }
 
       short : {p : KeyPoints} → rulerPlan a b limit m ≡ given p → length old < 25 + 20 * p .count → Written n k
-      short e h =
-          let same : _≡_ {A = Answer (ℕ × ℕ)} (refused 13) (given (n, k)) = sym (ap (λ (r : Answer (ℕ × ℕ) × List ℕ). r .0) (write-short a b limit m e old h)) ∙ w in
-          let z : _≡_ {A = ℕ} 0 1 = cc in absurd (omega arith)
+      short e h = absurd (not-both (sym w ∙ ap (λ (r : Answer (ℕ × ℕ) × List ℕ). r .0) (write-short a b limit m e old h)))
 
       room : {p : KeyPoints} → rulerPlan a b limit m ≡ given p → Dec (length old < 25 + 20 * p .count) → Written n k
       room e (yes h) = short e h
@@ -118,12 +117,8 @@ module _ (a b : ℤ) (limit : Limit) (m : ℕ) (old : List ℕ) where
 
       go : (r : Answer KeyPoints) → rulerPlan a b limit m ≡ r → Written n k
       go (given p) e = room e (decLt _ _)
-      go none e =
-          let same : _≡_ {A = Answer (ℕ × ℕ)} none (given (n, k)) = sym (ap (λ (r : Answer (ℕ × ℕ) × List ℕ). r .0) (write-none a b limit m old e)) ∙ w in
-          let z : _≡_ {A = ℕ} 0 1 = cc in absurd (omega arith)
-      go (refused r) e =
-          let same : _≡_ {A = Answer (ℕ × ℕ)} (refused r) (given (n, k)) = sym (ap (λ (r : Answer (ℕ × ℕ) × List ℕ). r .0) (write-refused a b limit m old e)) ∙ w in
-          let z : _≡_ {A = ℕ} 0 1 = cc in absurd (omega arith)
+      go none e = absurd (not-none (sym (ap (λ (r : Answer (ℕ × ℕ) × List ℕ). r .0) (write-none a b limit m old e)) ∙ w))
+      go (refused r) e = absurd (not-both (sym w ∙ ap (λ (r : Answer (ℕ × ℕ) × List ℕ). r .0) (write-refused a b limit m old e)))
 
   pub read-after-write : {n k : ℕ} → m < 2 ^ 32 → rulerWrite a b limit m old .0 ≡ given (n, k) → rulerRead (take n (rulerWrite a b limit m old .1)) ≡ given (rulerOf a b limit m (pos (stepOf a b m)) k)
   read-after-write {n} {k} fm w =
@@ -159,9 +154,7 @@ read-sound l r e old same = go (isRuler l) refl
 
     go : (t : Bool) → isRuler l ≡ t → rulerWrite (r .a) (r .b) (record { 0 = r .p; 1 = r .q }) (r .m) old ≡ (given (length l, r .marks), l)
     go true t = given-by t
-    go false t =
-        let x : _≡_ {A = Answer Ruler} (refused 14) (given r) = sym (read-nothing l t) ∙ e in
-        let z : _≡_ {A = ℕ} 0 1 = cc in absurd (omega arith)
+    go false t = absurd (not-both (sym e ∙ read-nothing l t))
 
 -- any other bytes are refused with 14
 pub read-or-14 : (l : List ℕ) → ((r : Ruler) × (rulerRead l ≡ given r)) ⊎ (rulerRead l ≡ refused 14)

@@ -99,11 +99,7 @@ module _ {A : Type 0} (num : Numbers A) (o : Order A (num .less) (num .equal)) w
   pub searchable-one : (l : List A) (d : A) → length l ≡ 1 → searchable num l ≡ own (getD l 0 d)
   unfolding searchable
   searchable-one [] d h = absurd (omega (arith, h))
-  searchable-one (x ∷ []) d h = go (own x)
-    where
-      go : (b : Bool) → ((b && true) && (true || true)) ≡ b
-      go true = refl
-      go false = refl
+  searchable-one (x ∷ []) d h = and-true (own x && true) ∙ and-true (own x)
   searchable-one (x ∷ (y ∷ ys)) d h = absurd (omega (arith, h))
 
   -- more than one

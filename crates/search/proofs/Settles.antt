@@ -9,6 +9,7 @@ use borrow.Author.Tests.{lt-ltb, le-ltb}
 use lib.Dec.{ltb}
 use lib.ListN.{length, getD}
 use Rattle.ranged1d.specs.Answer.{Answer, given, none}
+use Rattle.ranged1d.proofs.Bools.{or-right}
 use Rattle.search.specs.Search.{Numbers, best, exact, up, down, between, indexOf, search}
 use Rattle.search.specs.Settled.{closer, unequal, settled}
 use Rattle.search.specs.Steps.{toward, PlaceOf}
@@ -30,10 +31,6 @@ or-false x y p q = rw (p, q) refl
 
 or-left : (x y : Bool) → x ≡ true → (x || y) ≡ true
 or-left x y p = rw p refl
-
-or-right : (x y : Bool) → y ≡ true → (x || y) ≡ true
-or-right true y p = refl
-or-right false y p = p
 
 clash : {A : Type 0} (x : Bool) → x ≡ true → x ≡ false → A
 clash x p q = absurd (true≢false (sym p ∙ q))

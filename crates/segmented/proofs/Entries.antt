@@ -11,6 +11,7 @@ use lib.Ieee.{Float}
 use Rattle.ranged1d.specs.Answer.{Answer, given, none, refused}
 use Rattle.ranged1d.specs.Admitted.{wholeAdmitted, limitAdmitted}
 use Rattle.ranged1d.specs.declared.Limit.{Limit}
+use Rattle.ranged1d.proofs.Answers.{given-is, not-both, not-none}
 use Rattle.rounding.specs.declared.Whole.{Whole}
 use Rattle.rounding.specs.declared.Whole.the-variants.{Number}
 use Rattle.numeric.specs.Marks.{listOf}
@@ -29,7 +30,6 @@ use Rattle.segmented.specs.Segments.{Axis, narrowed, start, entryAfter}
 use Rattle.segmented.specs.Axes.{steppedAxis, steppedFinder}
 use Rattle.segmented.specs.Steps.{Stands, nextAnswer}
 use Rattle.segmented.proofs.Margin.{narrowed-admitted}
-use Rattle.segmented.proofs.Rules.{given-is, not-both, not-none}
 
 -- ---- places
 pub start-near : {A : Type 0} (axis : Axis A) (first second : Float) (float : A → Float) → ((v : A) (limit : Limit) → axis .spot v limit ≡ spot first second (float v) limit) → {n : ℕ} → Stands axis n

@@ -10,6 +10,7 @@ use lib.Ieee.{Float, neg}
 use Rattle.ranged1d.specs.Answer.{Answer, given, none, refused, _when_, lowest}
 use Rattle.ranged1d.specs.Admitted.{wholeAdmitted, limitAdmitted}
 use Rattle.ranged1d.specs.declared.Limit.{Limit}
+use Rattle.ranged1d.proofs.Answers.{not-none, not-both}
 use Rattle.ranged1d.proofs.Bools.{both-true}
 use Rattle.rounding.specs.declared.Whole.{Whole}
 use Rattle.rounding.specs.declared.Whole.the-variants.{Number, Beyond}
@@ -33,7 +34,7 @@ use Rattle.segmented.specs.Segments.{Axis, half, margin, narrowed, start
 use Rattle.segmented.specs.Steps.{countAnswer, Stands, placedAnswer}
 use Rattle.segmented.specs.Mirror.{across, here, there, findHere, findThere, Mirrored, WholeMirrored, RealMirrored}
 use Rattle.segmented.proofs.Margin.{margin-neg}
-use Rattle.segmented.proofs.Rules.{not-none, not-both, counted-or-stopped, place-unfit, place-unlimited, place-stopped, place-is, stepped-stands}
+use Rattle.segmented.proofs.Rules.{counted-or-stopped, place-unfit, place-unlimited, place-stopped, place-is, stepped-stands}
 use Rattle.segmented.proofs.Entries.{entry-admitted}
 
 -- ---- limits

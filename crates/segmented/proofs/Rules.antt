@@ -14,6 +14,7 @@ use lib.Ieee.{Float}
 use Rattle.ranged1d.specs.Answer.{Answer, given, none, refused, Reason, _when_, lowest, written}
 use Rattle.ranged1d.specs.Admitted.{wholeAdmitted, pixelAdmitted, limitAdmitted}
 use Rattle.ranged1d.specs.declared.Limit.{Limit}
+use Rattle.ranged1d.proofs.Answers.{one-refusal, given-is, not-both}
 use Rattle.rounding.specs.declared.Whole.{Whole}
 use Rattle.rounding.specs.declared.Whole.the-variants.{Number, Beyond}
 use Rattle.discrete.specs.Index.{indexFor, pixelIndex}
@@ -29,19 +30,6 @@ use Rattle.segmented.specs.Segments.{Axis, Finder, half, margin, narrowe
 use Rattle.segmented.specs.Axes.{steppedAxis, steppedFinder}
 use Rattle.segmented.specs.Steps.{spotAnswer, countAnswer, Stands, nextAnswer, centerAnswer, placedAnswer}
 use Rattle.segmented.proofs.Margin.{narrowed-admitted}
-
--- ---- answers
-pub one-refusal : {A B : Type 0} {m n : ℕ} → _≡_ {A = Answer A} (refused m) (refused n) → _≡_ {A = Answer B} (refused m) (refused n)
-one-refusal {m = m} {n = n} e = let s : m ≡ n = cc in ap refused s
-
-pub given-is : {A : Type 0} {x y : A} → _≡_ {A = Answer A} (given x) (given y) → x ≡ y
-given-is e = cc
-
-pub not-both : {A : Type 0} {x : A} {n : ℕ} → _≡_ {A = Answer A} (given x) (refused n) → ⊥
-not-both e = let z : _≡_ {A = ℕ} 0 1 = cc in omega (arith, z)
-
-pub not-none : {A : Type 0} {x : A} → _≡_ {A = Answer A} none (given x) → ⊥
-not-none e = let z : _≡_ {A = ℕ} 0 1 = cc in omega (arith, z)
 
 -- ---- why there are no segments: u and z are 6 and 7, w that there are no entries or too many
 abbrev counting : {B : Type 0} → Bool → Bool → Bool → List Reason → Answer B → Answer B

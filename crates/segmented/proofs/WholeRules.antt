@@ -14,6 +14,7 @@ use lib.Signed.{ltZ, nonNeg}
 use Rattle.ranged1d.specs.Answer.{Answer, given, none, refused, _when_, lowest, written}
 use Rattle.ranged1d.specs.Admitted.{wholeAdmitted, limitAdmitted}
 use Rattle.ranged1d.specs.declared.Limit.{Limit}
+use Rattle.ranged1d.proofs.Answers.{given-is, not-both, not-none, one-refusal}
 use Rattle.ranged1d.proofs.Bools.{both-true}
 use Rattle.real.specs.Place.{wholePlace}
 use Rattle.ranged1d.proofs.Whole.{ordered, not-lt}
@@ -26,7 +27,7 @@ use Rattle.segmented.specs.Segments.{Axis, narrowed, start, segmentAt, s
 use Rattle.segmented.specs.Axes.{wholeAxis, wholeFinder}
 use Rattle.segmented.specs.Steps.{spotAnswer, countAnswer, Stands, nextAnswer}
 use Rattle.segmented.proofs.Margin.{narrowed-admitted, squeezed}
-use Rattle.segmented.proofs.Rules.{given-is, not-both, not-none, one-refusal, stands, some-entries, exact-at}
+use Rattle.segmented.proofs.Rules.{stands, some-entries, exact-at}
 
 not-negative-is : (z : ℤ) → T (nonNeg z) → pos (natAbs z) ≡ z
 not-negative-is (pos n) t = refl

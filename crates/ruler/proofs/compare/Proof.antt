@@ -10,9 +10,8 @@ use lib.ListN.{length, take, drop, length-drop}
 use Rattle.ranged1d.specs.Answer.{given}
 use Rattle.numeric.specs.Calls.{tellPlanned}
 use Rattle.decimal.specs.Read.{sameBytes}
-use Rattle.decimal.proofs.Texts.{same-equal}
+use Rattle.decimal.proofs.Texts.{same-equal, same-yes}
 use Rattle.ranged1d.proofs.Pieces.{rest-is}
-use Rattle.ruler.proofs.Lists.{same-yes}
 use Rattle.ruler.proofs.Drawn.{is-drawn, head, marksRun, ruler-long, ruler-head, ruler-rest, ruler-whole}
 use Rattle.ruler.proofs.Reader.{bytesOf, planFor, seen-none, seen-same, seen-other}
 use borrow.Author.Needs.{needs}

@@ -10,8 +10,7 @@ use lib.ListN.{take, drop}
 use lib.Seq.{take-add, take-all}
 use Rattle.numeric.specs.Calls.{element}
 use Rattle.decimal.specs.Read.{sameBytes}
-use Rattle.decimal.proofs.Texts.{same-equal}
-use Rattle.ruler.proofs.Lists.{same-yes, same-no}
+use Rattle.decimal.proofs.Texts.{same-equal, same-yes, same-no}
 use Rattle.ruler.proofs.Records.{run, one, run-more, run-at}
 use Rattle.ruler.proofs.has_marks.Statement.{statement}
 use Rattle.ruler.proofs.has_marks.Tie as tie

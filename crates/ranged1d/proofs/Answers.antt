@@ -1,0 +1,23 @@
+-- Answers that are equal: of what kind they are, and what they hold. Assumes nothing.
+use mathlib.Core.Path.{_≡_, refl, ap}
+use mathlib.Core.Bool.{Bool, true, false, cond}
+use Prim.Native.Nat.{ℕ}
+use native.Mathlib.Omega.{arith}
+use Rattle.ranged1d.specs.Answer.{Answer, given, none, refused}
+
+pub given-is : {A : Type 0} {x y : A} → _≡_ {A = Answer A} (given x) (given y) → x ≡ y
+given-is e = cc
+
+pub one-refusal : {A B : Type 0} {m n : ℕ} → _≡_ {A = Answer A} (refused m) (refused n) → _≡_ {A = Answer B} (refused m) (refused n)
+one-refusal {m = m} {n = n} e = let s : m ≡ n = cc in ap refused s
+
+pub not-both : {A : Type 0} {x : A} {n : ℕ} → _≡_ {A = Answer A} (given x) (refused n) → ⊥
+not-both e = let z : _≡_ {A = ℕ} 0 1 = cc in omega (arith, z)
+
+pub not-none : {A : Type 0} {x : A} → _≡_ {A = Answer A} none (given x) → ⊥
+not-none e = let z : _≡_ {A = ℕ} 0 1 = cc in omega (arith, z)
+
+-- what is given by a test that may leave none
+pub choice : {A : Type 0} (t : Bool) (x y : A) → cond t (given x) none ≡ given y → (t ≡ true) × (x ≡ y)
+choice true x y e = (refl, given-is e)
+choice false x y e = absurd (not-none e)
