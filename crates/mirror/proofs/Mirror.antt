@@ -1,15 +1,17 @@
 -- Demand 3, whole: every clause of specs/Mirror, from the mirror theorems of the crates below. Assumes nothing.
 use mathlib.Core.Path.{_≡_, refl, sym, ap, _∙_}
-use mathlib.Core.Bool.{Bool, true, false, not, _&&_, _||_}
+use mathlib.Core.Bool.{true, false, not, _&&_, _||_}
 use mathlib.Core.List.{List, [], _∷_, map}
 use Prim.Native.Nat.{ℕ, suc}
 use lib.Dec.{ltb, eqb}
 use lib.IntN.{ℤ, pos, negℤ}
 use lib.ListN.{length, length-map}
 use lib.Ieee.{Float, neg}
+use borrow.Author.Tests.{not-false}
 use Rattle.ranged1d.specs.Answer.{Answer, given, none, refused, Reason, lowest, _when_}
 use Rattle.ranged1d.specs.Admitted.{wholeAdmitted, limitAdmitted}
 use Rattle.ranged1d.specs.declared.Limit.{Limit}
+use Rattle.real.specs.Mirror as film
 use Rattle.real.specs.Mirror.{negated}
 use Rattle.real.proofs.Mirror as places
 use Rattle.numeric.specs.Marks.{noStep, stepOf, marks}
@@ -30,12 +32,8 @@ use Rattle.segmented.proofs.Mirror as segments
 use Rattle.ruler.specs.Rule.{rulerBytes, rulerWrite, hasRuler}
 use Rattle.ruler.specs.Mirror.{accepted, verdict}
 use Rattle.ruler.proofs.Mirror as rulers-mirror
-use Rattle.mirror.specs.Mirror.{flip, wrote, BothLong, ruling, rulingBack, Rulers, marking, markingBack, Marks, Stepped, DemandThree}
+use Rattle.mirror.specs.Mirror.{wrote, BothLong, ruling, rulingBack, Rulers, marking, markingBack, Marks, Stepped, DemandThree}
 use Rattle.mirror.proofs.Written.{first-reason, accepted-is, wrote-is, turned-wrote}
-
-not-false : (t : Bool) → not t ≡ false → t ≡ true
-not-false true e = refl
-not-false false e = sym e
 
 -- ---- rulers
 module _ (a b : ℤ) (limit : Limit) (m : ℕ) where
@@ -67,12 +65,12 @@ module _ (a b : ℤ) (limit : Limit) (m : ℕ) where
       let rs = 1 when not (wholeAdmitted a && wholeAdmitted b) ∷ off-film old in
       wrote-is {A = ℕ × ℕ} (λ x. x .0) (lowest rs (given numbers)) numbers (rulerBytes a b limit m) old refl (accepted-is numbers rs e)
 
-module _ (a b : ℤ) (limit : Limit) (m : ℕ) (old old' : List ℕ) (alike : BothLong (length (rulerBytes a b limit m)) old (length (rulerBytes (negℤ a) (negℤ b) (flip limit) m)) old') where
+module _ (a b : ℤ) (limit : Limit) (m : ℕ) (old old' : List ℕ) (alike : BothLong (length (rulerBytes a b limit m)) old (length (rulerBytes (negℤ a) (negℤ b) (film.mirrored limit) m)) old') where
   verdicts : verdict (rulingBack a b limit m old old' .0) ≡ verdict (ruling a b limit m old old' .0)
   verdicts = rulers-mirror.mirror a b limit m .same-verdict old old' alike
 
-  back-written : verdict (ruling a b limit m old old' .0) ≡ accepted → wrote (λ x. x .0) (rulingBack a b limit m old old') ≡ rulerBytes (negℤ a) (negℤ b) (flip limit) m
-  back-written e = bytes-written (negℤ a) (negℤ b) (flip limit) m old' (verdicts ∙ e)
+  back-written : verdict (ruling a b limit m old old' .0) ≡ accepted → wrote (λ x. x .0) (rulingBack a b limit m old old') ≡ rulerBytes (negℤ a) (negℤ b) (film.mirrored limit) m
+  back-written e = bytes-written (negℤ a) (negℤ b) (film.mirrored limit) m old' (verdicts ∙ e)
 
   rulers : Rulers a b limit m old old'
   rulers =
@@ -206,7 +204,7 @@ record Known {A : Type 0} (kind : Kind A) (opposite : A → A) (Turned : List A 
   key-points : (m : ℕ) (old old' : List A) → AlikeLong (length (stepMarks kind a b d m)) old old'
       → stepKeyPoints kind (opposite a) (opposite b) (opposite d) m old' .0 ≡ stepKeyPoints kind a b d m old .0
   searches : (v : A) (method : RoundingMethod) → stepIndexOf kind (opposite a) (opposite b) (opposite d) (opposite v) (turned method) ≡ stepIndexOf kind a b d v method
-  places : (v : A) (limit : Limit) → stepPlace kind (opposite a) (opposite b) (opposite d) (opposite v) (flip limit) ≡ negated (stepPlace kind a b d v limit)
+  places : (v : A) (limit : Limit) → stepPlace kind (opposite a) (opposite b) (opposite d) (opposite v) (film.mirrored limit) ≡ negated (stepPlace kind a b d v limit)
   segments : segment.Mirrored kind opposite a b d
 
 stepped-axis : {A : Type 0} (kind : Kind A) (opposite : A → A) (Turned : List A → List A → Type 0) (a b d : A) → Known kind opposite Turned a b d → Stepped kind opposite Turned a b d

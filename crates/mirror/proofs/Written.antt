@@ -8,6 +8,7 @@ use lib.Dec.{T}
 use lib.ListN.{length, drop}
 use lib.Seq.{take-append-seam}
 use Rattle.ranged1d.specs.Answer.{Answer, given, refused, Reason, lowest, written}
+use Rattle.ranged1d.proofs.Answers.{not-both}
 use Rattle.ruler.specs.Mirror.{Verdict, accepted, empty, stopped, verdict}
 use Rattle.mirror.specs.Mirror.{wrote}
 
@@ -61,6 +62,6 @@ module _ {B : Type 0} (Turned : List B → List B → Type 0) (nothing : Turned 
           → (lowest rs' (given (length new')) ≡ given (length new')) ⊎ ((n : ℕ) × (lowest rs' (given (length new')) ≡ refused n))
           → Turned (wrote (λ n. n) (written (lowest rs' (given (length new'))) new' old')) (wrote (λ n. n) (written (lowest rs (given (length new))) new old))
       go (inl h) (inl k) = rw (h, k) (rw (take-append-seam new (drop (length new) old), take-append-seam new' (drop (length new') old')) t)
-      go (inl h) (inr k) = not-stopped (k .0) (ap verdict (sym (k .1) ∙ e ∙ h))
-      go (inr h) (inl k) = not-stopped (h .0) (ap verdict (sym (h .1) ∙ sym e ∙ k))
+      go (inl h) (inr k) = absurd (not-both (sym h ∙ sym e ∙ k .1))
+      go (inr h) (inl k) = absurd (not-both (sym k ∙ e ∙ h .1))
       go (inr h) (inr k) = rw (h .1, k .1) nothing

@@ -34,11 +34,7 @@ use Rattle.ruler.specs.Rule.{markAt, recordsOf, rulerBytes, rulerWrite}
 use Rattle.ruler.specs.Mirror as ruler
 use Rattle.ruler.specs.Mirror.{accepted, verdict}
 
--- ---- the words that every clause uses
--- the mirror of film limits
-abbrev pub flip : Limit → Limit
-flip limit = film.mirrored limit
-
+-- ---- the words that every clause uses; the mirror of film limits is `film.mirrored`, of real/specs/Mirror
 -- what a call has written to the memory lent to it, from the number that its answer gives: nothing without an answer
 abbrev pub firstOf : {A B : Type 0} → (A → ℕ) → Answer A → List B → List B
 firstOf many (given x) held = take (many x) held
@@ -69,7 +65,7 @@ module _ (a b : ℤ) (limit : Limit) (m : ℕ) (old old' : List ℕ) where
   ruling = rulerWrite a b limit m old
 
   abbrev pub rulingBack : Answer (ℕ × ℕ) × List ℕ
-  rulingBack = rulerWrite (negℤ a) (negℤ b) (flip limit) m old'
+  rulingBack = rulerWrite (negℤ a) (negℤ b) (film.mirrored limit) m old'
 
   pub record Rulers : Type 0 where
     -- Both are refused with the same number, or both are accepted.
@@ -80,9 +76,9 @@ module _ (a b : ℤ) (limit : Limit) (m : ℕ) (old old' : List ℕ) where
     -- Otherwise the axis lies below zero or above it, and the half below zero, which is this axis or its mirror, has exactly one mark more.
     pub one-half : (Divides (stepOf a b m) (nearestZero a b) → ⊥) → (high a b <ℤ pos 0) ⊎ (pos 0 <ℤ low a b)
     pub one-more-below : verdict (ruling .0) ≡ accepted → (Divides (stepOf a b m) (nearestZero a b) → ⊥) → high a b <ℤ pos 0
-        → RulerMore a b limit m (high a b) (wrote (λ x. x .0) ruling) (recordsOf (negℤ a) (negℤ b) (flip limit) m)
+        → RulerMore a b limit m (high a b) (wrote (λ x. x .0) ruling) (recordsOf (negℤ a) (negℤ b) (film.mirrored limit) m)
     pub one-more-above : verdict (ruling .0) ≡ accepted → (Divides (stepOf a b m) (nearestZero a b) → ⊥) → pos 0 <ℤ low a b
-        → RulerMore (negℤ a) (negℤ b) (flip limit) m (negℤ (low a b)) (wrote (λ x. x .0) rulingBack) (recordsOf a b limit m)
+        → RulerMore (negℤ a) (negℤ b) (film.mirrored limit) m (negℤ (low a b)) (wrote (λ x. x .0) rulingBack) (recordsOf a b limit m)
 
 -- ---- 01: marks of whole axes match when negated and in reverse order (`mirrored` of numeric/specs/Mirror); the same theorem for the call that writes
 -- the marks alone, which also tells the step
@@ -134,7 +130,7 @@ module _ {A : Type 0} (kind : Kind A) (opposite : A → A) (Turned : List A → 
     pub lists : (old old' : List A) → BothLong (length (stepped kind a b d)) old (length (stepped kind (opposite a) (opposite b) (opposite d))) old' → Lists old old'
     pub step-marks : (m : ℕ) (old old' : List A) → BothLong (length (stepMarks kind a b d m)) old (length (stepMarks kind (opposite a) (opposite b) (opposite d) m)) old' → StepMarks m old old'
     -- Places are negated, or both are refused with the same number.
-    pub places : (v : A) (limit : Limit) → stepPlace kind (opposite a) (opposite b) (opposite d) (opposite v) (flip limit) ≡ negated (stepPlace kind a b d v limit)
+    pub places : (v : A) (limit : Limit) → stepPlace kind (opposite a) (opposite b) (opposite d) (opposite v) (film.mirrored limit) ≡ negated (stepPlace kind a b d v limit)
     -- A search and its mirror, up and down exchanged, give the same index, or both none, or the same refusal.
     pub searches : (v : A) (method : RoundingMethod) → stepIndexOf kind (opposite a) (opposite b) (opposite d) (opposite v) (turned method) ≡ stepIndexOf kind a b d v method
     -- Segments over the axis, a value's mirror being that of the number it carries: index, places and marks.
@@ -142,7 +138,7 @@ module _ {A : Type 0} (kind : Kind A) (opposite : A → A) (Turned : List A → 
         → segmentIndexOf (steppedAxis kind (opposite a) (opposite b) (opposite d)) (steppedFinder kind (opposite a) (opposite b) (opposite d) (turned method)) (across opposite s)
         ≡ segmentIndexOf (steppedAxis kind a b d) (steppedFinder kind a b d method) s
     pub segment-places : (method : RoundingMethod) (s : Segment A) (limit : Limit)
-        → segmentPlace (steppedAxis kind (opposite a) (opposite b) (opposite d)) (steppedFinder kind (opposite a) (opposite b) (opposite d) (turned method)) (across opposite s) (flip limit)
+        → segmentPlace (steppedAxis kind (opposite a) (opposite b) (opposite d)) (steppedFinder kind (opposite a) (opposite b) (opposite d) (turned method)) (across opposite s) (film.mirrored limit)
         ≡ negated (segmentPlace (steppedAxis kind a b d) (steppedFinder kind a b d method) s limit)
     pub segment-marks : (m : ℕ) (old old' : List A) → BothLong (length (stepMarks kind a b d m)) old (length (stepMarks kind (opposite a) (opposite b) (opposite d) m)) old' → SegmentMarks m old old'
 
@@ -150,14 +146,14 @@ module _ {A : Type 0} (kind : Kind A) (opposite : A → A) (Turned : List A → 
 pub record DemandThree : Type 0 where
   -- Rulers, of any whole axis, limits and mark limit, with bytes lent that are enough on both sides or on neither.
   pub rulers : (a b : ℤ) (limit : Limit) (m : ℕ) (old old' : List ℕ)
-      → BothLong (length (rulerBytes a b limit m)) old (length (rulerBytes (negℤ a) (negℤ b) (flip limit) m)) old' → Rulers a b limit m old old'
+      → BothLong (length (rulerBytes a b limit m)) old (length (rulerBytes (negℤ a) (negℤ b) (film.mirrored limit) m)) old' → Rulers a b limit m old old'
   -- Marks of any whole axis, likewise.
   pub whole-marks : (a b : ℤ) (m : ℕ) (old old' : List ℤ) → BothLong (length (marks a b m)) old (length (marks (negℤ a) (negℤ b) m)) old' → Marks a b m old old'
   -- Mirroring negates places on whole and real axes, or both sides give the same refusal.
-  pub whole-places : (a b v : ℤ) (limit : Limit) → wholePlace (negℤ a) (negℤ b) (negℤ v) (flip limit) ≡ negated (wholePlace a b v limit)
-  pub real-places : (a b v : Float) (limit : Limit) → realPlace (neg a) (neg b) (neg v) (flip limit) ≡ negated (realPlace a b v limit)
+  pub whole-places : (a b v : ℤ) (limit : Limit) → wholePlace (negℤ a) (negℤ b) (negℤ v) (film.mirrored limit) ≡ negated (wholePlace a b v limit)
+  pub real-places : (a b v : Float) (limit : Limit) → realPlace (neg a) (neg b) (neg v) (film.mirrored limit) ≡ negated (realPlace a b v limit)
   -- It negates real readings, or both sides give none or the same refusal. Zeros of either sign are equal, and a NaN equals a NaN.
-  pub real-readings : (a b : Float) (x : ℤ) (limit : Limit) → Opposite (realReading (neg a) (neg b) (negℤ x) (flip limit)) (realReading a b x limit)
+  pub real-readings : (a b : Float) (x : ℤ) (limit : Limit) → Opposite (realReading (neg a) (neg b) (negℤ x) (film.mirrored limit)) (realReading a b x limit)
   -- A search of a lent list and its mirror, every entry and the target negated, the entries in the same order, up and down exchanged, give the same
   -- index, or both none, or the same refusal.
   pub whole-searches : (l : List ℤ) (t : ℤ) (method : RoundingMethod) → wholeSearch (map negℤ l) (negℤ t) (turned method) ≡ wholeSearch l t method
