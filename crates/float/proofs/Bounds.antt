@@ -13,27 +13,21 @@ use lib.Ieee.Bits.{is-true}
 use lib.Ieee.Exact.{HasValue}
 use lib.Ieee.Back.{round-whole}
 use borrow.Author.Tests.{ltb-true}
+use Rattle.ranged1d.proofs.Bools.{chosen}
 use Rattle.rounding.specs.Integral.{Way, floors, ceils, sized, integral, floorOf, ceilOf}
+use Rattle.rounding.specs.Within.{AtMost}
 use Rattle.rounding.proofs.Small as small
-use Rattle.rounding.proofs.Small.{chosen, rounded, add-small}
+use Rattle.rounding.proofs.Small.{rounded, add-small}
 use Rattle.rounding.proofs.Quotients.{sized-le}
 use Rattle.rounding.proofs.Value.{integral-value, floor-value, Floor}
 use Rattle.float.specs.declared.Shortened.{Shortened}
 use Rattle.float.specs.Shorten.{shorten, one, ten, plain, inner, outer}
 use Rattle.float.specs.Text.{signOf}
 use Rattle.float.specs.Calls.{printable}
-use Rattle.float.specs.Steps.{AtMost}
 
 -- x is finite, at most C in size and of positive sign
 abbrev pub Small : ℕ → Float → Type 0
 Small C x = (signOf x ≡ false) × AtMost C x
-
--- the same, of either sign, as rounding/proofs/Small has it
-held : (C : ℕ) (x : Float) → small.Small C x → AtMost C x
-held C (fin s m e) w = w
-
-back : (C : ℕ) (x : Float) → AtMost C x → small.Small C x
-back C (fin s m e) w = w
 
 -- ---- a rounded fraction of at most C, where C rounds to itself
 sign-round : (s : Bool) (a b : ℕ) → signOf (round binary64 s a b) ≡ s
@@ -41,7 +35,7 @@ sign-round s = rounded (λ (x : Float). signOf x ≡ s) binary64 s (λ m e. refl
 
 module _ (C : ℕ) (exact : HasValue (round binary64 false C 1) false C 1) where
   pub round-small : (a b : ℕ) → 0 < b → a ≤ C * b → Small C (round binary64 false a b)
-  round-small a b p h = (sign-round false a b, held C (round binary64 false a b) (small.round-small binary64 C exact false a b p h))
+  round-small a b p h = (sign-round false a b, small.round-small binary64 C exact false a b p h)
 
 pub wider : (C D : ℕ) (x : Float) → C ≤ D → AtMost C x → AtMost D x
 wider C D nan l w = w
@@ -126,9 +120,6 @@ tenth (fin false m e) w =
     round-small 2 (small-bound 2 (omega arith)) (m * up e * 1) (10 * down e) (omega (arith, down-pos e)) (omega (arith, w .1))
 
 -- ---- a sum
-add-within : (A B C : ℕ) (x y : Float) → HasValue (round binary64 false C 1) false C 1 → A + B ≤ C → AtMost A x → AtMost B y → AtMost C (add binary64 x y)
-add-within A B C x y v h p q = held C (add binary64 x y) (add-small binary64 C v A B x y h (back A x p) (back B y q))
-
 sign-sum : (a b c : ℕ) → signOf (sum binary64 false a false b c) ≡ false
 unfolding sum
 sign-sum a b c = sign-round false (a + b) c
@@ -165,7 +156,7 @@ below-ten (suc k) x eps t w =
     choose (Small 16) (le one eps) (plain x) _ (w .0, wider 10 16 x (omega arith) (w .1))
     (choose (Small 16) (lt (sub binary64 x (floorOf x)) eps) (plain (floorOf x)) _ (f .0 ∙ w .0, wider 10 16 (floorOf x) (omega arith) (f .1))
     (choose (Small 16) (lt (sub binary64 (ceilOf x) x) eps) (plain (ceilOf x)) (outer x (shorten k (inner x) (mul binary64 eps ten))) (g .0 ∙ w .0, wider 10 16 (ceilOf x) (omega arith) (g .1))
-    (add-sign 10 2 (floorOf x) _ z d, add-within 10 2 16 (floorOf x) _ (small-bound 16 (omega arith)) (omega arith) (f .1) (d .1))))
+    (add-sign 10 2 (floorOf x) _ z d, add-small binary64 16 (small-bound 16 (omega arith)) 10 2 (floorOf x) _ (omega arith) (f .1) (d .1))))
 
 -- the bound, which is a float
 abbrev pub near : ℕ
@@ -186,7 +177,7 @@ stays-near (suc k) x eps t w =
     choose (AtMost near) (le one eps) (plain x) _ (wider (2 ^ 53) near x (omega arith) w)
     (choose (AtMost near) (lt (sub binary64 x (floorOf x)) eps) (plain (floorOf x)) _ (wider (2 ^ 53) near (floorOf x) (omega arith) (f .1))
     (choose (AtMost near) (lt (sub binary64 (ceilOf x) x) eps) (plain (ceilOf x)) (outer x (shorten k (inner x) (mul binary64 eps ten))) (wider (2 ^ 53) near (ceilOf x) (omega arith) (g .1))
-    (add-within (2 ^ 53) 2 near (floorOf x) _ room (omega arith) (f .1) (d .1))))
+    (add-small binary64 near room (2 ^ 53) 2 (floorOf x) _ (omega arith) (f .1) (d .1))))
 
 -- ---- what `take_apart` asks
 pub at-most-number : (C : ℕ) (x : Float) → AtMost C x → isNan x ≡ false

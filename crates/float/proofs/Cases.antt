@@ -1,6 +1,6 @@
 -- The definitions, opened case by case. Assumes nothing.
 use mathlib.Core.Path.{_≡_, refl, sym, ap, _∙_}
-use mathlib.Core.Bool.{Bool, true, false, cond, _&&_, and-false}
+use mathlib.Core.Bool.{Bool, cond, _&&_, and-false}
 use Prim.Native.Nat.{ℕ, zero, suc, _+_, _-_, _*_, _/_, _%_, _^_, _≤_, _<_}
 use native.Mathlib.Nat.{pow-suc, pow-le-pow-right, zero-lt-suc}
 use native.Mathlib.Numerals.{sub-one}
@@ -9,7 +9,7 @@ use lib.Dec.{eqb}
 use lib.Ieee.{Float, binary64, sub, mul, lt, le}
 use borrow.Author.Tests.{eq-eqb, ne-eqb, le-leb, lt-leb}
 use Rattle.rounding.specs.Integral.{floorOf, ceilOf}
-use Rattle.rounding.proofs.Small.{chosen}
+use Rattle.ranged1d.proofs.Bools.{chosen}
 use Rattle.decimal.proofs.Digits.{tenth-small}
 use Rattle.float.specs.declared.Shortened.{Shortened}
 use Rattle.float.specs.declared.Parts.{Parts}
@@ -41,10 +41,6 @@ unfolding shorten
 shorten-some zero n eps h = absurd (h refl)
 shorten-some (suc j) n eps h = ap (λ (i : ℕ). level n eps (shorten i (inner n) (mul binary64 eps ten))) (sym (sub-one (suc j)))
 
-few-levels : (k : ℕ) (b : Bool) (r s : Shortened) → r .levels ≤ k → s .levels ≤ k → cond b r s .levels ≤ k
-few-levels k true r s p q = p
-few-levels k false r s p q = q
-
 -- a label has no more decimals of its own than the counter says, which is H
 pub shorten-few : (k : ℕ) (n eps : Float) → shorten k n eps .levels ≤ k
 unfolding shorten
@@ -52,9 +48,10 @@ shorten-few zero n eps = omega arith
 shorten-few (suc k) n eps =
     let z : 0 ≤ suc k = omega arith in
     let l : shorten k (inner n) (mul binary64 eps ten) .levels ≤ k = shorten-few k (inner n) (mul binary64 eps ten) in
-    few-levels (suc k) (le one eps) _ _ z
-    (few-levels (suc k) (lt (sub binary64 n (floorOf n)) eps) _ _ z
-    (few-levels (suc k) (lt (sub binary64 (ceilOf n) n) eps) _ _ z (omega arith)))
+    chosen few (le one eps) z (chosen few (lt (sub binary64 n (floorOf n)) eps) z (chosen few (lt (sub binary64 (ceilOf n) n) eps) z (omega arith)))
+  where
+    few : Shortened → Type 0
+    few r = r .levels ≤ suc k
 
 -- ---- decimals without the zeros at their end
 pub trim-none : (s : Bool) (w p d : ℕ) → p ≡ 0 → trimmed s w p d ≡ parts s w 0 0
@@ -71,11 +68,6 @@ unfolding trimmed
 trim-last s w zero d h e = absurd (h refl)
 trim-last s w (suc j) d h e = rw (ne-eqb (d % 10) 0 e)
 
--- what holds of parts however they are chosen
-pub parts-choose : (P : Parts → Type 0) (b : Bool) (r s : Parts) → P r → P s → P (cond b r s)
-parts-choose P true r s p q = p
-parts-choose P false r s p q = q
-
 -- at most k places, and a number that has no more digits
 abbrev pub Few : ℕ → Parts → Type 0
 Few k t = (t .places ≤ k) × (t .decimals < 10 ^ t .places)
@@ -87,7 +79,7 @@ pub trim-few : (s : Bool) (w p d : ℕ) → d < 10 ^ p → Few p (trimmed s w p 
 unfolding trimmed
 trim-few s w zero d h = (omega arith, omega arith)
 trim-few s w (suc p) d h =
-    parts-choose (Few (suc p)) (eqb (d % 10) 0) (trimmed s w p (d / 10)) (parts s w (suc p) d)
+    chosen (Few (suc p)) (eqb (d % 10) 0)
     (few-more p (trimmed s w p (d / 10)) (trim-few s w p (d / 10) (tenth-small d p h))) (omega arith, h)
 
 -- ---- the parts

@@ -12,11 +12,10 @@ use lib.Ieee.Bits.{is-true}
 use lib.Ieee.Fits.{down-pos, mul-fits}
 use lib.Ieee.Exact.{HasValue}
 use Rattle.rounding.specs.Integral.{floors, halves, sized, floorOf, roundOf}
-use Rattle.rounding.specs.Within.{wholeOf}
+use Rattle.rounding.specs.Within.{wholeOf, AtMost}
 use Rattle.rounding.proofs.Quotients.{sized-le, sized-whole}
 use Rattle.rounding.proofs.Value.{integral-value}
 use Rattle.float.specs.Text.{sizeOf, wholePart, decimalsOf}
-use Rattle.float.specs.Steps.{AtMost}
 use Rattle.float.proofs.Bounds.{near, Small, round-small, wider, small-bound, part-small}
 
 -- ---- the whole part

@@ -9,14 +9,16 @@ use lib.ListN.{length}
 use lib.Ieee.{Float, binary64, fits}
 use borrow.Author.Tests.{le-leb, lt-leb, leb-false}
 use Rattle.ranged1d.specs.Answer.{Answer, refused}
+use Rattle.ranged1d.proofs.Bools.{chosen}
+use Rattle.rounding.specs.Within.{AtMost}
 use Rattle.decimal.specs.Print.{longNatural}
 use Rattle.decimal.proofs.Digits.{digits-few}
 use Rattle.float.specs.declared.Parts.{Parts}
 use Rattle.float.specs.Shorten.{shorten, tolerance}
 use Rattle.float.specs.Text.{signOf, wholePart, decimalsOf, fillsUp, decimals, composed, shown, labelOf}
 use Rattle.float.specs.Calls.{printable, labelPrint}
-use Rattle.float.specs.Steps.{AtMost, parts, partsOf, trimmed, bytesOf, textWritten}
-use Rattle.float.proofs.Cases.{Few, parts-choose, trim-few, tail-le, shorten-few}
+use Rattle.float.specs.Steps.{parts, partsOf, trimmed, bytesOf, textWritten}
+use Rattle.float.proofs.Cases.{Few, trim-few, tail-le, shorten-few}
 use Rattle.float.proofs.Decimals.{decimals-kept}
 use Rattle.float.proofs.Lists.{front-most, bytes-length}
 use Rattle.float.proofs.Bounds.{near, stays-near, printable-at-most}
@@ -54,7 +56,7 @@ trim-keeps : (s : Bool) (w p d : ℕ) → (trimmed s w p d .minus ≡ s) × (tri
 unfolding trimmed
 trim-keeps s w zero d = (refl, refl)
 trim-keeps s w (suc p) d =
-    parts-choose (λ (t : Parts). (t .minus ≡ s) × (t .whole ≡ w)) (eqb (d % 10) 0) (trimmed s w p (d / 10)) (parts s w (suc p) d) (trim-keeps s w p (d / 10)) (refl, refl)
+    chosen (λ (t : Parts). (t .minus ≡ s) × (t .whole ≡ w)) (eqb (d % 10) 0) (trim-keeps s w p (d / 10)) (refl, refl)
 
 bytes-kept : (s : Bool) (w p d e : ℕ) → p ≤ 10 → d < 10 ^ p → bytesOf (trimmed s w p d) e ≡ composed s w (decimals p d) e
 unfolding bytesOf
@@ -74,7 +76,7 @@ bytes-shown x (suc p) e l = go (fillsUp x (suc p)) refl
 -- ---- a label has at most 38 bytes: a sign, 16 digits, and 21 bytes of the point and the decimals
 whole-grows : (x : Float) (p : ℕ) → partsOf x p .whole ≤ wholePart x + 1
 unfolding partsOf
-whole-grows x p = parts-choose (λ (t : Parts). t .whole ≤ wholePart x + 1) (fillsUp x p) (parts (signOf x) (wholePart x + 1) 0 0) (trimmed (signOf x) (wholePart x) p (decimalsOf x p)) (omega arith) kept
+whole-grows x p = chosen (λ (t : Parts). t .whole ≤ wholePart x + 1) (fillsUp x p) (omega arith) kept
   where
     kept : trimmed (signOf x) (wholePart x) p (decimalsOf x p) .whole ≤ wholePart x + 1
     kept = rw (trim-keeps (signOf x) (wholePart x) p (decimalsOf x p) .1) (omega arith)

@@ -1,20 +1,14 @@
 -- What private functions promise on the way to `labelPrint`, and what they ask: no part of the rule. Assumes nothing.
 use mathlib.Core.Bool.{Bool, cond, _&&_}
 use mathlib.Core.List.{List, [], _∷_, _++_}
-use Prim.Native.Nat.{ℕ, zero, suc, _+_, _/_, _%_, _*_, _≤_, max}
+use Prim.Native.Nat.{ℕ, zero, suc, _+_, _/_, _%_, max}
 use lib.Dec.{ltb, eqb}
 use lib.ListN.{length}
-use lib.Ieee.{Float, nan, inf, fin, up, down}
+use lib.Ieee.{Float}
 use Rattle.ranged1d.specs.Answer.{Answer, given, _when_, lowest, written}
 use Rattle.decimal.specs.Print.{longNatural}
 use Rattle.float.specs.declared.Parts.{Parts}
 use Rattle.float.specs.Text.{signOf, wholePart, decimalsOf, fillsUp, padded, filledUp, pointed, front}
-
--- x is finite and at most C in size
-abbrev pub AtMost : ℕ → Float → Type 0
-AtMost C nan = ⊥
-AtMost C (inf s) = ⊥
-AtMost C (fin s m e) = m * up e ≤ C * down e
 
 abbrev pub parts : Bool → ℕ → ℕ → ℕ → Parts
 parts s w p d = record { minus = s; whole = w; places = p; decimals = d }

@@ -7,10 +7,11 @@ ghost use Prim.Native.Nat.{ℕ, _+_, _-_, _^_, _≤_, _<_};
 ghost use lib.ListN.{length, drop, replicate};
 ghost use lib.Seq.{sets};
 ghost use lib.Ieee as Ieee;
+ghost use Rattle.rounding.specs.Within.{AtMost};
 ghost use Rattle.float.specs.Shorten.{shorten};
 ghost use Rattle.float.specs.Text.{signOf, sizeOf};
 ghost use Rattle.float.specs.Calls.{tellLabel, printable, labelPrint};
-ghost use Rattle.float.specs.Steps.{AtMost, trimmed, partsOf, placed, tailOf, tailLength, bytesOf, textWritten};
+ghost use Rattle.float.specs.Steps.{trimmed, partsOf, placed, tailOf, tailLength, bytesOf, textWritten};
 
 // How a label is written: with at least min_decimal decimals, of which at most max_decimal say anything of the number.
 pub struct FloatPrettyPrinter {

@@ -1,6 +1,6 @@
--- What a test that is put together of two says of each, and what it is by one of them. Assumes nothing.
+-- What a test that is put together of two says of each, and what it is by one of them; what holds by either value of a test. Assumes nothing.
 use mathlib.Core.Path.{_≡_, refl, sym}
-use mathlib.Core.Bool.{Bool, true, false, true≢false, _&&_, _||_, or-true}
+use mathlib.Core.Bool.{Bool, true, false, cond, true≢false, _&&_, _||_, or-true}
 
 pub both-true : (x y : Bool) → (x && y) ≡ true → (x ≡ true) × (y ≡ true)
 both-true true y h = (refl, h)
@@ -12,3 +12,8 @@ both-false false y h = (refl, h)
 
 pub or-right : (x y : Bool) → y ≡ true → (x || y) ≡ true
 or-right x y h = rw h (or-true x)
+
+-- what holds of both holds of the one that is chosen
+pub chosen : {A : Type 0} (P : A → Type 0) (b : Bool) {x y : A} → P x → P y → P (cond b x y)
+chosen P true p q = p
+chosen P false p q = q

@@ -2,15 +2,15 @@
 -- order says. Assumes nothing.
 use mathlib.Core.Path.{_≡_, refl, sym, ap, _∙_, subst}
 use mathlib.Core.Bool.{Bool, true, false, cond, not}
-use Prim.Native.Nat.{ℕ, zero, suc, _+_, _-_, _*_, _/_, _≤_, _<_}
+use Prim.Native.Nat.{ℕ, zero, suc, _+_, _-_, _*_, _/_, _^_, _≤_, _<_}
 use native.Mathlib.Nat.{div-le-self, zero-mul}
 use native.Mathlib.Omega.{arith}
-use lib.Dec.{T, ltb, leb, leb·zero, leb·suc-zero, leb·suc-suc}
+use lib.Dec.{T, ltb, leb, lit<, leb·zero, leb·suc-zero, leb·suc-suc}
 use lib.IntN.{ℤ, pos, negsuc, negℤ, natAbs, subℕ, _+ℤ_, _-ℤ_, _*ℤ_, +ℤ-comm, +ℤ-assoc, +ℤ-idl, +ℤ-negℤ-cancel, negℤ-+ℤ, negℤ-negℤ}
 use lib.Signed.{leZ, ltZ, quotZ, nonNeg, natAbs-le}
 use borrow.Author.Tests.{ltb-true, ltb-false, leb-true, leb-false, le-leb, lt-leb}
-use mir.Syntax.{w32, w64}
-use mir.Val.{SFits}
+use mir.Syntax.{Width, w32, w64}
+use mir.Val.{SFits, hbits}
 use Rattle.ranged1d.specs.Admitted.{wholeAdmitted}
 
 -- a − b is below 0 or not
@@ -58,14 +58,16 @@ pub pos-times-far : (i : ℕ) (z : ℤ) → natAbs (pos i *ℤ z) ≡ i * natAbs
 pos-times-far i (pos a) = refl
 pos-times-far i (negsuc a) = neg-far (pos (i * suc a))
 
--- ---- what fits
+-- ---- what is small in size fits
+pub fits-abs : (w : Width) (z : ℤ) (k : ℕ) → natAbs z ≤ k → k < 2 ^ hbits w → SFits w z
+fits-abs w (pos n) k h j = record { sfits = omega arith }
+fits-abs w (negsuc n) k h j = record { sfits = omega arith }
+
 pub fits32 : (z : ℤ) → natAbs z ≤ 2147483647 → SFits w32 z
-fits32 (pos n) h = record { sfits = omega arith }
-fits32 (negsuc n) h = record { sfits = omega arith }
+fits32 z h = fits-abs w32 z 2147483647 h (lit< tt)
 
 pub fits64 : (z : ℤ) → natAbs z ≤ 9223372036854775807 → SFits w64 z
-fits64 (pos n) h = record { sfits = omega arith }
-fits64 (negsuc n) h = record { sfits = omega arith }
+fits64 z h = fits-abs w64 z 9223372036854775807 h (lit< tt)
 
 pub far32 : (z : ℤ) → SFits w32 z → natAbs z ≤ 2147483648
 far32 z f = natAbs-le z (f .sfits)

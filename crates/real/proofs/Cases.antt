@@ -14,7 +14,7 @@ use borrow.Author.Tests.{ltb-true, le-leb, leb-true, ne-eqb}
 use Rattle.ranged1d.specs.Answer.{Answer, given, _when_, lowest}
 use Rattle.ranged1d.specs.declared.Limit.{Limit}
 use Rattle.ranged1d.specs.Admitted.{pixelAdmitted, limitAdmitted}
-use Rattle.ranged1d.proofs.Bools.{both-true, both-false}
+use Rattle.ranged1d.proofs.Bools.{both-true, both-false, chosen}
 use Rattle.ranged1d.proofs.Whole.{both-ways, not-lt}
 use Rattle.rounding.specs.Integral.{Way}
 use Rattle.rounding.specs.Within.{within}
@@ -22,7 +22,6 @@ use Rattle.rounding.specs.declared.Whole.{Whole}
 use Rattle.rounding.specs.declared.Whole.the-variants.{Number, Beyond}
 use Rattle.rounding.proofs.Bounds.{Held, within-held}
 use Rattle.rounding.proofs.Signs.{negated}
-use Rattle.rounding.proofs.Small.{chosen}
 use Rattle.real.specs.Place.{farthest, along, product, isBeyond, number}
 use Rattle.real.specs.Reading.{lower, upper, outside, same}
 use Rattle.real.proofs.Signs.{int-value}

@@ -6,10 +6,11 @@ use lib.Dec.{ltb}
 use lib.IntN.{ℤ, pos, natAbs}
 use lib.Ieee.{Float, nan, inf, fin, binary64, up, down, unlike, round, neg, sum, add, sub, mul, ofInt, ofBits, isNan}
 use lib.Ieee.Exact.{HasValue}
+use Rattle.ranged1d.proofs.Bools.{chosen}
 use Rattle.rounding.specs.Integral.{Way, floors, ceils}
 use Rattle.rounding.specs.Within.{within}
 use Rattle.rounding.specs.declared.Whole.the-variants.{Number}
-use Rattle.rounding.proofs.Small.{chosen, rounded}
+use Rattle.rounding.proofs.Small.{rounded}
 use Rattle.real.specs.Place.{farthest, milli, product, rising, falling}
 use Rattle.real.proofs.Cases.{steps}
 use Rattle.real.proofs.Signs.{int-value}

@@ -16,18 +16,19 @@ use Rattle.ranged1d.specs.Admitted.{wholeAdmitted, limitAdmitted}
 use Rattle.ranged1d.specs.declared.Limit.{Limit}
 use Rattle.ranged1d.proofs.Answers.{given-is, not-both}
 use Rattle.ranged1d.proofs.Whole.{add-far, minus-far, quot-far}
+use Rattle.rounding.specs.Within.{AtMost}
 use Rattle.rounding.specs.Integral.{Way, floors, ceils}
 use Rattle.rounding.specs.declared.Whole.{Whole}
 use Rattle.rounding.specs.declared.Whole.the-variants.{Number, Beyond}
 use Rattle.rounding.proofs.Value.{Told}
-use Rattle.rounding.proofs.Small.{Small, small-neg, add-small, mul-small}
+use Rattle.rounding.proofs.Small.{small-neg, add-small, mul-small}
 use Rattle.real.specs.Place.{farthest, milli, share, product, rising, falling, plus, orEnd, along, spot, number, realPlace, wholePlace}
 use Rattle.real.proofs.Cases.{answered, near-limits, some-size, steps, steps-near}
 use Rattle.real.proofs.Exact.{differ, no-difference, whole-share}
 use Rattle.real.proofs.Sizes.{small-int, small-quotient, small-told}
 
 -- ---- a fact of the place, from what it is in each case: a whole number near 0, or p and a number of steps
-thousandth : Small 1 milli
+thousandth : AtMost 1 milli
 unfolding ofBits
 thousandth = lit≤ tt
 
@@ -49,13 +50,13 @@ module _ (P : Whole → Type 0) (limit : Limit) (h : limitAdmitted limit ≡ tru
       go false true = near-zero p (let n = near-limits limit h .0 in omega arith)
       go false false = x
 
-  along-by : (l : ℤ) (t : Float) → ((w : Way) (d : Float) → Small 1 d → P (plus p (steps w farthest d l t))) → P (along p q l t)
+  along-by : (l : ℤ) (t : Float) → ((w : Way) (d : Float) → AtMost 1 d → P (plus p (steps w farthest d l t))) → P (along p q l t)
   unfolding along rising falling sub
   along-by (pos zero) t x = near-zero q (let n = near-limits limit h .1 in omega arith)
   along-by (pos (suc n)) t x = end-by t (plus p (steps floors farthest milli (pos (suc n)) t)) (x floors milli thousandth)
   along-by (negsuc n) t x = end-by t (plus p (steps ceils farthest (neg milli) (negsuc n) t)) (x ceils (neg milli) (small-neg 1 milli thousandth))
 
-  spot-by : (a b v : Float) → (eq a b ≡ false → (w : Way) (d : Float) → Small 1 d → P (plus p (steps w farthest d (q -ℤ p) (share a b v)))) → P (spot a b v limit)
+  spot-by : (a b v : Float) → (eq a b ≡ false → (w : Way) (d : Float) → AtMost 1 d → P (plus p (steps w farthest d (q -ℤ p) (share a b v)))) → P (spot a b v limit)
   unfolding spot
   spot-by a b v x = go (eq a b) refl
     where
@@ -98,12 +99,12 @@ pub record Placed (r : Answer ℤ) : Type 0 where
   pub near : natAbs at ≤ 23_000_001
 
 -- a share of at most 11 leads to a whole number of at most 22,000,001
-module _ (l : ℤ) (t : Float) (hl : natAbs l ≤ 2_000_000) (ht : Small 11 t) where
-  product-small : Small 22_000_000 (product l t)
+module _ (l : ℤ) (t : Float) (hl : natAbs l ≤ 2_000_000) (ht : AtMost 11 t) where
+  product-small : AtMost 22_000_000 (product l t)
   product-small =
       mul-small binary64 22_000_000 (round-whole binary64 false 22_000_000 (lit≤ tt)) 2_000_000 11 (ofInt binary64 l) t (lit≤ tt) (small-int binary64 2_000_000 (lit≤ tt) l hl) ht
 
-  steps-told : (w : Way) (d : Float) → Small 1 d → Told (steps w farthest d l t) 22_000_001
+  steps-told : (w : Way) (d : Float) → AtMost 1 d → Told (steps w farthest d l t) 22_000_001
   steps-told w d h =
       small-told w farthest 22_000_001 (add binary64 (product l t) d) (lit≤ tt)
       (add-small binary64 22_000_001 (round-whole binary64 false 22_000_001 (lit≤ tt)) 22_000_000 1 (product l t) d (lit≤ tt) product-small h)
@@ -130,13 +131,13 @@ placed a b v limit h ha hb hv far =
     fv : Float
     fv = ofInt binary64 v
 
-    share-small : eq fa fb ≡ false → Small 11 (share fa fb fv)
+    share-small : eq fa fb ≡ false → AtMost 11 (share fa fb fv)
     share-small e =
         let n : a ≡ b → ⊥ = differ a b (omega arith) e in
         rw (whole-share a b v (omega arith) (omega arith) (omega arith))
         (small-quotient binary64 11 (lit≤ tt) (v -ℤ a) (b -ℤ a) (omega (arith, minus-far v a)) (omega (arith, minus-far b a)) (some-size (b -ℤ a) (λ z. n (no-difference a b z))) (far n))
 
-    step : eq fa fb ≡ false → (w : Way) (d : Float) → Small 1 d → Told (plus (limit .0) (steps w farthest d (limit .1 -ℤ limit .0) (share fa fb fv))) 23_000_001
+    step : eq fa fb ≡ false → (w : Way) (d : Float) → AtMost 1 d → Told (plus (limit .0) (steps w farthest d (limit .1 -ℤ limit .0) (share fa fb fv))) 23_000_001
     step e w d s =
         let n = near-limits limit h in
         plus-told (limit .0) _ (n .0) (steps-told (limit .1 -ℤ limit .0) (share fa fb fv) (omega (arith, minus-far (limit .1) (limit .0), n .0, n .1)) (share-small e) w d s)

@@ -12,11 +12,11 @@ use lib.Ieee.Exact.{HasValue}
 use lib.Ieee.Back.{round-whole}
 use borrow.Author.Tests.{ne-eqb}
 use Rattle.rounding.specs.Integral.{Way, sized}
-use Rattle.rounding.specs.Within.{signed, wholeOf, within}
+use Rattle.rounding.specs.Within.{signed, wholeOf, within, AtMost}
 use Rattle.rounding.proofs.Quotients.{sized-le}
 use Rattle.rounding.proofs.Bounds.{kept-in}
 use Rattle.rounding.proofs.Steps.{signed-abs}
-use Rattle.rounding.proofs.Small.{Small, Plus, plus-round, round-small}
+use Rattle.rounding.proofs.Small.{Plus, plus-round, round-small}
 use Rattle.rounding.proofs.Value.{Told}
 use Rattle.real.proofs.Signs.{int-value}
 
@@ -35,15 +35,15 @@ plus-div f (fin false m e) (fin true k g) n d p a b = absurd (true≢false (b .0
 plus-div f (fin false m e) (fin false k g) n d p a b = rw (ne-eqb k 0 (some-digits false k g false d p b)) (plus-round f (m * up e * down g) (k * up g * down e))
 
 module _ (f : Format) (C : ℕ) (held : C ≤ 2 ^ prec f) where
-  small-round : (s : Bool) (n d : ℕ) → 0 < d → n ≤ C * d → Small C (round f s n d)
+  small-round : (s : Bool) (n d : ℕ) → 0 < d → n ≤ C * d → AtMost C (round f s n d)
   small-round = round-small f C (round-whole f false C held)
 
-  pub small-int : (z : ℤ) → natAbs z ≤ C → Small C (ofInt f z)
+  pub small-int : (z : ℤ) → natAbs z ≤ C → AtMost C (ofInt f z)
   unfolding ofInt
   small-int (pos n) h = small-round false n 1 (omega arith) (omega arith)
   small-int (negsuc n) h = small-round true (suc n) 1 (omega arith) (omega arith)
 
-  small-div : (x y : Float) (s t : Bool) (n d : ℕ) → 0 < d → n ≤ C * d → HasValue x s n 1 → HasValue y t d 1 → Small C (div f x y)
+  small-div : (x y : Float) (s t : Bool) (n d : ℕ) → 0 < d → n ≤ C * d → HasValue x s n 1 → HasValue y t d 1 → AtMost C (div f x y)
   unfolding div
   small-div (fin u m e) (fin v k g) s t n d p h a b =
       let x : m * up e ≡ n * down e = sym (mul-one (m * up e)) ∙ a .1 in
@@ -54,11 +54,11 @@ module _ (f : Format) (C : ℕ) (held : C ≤ 2 ^ prec f) where
       rw (x, y) (le-trans (mul-le-mul-right (down g) (mul-le-mul-right (down e) h)) (le-of-eq (simp (mul-assoc, mul-comm)))) in
       rw (ne-eqb k 0 (some-digits v k g t d p b)) (small-round (unlike u v) (m * up e * down g) (k * up g * down e) below l)
 
-  pub small-quotient : (m n : ℤ) → natAbs m ≤ 2 ^ prec f → natAbs n ≤ 2 ^ prec f → 0 < natAbs n → natAbs m ≤ C * natAbs n → Small C (div f (ofInt f m) (ofInt f n))
+  pub small-quotient : (m n : ℤ) → natAbs m ≤ 2 ^ prec f → natAbs n ≤ 2 ^ prec f → 0 < natAbs n → natAbs m ≤ C * natAbs n → AtMost C (div f (ofInt f m) (ofInt f n))
   small-quotient m n hm hn p h = let x = int-value f m hm in let y = int-value f n hn in small-div (ofInt f m) (ofInt f n) (x .0) (y .0) (natAbs m) (natAbs n) p h (x .1) (y .1)
 
 -- ---- the whole number next to a small number
-pub small-told : (w : Way) (b C : ℕ) (x : Float) → C ≤ b → Small C x → Told (within w b x) C
+pub small-told : (w : Way) (b C : ℕ) (x : Float) → C ≤ b → AtMost C x → Told (within w b x) C
 unfolding within wholeOf
 small-told w b C (fin s m e) h v =
     let k = sized w s (m * up e) (down e) in

@@ -1,28 +1,17 @@
--- A whole number within a bound: what the code's two tests say, and that a small number fits a signed width. Assumes nothing.
-use mathlib.Core.Path.{_≡_, refl, ap, _∙_}
+-- A whole number within a bound: what the code's two tests say. Assumes nothing.
+use mathlib.Core.Path.{_≡_, refl}
 use mathlib.Core.Bool.{Bool, true, false, cond, true≢false, false≢true}
-use Prim.Native.Nat.{ℕ, zero, suc, _^_, _≤_, _<_, zero-le}
+use Prim.Native.Nat.{ℕ, zero, suc, _≤_, _<_, zero-le}
 use native.Mathlib.Omega.{arith}
 use lib.Dec.{leb}
 use lib.IntN.{ℤ, pos, negsuc, negℤ, natAbs, _-ℤ_, +ℤ-idl}
 use lib.Ieee.{Float, nan, inf, fin}
 use lib.Signed.{ltZ}
-use mir.Syntax.{Width}
-use mir.Val.{SFits, hbits}
 use borrow.Author.Tests.{ltb-true, ltb-false, lt-leb, le-leb, leb-true}
 use Rattle.rounding.specs.Integral.{Way}
 use Rattle.rounding.specs.Within.{kept, wholeOf, within}
 use Rattle.rounding.specs.declared.Whole.{Whole}
 use Rattle.rounding.specs.declared.Whole.the-variants.{Number, Beyond}
-use Rattle.rounding.proofs.Signs.{abs-neg}
-
--- what is small in size fits
-pub fits-abs : (w : Width) (z : ℤ) (k : ℕ) → natAbs z ≤ k → k < 2 ^ hbits w → SFits w z
-fits-abs w (pos n) k h j = record { sfits = omega arith }
-fits-abs w (negsuc n) k h j = record { sfits = omega arith }
-
-pub minus-abs : (z : ℤ) → natAbs (pos 0 -ℤ z) ≡ natAbs z
-minus-abs z = ap natAbs (+ℤ-idl (negℤ z)) ∙ abs-neg z
 
 -- ---- `kept`
 pub kept-in : (b : ℕ) (z : ℤ) → natAbs z ≤ b → kept b z ≡ Number z

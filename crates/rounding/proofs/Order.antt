@@ -1,19 +1,19 @@
 -- The whole numbers of `wholeOf` in the order of the integers: next to x on the side that the way says, and no smaller for a larger x. Assumes nothing.
 use mathlib.Core.Path.{_≡_, refl, sym, ap, _∙_}
-use mathlib.Core.Bool.{Bool, true, false, cond}
+use mathlib.Core.Bool.{Bool, true, false}
 use Prim.Native.Nat.{ℕ, zero, suc, _+_, _-_, _*_, _≤_, _<_, zero-le}
 use native.Mathlib.Nat.{zero-mul, one-mul, add-mul, suc-mul, lt-of-mul-lt-mul-right}
 use native.Mathlib.Omega.{arith}
-use lib.Dec.{ltb, lt→ltb, le→leb}
+use lib.Dec.{lt→ltb, le→leb}
 use lib.IntN.{ℤ, pos, negsuc, negℤ, natAbs, _+ℤ_, _-ℤ_, _*ℤ_, +ℤ-one, negℤ-+ℤ}
 use lib.Signed.{_≤ℤ_, _<ℤ_}
 use lib.Ieee.{fin, up, down, lt, le}
 use lib.Ieee.Fits.{down-pos}
-use borrow.Author.Tests.{ltb-true, ltb-false}
+use borrow.Author.Tests.{ltb-false}
+use Rattle.ranged1d.proofs.Whole.{sub-cases, neg-far}
 use Rattle.rounding.specs.Integral.{Way, floors, ceils, halves, sized}
 use Rattle.rounding.specs.Within.{signed, wholeOf}
 use Rattle.rounding.proofs.Quotients.{Is, Near, sized-of, sized-le, sized-mono}
-use Rattle.rounding.proofs.Signs.{abs-neg}
 use Rattle.rounding.proofs.Steps.{one-less, one-more}
 
 -- ---- ±a in order
@@ -69,15 +69,11 @@ ceil-by true n d k p h =
 -- ---- |round - x| ≤ 1 / 2
 sub-size : (a b : ℕ) → natAbs (pos a -ℤ pos b) ≡ a - b + (b - a)
 sub-size a zero = omega arith
-sub-size a (suc b) = go (ltb a (suc b)) refl
-  where
-    go : (t : Bool) → ltb a (suc b) ≡ t → natAbs (cond t (negsuc (suc b - suc a)) (pos (a - suc b))) ≡ a - suc b + (suc b - a)
-    go true h = let l : a < suc b = ltb-true a (suc b) h in omega arith
-    go false h = let l : suc b ≤ a = ltb-false a (suc b) h in omega arith
+sub-size a (suc b) = sub-cases a (suc b) (λ z. natAbs z ≡ a - suc b + (suc b - a)) (λ l. omega arith) (λ l. omega arith)
 
 apart : (s : Bool) (a b : ℕ) → natAbs (signed s a -ℤ signed s b) ≡ a - b + (b - a)
 apart false a b = sub-size a b
-apart true a b = ap natAbs (sym (negℤ-+ℤ (pos a) (negℤ (pos b)))) ∙ abs-neg (pos a -ℤ pos b) ∙ sub-size a b
+apart true a b = ap natAbs (sym (negℤ-+ℤ (pos a) (negℤ (pos b)))) ∙ neg-far (pos a -ℤ pos b) ∙ sub-size a b
 
 near-by : (s : Bool) (n d k : ℕ) → Near n d k → 2 * natAbs (signed s k *ℤ pos d -ℤ signed s n) ≤ d
 near-by s n d k h = rw (signed-mul s k d, apart s (k * d) n) (omega arith)

@@ -3,10 +3,11 @@ use mathlib.Core.Path.{_≡_, refl, sym, ap, _∙_}
 use mathlib.Core.Bool.{Bool, true, false, not, cond}
 use Prim.Native.Nat.{ℕ, zero, suc, _+_, _*_, _^_, _<_}
 use lib.Dec.{ltb, leb}
-use lib.IntN.{ℤ, pos, negsuc, negℤ, negℤ-negℤ, natAbs}
+use lib.IntN.{ℤ, pos, negℤ, negℤ-negℤ, natAbs}
 use lib.Ieee.{Float, nan, inf, fin, Format, prec, emax, low, up, down, odd, units, round, neg, lt}
 use borrow.Author.Tests.{ltb-true, le-ltb}
 use native.Mathlib.Omega.{arith}
+use Rattle.ranged1d.proofs.Whole.{neg-far}
 use Rattle.rounding.specs.Integral.{Way, floors, ceils, halves, integral, isWhole, sized}
 use Rattle.rounding.specs.Within.{signed, wholeOf, kept, within}
 use Rattle.rounding.specs.declared.Whole.{Whole}
@@ -79,17 +80,12 @@ pub integral-turned : (f : Format) (w : Way) (x : Float) → neg (integral f w (
 integral-turned f w x = ap neg (integral-neg f w x) ∙ neg-neg (integral f (turned w) x)
 
 -- ---- the whole form
-pub abs-neg : (z : ℤ) → natAbs (negℤ z) ≡ natAbs z
-abs-neg (pos zero) = refl
-abs-neg (pos (suc n)) = refl
-abs-neg (negsuc n) = refl
-
 signed-neg : (s : Bool) (k : ℕ) → signed (not s) k ≡ negℤ (signed s k)
 signed-neg false k = refl
 signed-neg true k = sym (negℤ-negℤ (pos k))
 
 kept-neg : (b : ℕ) (z : ℤ) → kept b (negℤ z) ≡ negated (kept b z)
-kept-neg b z = rw (abs-neg z) (go (leb (natAbs z) b))
+kept-neg b z = rw (neg-far z) (go (leb (natAbs z) b))
   where
     go : (t : Bool) → cond t (Number (negℤ z)) Beyond ≡ negated (cond t (Number z) Beyond)
     go true = refl

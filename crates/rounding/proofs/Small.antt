@@ -1,6 +1,6 @@
 -- A fraction that is rounded: what it can be, its sign, and its size; and the size of a sum and of a product. Assumes nothing.
 use mathlib.Core.Path.{_≡_, refl, sym, ap, _∙_, subst}
-use mathlib.Core.Bool.{Bool, true, false, cond, _&&_, _||_, Bool·beq, true≢false}
+use mathlib.Core.Bool.{Bool, true, false, _&&_, _||_, Bool·beq, true≢false}
 use Prim.Native.Nat.{ℕ, zero, suc, _+_, _-_, _*_, _^_, _≤_, _<_}
 use native.Mathlib.Nat.{le-trans, le-of-eq, le-of-mul-le-mul-right, mul-le-mul, mul-le-mul-right, mul-assoc, mul-comm, mul-mul-mul-comm, mul-right-comm, mul-one, add-mul, mul-pos, zero-lt-suc}
 use native.Mathlib.Omega.{arith}
@@ -10,12 +10,9 @@ use lib.Ieee.{Format, prec, emax, low, Float, nan, inf, fin, up, down, unlike, o
 use lib.Ieee.Fits.{down-pos, round-is}
 use lib.Ieee.Exact.{HasValue}
 use lib.Ieee.Order.{round-mono}
+use Rattle.ranged1d.proofs.Bools.{chosen}
+use Rattle.rounding.specs.Within.{AtMost}
 use Rattle.rounding.proofs.Signs.{round-neg}
-
--- what holds of both holds of the one that is chosen
-pub chosen : {A : Type 0} (P : A → Type 0) (b : Bool) {x y : A} → P x → P y → P (cond b x y)
-chosen P true p q = p
-chosen P false p q = q
 
 -- what holds of every finite number of a sign and of the infinity of that sign holds of a rounded fraction
 module _ (P : Float → Type 0) (f : Format) (s : Bool) (finite : (m : ℕ) (e : ℤ) → P (fin s m e)) (infinite : P (inf s)) where
@@ -31,13 +28,7 @@ module _ (P : Float → Type 0) (f : Format) (s : Bool) (finite : (m : ℕ) (e :
   pub rounded : (n d : ℕ) → P (round f s n d)
   rounded n d = subst P (sym (round-is f s n d)) (units-are _ _)
 
--- x is finite and at most C in size
-abbrev pub Small : ℕ → Float → Type 0
-Small C nan = ⊥
-Small C (inf s) = ⊥
-Small C (fin s m e) = m * up e ≤ C * down e
-
-pub small-neg : (C : ℕ) (x : Float) → Small C x → Small C (neg x)
+pub small-neg : (C : ℕ) (x : Float) → AtMost C x → AtMost C (neg x)
 unfolding neg
 small-neg C (fin s m e) w = w
 
@@ -58,7 +49,7 @@ or-le x y b t = go (ltb x y) (eqb x y) (ltb→lt x y) (eqb→eq x y) t
     go false true f g t = let h = g tt in omega arith
     go false false f g t = absurd t
 
-under : (C : ℕ) (x y : Float) → Plus x → HasValue y false C 1 → T (le x y) → Small C x
+under : (C : ℕ) (x y : Float) → Plus x → HasValue y false C 1 → T (le x y) → AtMost C x
 unfolding le lt eq
 under C (inf true) (fin u n d) s v t = absurd (true≢false s)
 under C (inf false) (fin u n d) s v t = absurd t
@@ -70,21 +61,21 @@ under C (fin false m e) (fin false n d) s v t =
     le-of-mul-le-mul-right (le-trans l (le-of-eq q)) (down-pos d)
 
 module _ (f : Format) (C : ℕ) (exact : HasValue (round f false C 1) false C 1) where
-  above-zero : (n d : ℕ) → 0 < d → n ≤ C * d → Small C (round f false n d)
+  above-zero : (n d : ℕ) → 0 < d → n ≤ C * d → AtMost C (round f false n d)
   above-zero n d p h = under C (round f false n d) (round f false C 1) (plus-round f n d) exact (round-mono f n d C 1 p (zero-lt-suc 0) (rw (mul-one n) h))
 
-  pub round-small : (s : Bool) (n d : ℕ) → 0 < d → n ≤ C * d → Small C (round f s n d)
+  pub round-small : (s : Bool) (n d : ℕ) → 0 < d → n ≤ C * d → AtMost C (round f s n d)
   round-small false n d p h = above-zero n d p h
-  round-small true n d p h = subst (Small C) (sym (round-neg f false n d)) (small-neg C (round f false n d) (above-zero n d p h))
+  round-small true n d p h = subst (AtMost C) (sym (round-neg f false n d)) (small-neg C (round f false n d) (above-zero n d p h))
 
-  sum-small : (s : Bool) (a : ℕ) (t : Bool) (b c : ℕ) → 0 < c → a + b ≤ C * c → Small C (sum f s a t b c)
+  sum-small : (s : Bool) (a : ℕ) (t : Bool) (b c : ℕ) → 0 < c → a + b ≤ C * c → AtMost C (sum f s a t b c)
   unfolding sum
   sum-small s a t b c p h =
-      chosen (Small C) (Bool·beq s t) (round-small s (a + b) c p h)
-      (chosen (Small C) (ltb a b) (round-small t (b - a) c p (omega arith)) (round-small (s && ltb b a) (a - b) c p (omega arith)))
+      chosen (AtMost C) (Bool·beq s t) (round-small s (a + b) c p h)
+      (chosen (AtMost C) (ltb a b) (round-small t (b - a) c p (omega arith)) (round-small (s && ltb b a) (a - b) c p (omega arith)))
 
   -- ---- the operations
-  pub add-small : (A B : ℕ) (x y : Float) → A + B ≤ C → Small A x → Small B y → Small C (add f x y)
+  pub add-small : (A B : ℕ) (x y : Float) → A + B ≤ C → AtMost A x → AtMost B y → AtMost C (add f x y)
   unfolding add
   add-small A B (fin s m e) (fin t n d) h v w =
       let c = down e * down d in
@@ -93,7 +84,7 @@ module _ (f : Format) (C : ℕ) (exact : HasValue (round f false C 1) false C 1)
       let l : (A + B) * c ≤ C * c = mul-le-mul-right c h in
       sum-small s (m * up e * down d) t (n * up d * down e) c (mul-pos (down-pos e) (down-pos d)) (omega (arith, add-mul A B c))
 
-  pub mul-small : (A B : ℕ) (x y : Float) → A * B ≤ C → Small A x → Small B y → Small C (mul f x y)
+  pub mul-small : (A B : ℕ) (x y : Float) → A * B ≤ C → AtMost A x → AtMost B y → AtMost C (mul f x y)
   unfolding mul
   mul-small A B (fin s m e) (fin t n d) h v w =
       let c = down e * down d in

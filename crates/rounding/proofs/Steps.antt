@@ -10,11 +10,12 @@ use lib.Ieee.Fits.{down-pos}
 use lib.Ieee.Nearest.{closest}
 use lib.Ieee.Back.{round-whole}
 use borrow.Author.Tests.{ltb-true, ltb-false, lt-ltb}
+use Rattle.ranged1d.proofs.Whole.{neg-far}
 use Rattle.rounding.specs.Integral.{floors, sized}
 use Rattle.rounding.specs.Within.{signed, wholeOf}
 use Rattle.rounding.proofs.Compare.{Says, Tells, says, under, over}
 use Rattle.rounding.proofs.Quotients.{Next, sized-is}
-use Rattle.rounding.proofs.Signs.{abs-neg, zeroF}
+use Rattle.rounding.proofs.Signs.{zeroF}
 use Rattle.rounding.proofs.Sums.{add-whole, whole-sum, landed, landed-next, landed-ge}
 
 -- ±2 ^ 52, and 1
@@ -27,7 +28,7 @@ oneF = fin false 1 (pos 0)
 -- ---- ±q as an integer
 pub signed-abs : (s : Bool) (q : ℕ) → natAbs (signed s q) ≡ q
 signed-abs false q = refl
-signed-abs true q = abs-neg (pos q)
+signed-abs true q = neg-far (pos q)
 
 pos-less : (q c : ℕ) → c ≤ q → pos q +ℤ negℤ (pos c) ≡ pos (q - c)
 pos-less q c h =

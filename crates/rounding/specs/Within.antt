@@ -1,7 +1,7 @@
 -- Floor, ceiling and rounding as a whole number within a bound: the whole steps of 01 "Places on the film", and the margin of
 -- 01 "Whole reading, segments, real labels". Assumes nothing.
 use mathlib.Core.Bool.{Bool, true, false, cond}
-use Prim.Native.Nat.{ℕ, _*_}
+use Prim.Native.Nat.{ℕ, _*_, _≤_}
 use lib.Dec.{leb}
 use lib.IntN.{ℤ, pos, negℤ, natAbs}
 use lib.Ieee.{Float, nan, inf, fin, up, down}
@@ -41,3 +41,9 @@ ceilWithin b x = within ceils b x
 -- the whole number nearest to x, a half going away from zero, if within b; of an f32 as of an f64, since it asks for no format
 abbrev pub roundWithin : ℕ → Float → Whole
 roundWithin b x = within halves b x
+
+-- x is finite and at most C in size
+abbrev pub AtMost : ℕ → Float → Type 0
+AtMost C nan = ⊥
+AtMost C (inf s) = ⊥
+AtMost C (fin s m e) = m * up e ≤ C * down e

@@ -14,8 +14,8 @@ use lib.Ieee.Exact.{HasValue}
 use lib.Ieee.Nearest.{div-same}
 use lib.Ieee.Scale.{grid, finite, round-same, round-val, round-under, grid-scale, normal-of-fraction}
 use Rattle.rounding.specs.Integral.{halves}
-use Rattle.rounding.specs.Within.{wholeOf}
-use Rattle.rounding.proofs.Small.{Small, Plus}
+use Rattle.rounding.specs.Within.{wholeOf, AtMost}
+use Rattle.rounding.proofs.Small.{Plus}
 use Rattle.real.proofs.Sizes.{plus-div, small-quotient}
 use Rattle.segmented.specs.Segments.{shared}
 use Rattle.segmented.proofs.Margin.{quotient, int-plus, share-least, no-share}
@@ -43,7 +43,7 @@ near-of (fin true m e) g d p h = absurd (true≢false (h .0))
 near-of (fin false m e) g d p h =
     ap pos (div-same (2 * (m * up e) + down e) (2 * down e) (2 * g + d) (2 * d) (mul-pos (omega arith) (down-pos e)) (mul-pos (omega arith) p) (spread (m * up e) (down e) g d (h .1)))
 
-cut-of : (y : Float) (g d : ℕ) → 0 < d → Small 4000000 y → HasValue y false g d → toUnsigned 64 y ≡ g / d
+cut-of : (y : Float) (g d : ℕ) → 0 < d → AtMost 4000000 y → HasValue y false g d → toUnsigned 64 y ≡ g / d
 unfolding toUnsigned
 cut-of (fin true m e) g d p s h = absurd (true≢false (h .0))
 cut-of (fin false m e) g d p s h =
@@ -51,7 +51,7 @@ cut-of (fin false m e) g d p s h =
     let r : min (m * up e / down e) (2 ^ 64 - 1) ≡ m * up e / down e = omega (arith, l) in
     r ∙ div-same (m * up e) (down e) g d (down-pos e) p (h .1)
 
-cut-le : (y : Float) → Small 4000000 y → toUnsigned 64 y ≤ 4000000
+cut-le : (y : Float) → AtMost 4000000 y → toUnsigned 64 y ≤ 4000000
 unfolding toUnsigned
 cut-le (fin true m e) s = omega arith
 cut-le (fin false m e) s =
@@ -59,7 +59,7 @@ cut-le (fin false m e) s =
     let r : min (m * up e / down e) (2 ^ 64 - 1) ≤ 4000000 = omega (arith, l) in
     r
 
-cut-none : (y : Float) → Small 0 y → toUnsigned 64 y ≡ 0
+cut-none : (y : Float) → AtMost 0 y → toUnsigned 64 y ≡ 0
 unfolding toUnsigned
 cut-none (fin true m e) s = refl
 cut-none (fin false m e) s =
@@ -67,12 +67,12 @@ cut-none (fin false m e) s =
     let r : min (m * up e / down e) (2 ^ 64 - 1) ≡ 0 = omega (arith, l) in
     r
 
-in-range : (y : Float) → Plus y → Small 4000000 y → T (lt (fin true 1 (pos 0)) y) × T (lt y (fin false 1 (pos 64)))
+in-range : (y : Float) → Plus y → AtMost 4000000 y → T (lt (fin true 1 (pos 0)) y) × T (lt y (fin false 1 (pos 64)))
 unfolding lt
 in-range (fin true m e) p s = absurd (true≢false p)
 in-range (fin false m e) p s = (lt→ltb 0 (1 * down e + m * up e * 1) (omega (arith, down-pos e)), lt→ltb (m * up e * 1) (18446744073709551616 * down e) (omega (arith, s, down-pos e)))
 
-small-finite : (C : ℕ) (x : Float) → Small C x → T (finite x)
+small-finite : (C : ℕ) (x : Float) → AtMost C x → T (finite x)
 small-finite C (fin s m e) h = tt
 
 -- ---- the quotient of two whole numbers is their fraction, rounded
@@ -95,7 +95,7 @@ module _ (n : ℕ) (some : 1 ≤ n) (few : n ≤ 16777216) where
   rounds : (k : ℕ) → k ≤ 16777216 → quotient n (pos k) ≡ round binary32 false k n
   rounds k h = div-round binary32 (ofInt binary32 (pos k)) (ofInt binary32 (pos n)) k n some (int-plus k h) (int-plus n few)
 
-  small : (k C : ℕ) → k ≤ C → C ≤ 16777216 → Small C (quotient n (pos k))
+  small : (k C : ℕ) → k ≤ C → C ≤ 16777216 → AtMost C (quotient n (pos k))
   small k C h c = small-quotient binary32 C c (pos k) (pos n) (omega (arith, h, c)) few some (le-trans h (share-least C n some))
 
   -- what the cut asks for

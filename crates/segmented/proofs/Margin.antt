@@ -19,14 +19,14 @@ use Rattle.ranged1d.specs.Admitted.{limitAdmitted}
 use Rattle.ranged1d.specs.declared.Limit.{Limit}
 use Rattle.ranged1d.proofs.Whole.{sub-cases, add-far, minus-far, neg-far, quot-far, fits32}
 use Rattle.rounding.specs.Integral.{halves, sized}
-use Rattle.rounding.specs.Within.{wholeOf}
+use Rattle.rounding.specs.Within.{wholeOf, AtMost}
 use Rattle.rounding.proofs.Quotients.{sized-le}
 use Rattle.rounding.proofs.Signs.{round-neg, whole-neg}
 use Rattle.real.specs.Mirror.{mirrored}
 use Rattle.real.proofs.Cases.{near-limits}
 use Rattle.real.proofs.Readings.{length-neg}
 use Rattle.real.proofs.Signs.{unlike-one, zeroOf, zero-one, round-zero, int-neg}
-use Rattle.rounding.proofs.Small.{Small, Plus}
+use Rattle.rounding.proofs.Small.{Plus}
 use Rattle.real.proofs.Sizes.{plus-div, small-quotient}
 use Rattle.segmented.specs.Segments.{half, shared, margin, narrowed}
 
@@ -109,7 +109,7 @@ margin-neg n limit =
     margin-is n (mirrored limit) ∙ ap (shareOf n) (length-neg (limit .0) (limit .1)) ∙ share-neg n (limit .1 -ℤ limit .0) ∙ ap negℤ (sym (margin-is n limit))
 
 -- ---- size: a length of k is shared into parts of at most k
-told : (C : ℕ) (x : Float) → Plus x → Small C x → (j : ℕ) × (wholeOf halves x ≡ pos j) × (j ≤ C)
+told : (C : ℕ) (x : Float) → Plus x → AtMost C x → (j : ℕ) × (wholeOf halves x ≡ pos j) × (j ≤ C)
 unfolding wholeOf
 told C (fin true m e) s v = absurd (true≢false s)
 told C (fin false m e) s v = (sized halves false (m * up e) (down e), refl, sized-le halves false (m * up e) (down e) C (down-pos e) v)

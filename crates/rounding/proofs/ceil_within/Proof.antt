@@ -9,10 +9,11 @@ use lib.Ieee.{neg}
 use mir.Syntax.{w64}
 use mir.Val.{SFits}
 use mir.Facts.{toZ-ofZ}
+use Rattle.ranged1d.proofs.Whole.{fits-abs, zero-minus-far}
 use Rattle.rounding.specs.declared.Whole.the-variants.{Number}
 use Rattle.rounding.specs.Integral.{floors}
 use Rattle.rounding.specs.Within.{within}
-use Rattle.rounding.proofs.Bounds.{fits-abs, minus-abs, Held, within-held}
+use Rattle.rounding.proofs.Bounds.{Held, within-held}
 use Rattle.rounding.proofs.Signs.{within-turned}
 use Rattle.rounding.proofs.ceil_within.Statement.{statement}
 use Rattle.rounding.proofs.ceil_within.Tie as tie
@@ -33,7 +34,7 @@ n64 : (c : tie.After-known-told) → SFits w64 (N c)
 n64 c = fits-abs w64 (N c) (2 ^ 32) (omega (arith, near c, S c .fits .bound)) (lit< tt)
 
 minus64 : (c : tie.After-known-told) → SFits w64 (pos 0 -ℤ N c)
-minus64 c = fits-abs w64 (pos 0 -ℤ N c) (2 ^ 32) (rw (minus-abs (N c)) (omega (arith, near c, S c .fits .bound))) (lit< tt)
+minus64 c = fits-abs w64 (pos 0 -ℤ N c) (2 ^ 32) (rw (zero-minus-far (N c)) (omega (arith, near c, S c .fits .bound))) (lit< tt)
 
 floor-within-requires : tie.Need-floor-within-requires
 floor-within-requires c κs = search needs

@@ -10,9 +10,9 @@ use lib.Ieee.{binary64, inSigned, toSigned, ofBits, neg}
 use mir.Syntax.{w64}
 use mir.Val.{SFits, toZ, ofZ}
 use mir.Facts.{toZ-ofZ}
+use Rattle.ranged1d.proofs.Whole.{fits-abs}
 use Rattle.rounding.specs.Integral.{floors}
 use Rattle.rounding.specs.Within.{kept, wholeOf}
-use Rattle.rounding.proofs.Bounds.{fits-abs}
 use Rattle.rounding.proofs.Steps.{Small, small}
 use Rattle.rounding.proofs.Sizes.{cast-back, Large, large-low, large-high, whole-small, within-small, within-nan, within-large}
 use Rattle.rounding.proofs.floor_within.Statement.{statement}

@@ -8,7 +8,8 @@ use lib.IntN.{pos, _-ℤ_}
 use mir.Syntax.{w64}
 use mir.Val.{SFits, toZ}
 use mir.Facts.{toZ-ofZ, toZ-pos}
-use Rattle.rounding.proofs.Bounds.{fits-abs, minus-abs, too-high, too-low, fitting}
+use Rattle.ranged1d.proofs.Whole.{fits-abs, zero-minus-far}
+use Rattle.rounding.proofs.Bounds.{too-high, too-low, fitting}
 use Rattle.rounding.proofs.keep.Statement.{statement}
 use Rattle.rounding.proofs.keep.Tie as tie
 
@@ -16,7 +17,7 @@ bound-is : (c : tie.Start) → toZ w64 (c .args .bound) ≡ pos (c .args .bound)
 bound-is c = toZ-pos w64 (omega arith)
 
 minus-fits : (c : tie.Start) → SFits w64 (pos 0 -ℤ pos (c .args .bound))
-minus-fits c = fits-abs w64 (pos 0 -ℤ pos (c .args .bound)) (2 ^ 32) (rw (minus-abs (pos (c .args .bound))) (omega arith)) (lit< tt)
+minus-fits c = fits-abs w64 (pos 0 -ℤ pos (c .args .bound)) (2 ^ 32) (rw (zero-minus-far (pos (c .args .bound))) (omega arith)) (lit< tt)
 
 cast-b : tie.Need-cast-b
 cast-b c = search needs

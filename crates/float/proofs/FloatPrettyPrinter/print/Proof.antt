@@ -5,13 +5,14 @@ use mathlib.Core.List.{List}
 use Prim.Native.Nat.{ℕ, _^_, _≤_}
 use native.Mathlib.Omega.{arith}
 use borrow.Author.Tests.{not-true, not-false}
+use Rattle.rounding.specs.Within.{AtMost}
 use Rattle.rounding.proofs.Sizes.{in-float}
 use Rattle.float.specs.declared.Parts.{Parts}
 use Rattle.float.specs.declared.Shortened.{Shortened}
 use Rattle.float.specs.Shorten.{shorten, tolerance}
 use Rattle.float.specs.Text.{labelOf, shownOf}
 use Rattle.float.specs.Calls.{printable}
-use Rattle.float.specs.Steps.{AtMost, bytesOf, textWritten}
+use Rattle.float.specs.Steps.{bytesOf, textWritten}
 use Rattle.float.proofs.Cases.{Few, pow-small, shorten-few}
 use Rattle.float.proofs.Bounds.{near, stays-near, printable-at-most}
 use Rattle.float.proofs.Printed.{print-11, print-12h, print-12e, print-some, parts-few, bytes-shown}
