@@ -6,8 +6,9 @@ use native.Mathlib.Nat.{zero-div, suc-mul, div-add-mod', mod-lt}
 use native.Mathlib.Omega.{arith}
 use lib.IntN.{ℤ, pos, negsuc, negℤ, _+ℤ_, _*ℤ_}
 use lib.Signed.{quotZ}
+use Rattle.ranged1d.specs.Numbers.{raised}
 use Rattle.ranged1d.proofs.Whole.{sub-cases}
-use Rattle.discrete.specs.Index.{floorDiv, raised}
+use Rattle.discrete.specs.Index.{floorDiv}
 
 less-rest : (m r a : ℕ) → m ≡ suc a + r → negsuc a ≡ negℤ (pos m) +ℤ pos r
 less-rest zero r a e = absurd (omega arith)

@@ -7,16 +7,17 @@ use native.Mathlib.Omega.{arith}
 use lib.Dec.{T, ltb}
 use lib.Pow.{pow-pos}
 use lib.IntN.{ℤ, pos, negsuc, natAbs, _-ℤ_, _*ℤ_}
-use lib.Signed.{ltZ, quotZ, pos-natAbs}
-use borrow.Author.Tests.{ltb-true, leb-true}
+use lib.Signed.{ltZ, quotZ}
+use borrow.Author.Tests.{leb-true}
 use mir.Facts.{toZ-ofZ, toZ-pos, and-yes, leb-yes}
 use mir.Syntax.{Width}
 use mir.Val.{SFits, hbits, toZ, ofZ}
 use Rattle.ranged1d.specs.Answer.{given, none}
 use Rattle.ranged1d.specs.Admitted.{pixelAdmitted, limitAdmitted}
+use Rattle.ranged1d.specs.Numbers.{raised}
 use Rattle.ranged1d.specs.declared.Limit.{Limit}
-use Rattle.ranged1d.proofs.Whole.{neg-far, not-negative, minus-far}
-use Rattle.discrete.specs.Index.{raised, isZero, noIndex, indexBy, indexFor}
+use Rattle.ranged1d.proofs.Whole.{neg-far, minus-far, raised-below, raised-above}
+use Rattle.discrete.specs.Index.{isZero, noIndex, indexBy, indexFor}
 use Rattle.discrete.proofs.Floor.{cut-raised}
 
 -- ---- a test for zero, as the code makes it
@@ -31,7 +32,7 @@ not-zero (negsuc n) h = refl
 pub zero-bits : (w : Width) (z : ℤ) → SFits w z → ofZ w z ≡ 0 → z ≡ pos 0
 zero-bits w z f e = sym (toZ-ofZ f) ∙ ap (toZ w) e ∙ toZ-pos w (pow-pos (hbits w))
 
--- ---- a quotient: how far from 0 it lies, and what it is raised to
+-- ---- a quotient: how far from 0 it lies
 pub quotient-size : (x y : ℤ) → natAbs (quotZ x y) ≡ natAbs x / natAbs y
 quotient-size (pos a) (pos b) = refl
 quotient-size (pos a) (negsuc b) = neg-far (pos (a / suc b))
@@ -40,13 +41,6 @@ quotient-size (negsuc a) (negsuc b) = refl
 
 pub quotient-far : (x y : ℤ) → natAbs (quotZ x y) ≤ natAbs x
 quotient-far x y = rw (quotient-size x y) (div-le-self (natAbs x) (natAbs y))
-
-below-raised : (z : ℤ) → ltZ z (pos 0) ≡ true → raised z ≡ 0
-below-raised (pos n) h = omega (arith, ltb-true n 0 h)
-below-raised (negsuc n) h = refl
-
-above-raised : (z : ℤ) → ltZ z (pos 0) ≡ false → raised z ≡ natAbs z
-above-raised z h = ap raised (sym (pos-natAbs z (not-negative z h)))
 
 -- ---- the returns
 module _ (d w : ℤ) (n : ℕ) where
@@ -66,10 +60,10 @@ module _ (d w : ℤ) (n : ℕ) where
   divided e = rw (e, cut-raised (d *ℤ pos n) w)
 
   pub below-zero : isZero w ≡ false → ltZ quotient (pos 0) ≡ true → indexFor d w n ≡ given 0
-  below-zero e h = divided e ∙ ap given (below-raised quotient h)
+  below-zero e h = divided e ∙ ap given (raised-below quotient h)
 
   pub from-zero : isZero w ≡ false → ltZ quotient (pos 0) ≡ false → indexFor d w n ≡ given (natAbs quotient)
-  from-zero e h = divided e ∙ ap given (above-raised quotient h)
+  from-zero e h = divided e ∙ ap given (raised-above quotient h)
 
 -- ---- how far a pixel and the second limit lie from the first
 pub distances : (x : ℤ) (l : Limit) → pixelAdmitted x ≡ true → limitAdmitted l ≡ true → (natAbs (x -ℤ l .0) ≤ 2000000) × (natAbs (l .1 -ℤ l .0) ≤ 2000000)

@@ -11,16 +11,13 @@ use lib.Ieee.Bits.{is-true}
 use lib.IntN.{ℤ, pos, negsuc, negℤ, natAbs, _+ℤ_, _-ℤ_, _*ℤ_, +ℤ-idl, +ℤ-assoc, +ℤ-invl, negℤ-negℤ, -ℤ-+ℤ-cancel}
 use lib.Signed.{nonNeg, quotZ, _≤ℤ_, _<ℤ_, leZ-yes, ltZ-yes, <ℤ-irrefl}
 use mir.Facts.{yes-leb, yes-ltb}
-use Rattle.ranged1d.proofs.Whole.{turned-far, times-far, neg-times, ordered, lt-not, other-way}
-use Rattle.discrete.specs.Index.{floorDiv, raised, isZero, indexBy}
+use Rattle.ranged1d.specs.Numbers.{raised}
+use Rattle.ranged1d.proofs.Whole.{turned-far, times-far, neg-times, ordered, lt-not, other-way, raised-far}
+use Rattle.discrete.specs.Index.{floorDiv, isZero, indexBy}
 use Rattle.discrete.proofs.Floor.{floor-negated, cut-raised}
 use Rattle.discrete.proofs.Index.{quotient-size}
 
 -- ---- at most n
-raised-far : (z : ℤ) → raised z ≤ natAbs z
-raised-far (pos n) = omega arith
-raised-far (negsuc n) = omega arith
-
 at-most : (d w : ℤ) (n : ℕ) → natAbs d ≤ natAbs w → indexBy d w n ≤ n
 unfolding indexBy
 at-most d w n h = go (isZero w)

@@ -10,6 +10,7 @@ use Rattle.ranged1d.specs.Answer.{Answer, given, none, refused, _when_, lowest}
 use Rattle.ranged1d.specs.Refusals.{numberOf}
 use Rattle.ranged1d.specs.Admitted.{pixelAdmitted, limitAdmitted}
 use Rattle.ranged1d.specs.declared.Limit.{Limit}
+use Rattle.ranged1d.specs.Numbers.{raised}
 use Rattle.discrete.specs.declared.PixelIndex.{PixelIndex}
 use Rattle.discrete.specs.declared.PixelIndex.the-variants as pixel-index-is
 
@@ -27,11 +28,6 @@ floorDiv (negsuc a) (pos b) = negsuc (a / b)
 floorDiv (pos zero) (negsuc b) = pos 0
 floorDiv (pos (suc a)) (negsuc b) = negsuc (a / suc b)
 floorDiv (negsuc a) (negsuc b) = pos (suc a / suc b)
-
--- a number below zero raised to zero
-abbrev pub raised : ℤ → ℕ
-raised (pos n) = n
-raised (negsuc n) = 0
 
 -- ---- the rule. Limits that meet: there is no index for a pixel above them, if the axis has a value; every other pixel has index 0.
 abbrev pub isZero : ℤ → Bool

@@ -1,6 +1,6 @@
 -- Labels worked by hand, as one table: 01's row on labels of its drafting table (H 5, E 1), and labels that surprise. A number is given by its bits.
 -- `worked` of proofs/Worked checks every row by computing the rule. Assumes nothing.
-use mathlib.Core.Bool.{Bool, true, _&&_}
+use mathlib.Core.Bool.{Bool}
 use mathlib.Core.List.{List, [], _∷_}
 use Prim.Native.Nat.{ℕ}
 use lib.Ieee.{binary64, ofBits}
@@ -46,8 +46,3 @@ rows =
     -- -0.0 with H 5, E 0: -0
     ∷ row 0x8000_0000_0000_0000 5 0 (45 ∷ 48 ∷ [])
     ∷ []
-
--- every row of a table holds
-abbrev pub every : List Row → Bool
-every [] = true
-every (r ∷ rs) = holds r && every rs

@@ -10,12 +10,13 @@ use lib.IntN.{ℤ}
 use lib.ListN.{length, getD}
 use lib.Ieee.{Float, nan, inf, fin, binary64, fits, isNan, add, lt, le, eq}
 use Rattle.ranged1d.specs.Answer.{Answer, refused, _when_, lowest}
+use Rattle.ranged1d.specs.Numbers.{every}
 use Rattle.ranged1d.proofs.Bools.{both-false, or-right}
 use Rattle.real.proofs.Exact.{eq-self}
 use Rattle.real.proofs.Signs.{zeroOf, zeros-equal}
 use Rattle.search.specs.Search.{reals}
 use Rattle.search.specs.Search as rule
-use Rattle.search.specs.Lists.{every, ascends, searchable, realSearch}
+use Rattle.search.specs.Lists.{ascends, searchable, realSearch}
 use Rattle.search.specs.Settled.{settled, settledNan, forNan}
 use Rattle.search.specs.Steps.{PlaceOf}
 use Rattle.search.specs.Steps as search-steps

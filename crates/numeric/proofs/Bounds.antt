@@ -6,27 +6,28 @@ use native.Mathlib.Numerals.{add-one}
 use native.Mathlib.Decide.{decLe}
 use native.Mathlib.Omega.{arith}
 use lib.IntN.{ℤ, pos, negsuc, natAbs, sucℤ, subℕ, _+ℤ_, _-ℤ_, _*ℤ_, +ℤ-one, +ℤ-idr, sucℤ-*ℤ, +ℤ-sucℤ, +ℤ-assoc}
-use Rattle.ranged1d.proofs.Whole.{sub-cases, neg-far, add-far, minus-far, quot-far, times-far}
-use Rattle.numeric.specs.Marks.{orZero, howMany, firstIndex, lastIndex, multiple}
+use Rattle.ranged1d.specs.Numbers.{raised}
+use Rattle.ranged1d.proofs.Whole.{sub-cases, neg-far, add-far, minus-far, quot-far, times-far, raised-far}
+use Rattle.numeric.specs.Marks.{howMany, firstIndex, lastIndex, multiple}
 use Rattle.numeric.specs.Calls.{element}
 
 -- i, i + 1, .., j lie no further from 0 than i or j
-between-suc : (i j : ℤ) (k : ℕ) → k < orZero (sucℤ j -ℤ i) → natAbs (i +ℤ pos k) ≤ max (natAbs i) (natAbs j)
+between-suc : (i j : ℤ) (k : ℕ) → k < raised (sucℤ j -ℤ i) → natAbs (i +ℤ pos k) ≤ max (natAbs i) (natAbs j)
 between-suc (pos zero) (pos b) k h = omega arith
 between-suc (pos (suc a)) (pos b) k h =
-    sub-cases (suc b) (suc a) (λ z. k < orZero z → suc a + k ≤ max (suc a) b) (λ l r. omega arith) (λ l r. omega arith) h
+    sub-cases (suc b) (suc a) (λ z. k < raised z → suc a + k ≤ max (suc a) b) (λ l r. omega arith) (λ l r. omega arith) h
 between-suc (pos zero) (negsuc zero) k h = omega arith
 between-suc (pos zero) (negsuc (suc b)) k h =
-    sub-cases 0 (suc b) (λ z. k < orZero z → 0 + k ≤ max 0 (suc (suc b))) (λ l r. omega arith) (λ l r. omega arith) h
+    sub-cases 0 (suc b) (λ z. k < raised z → 0 + k ≤ max 0 (suc (suc b))) (λ l r. omega arith) (λ l r. omega arith) h
 between-suc (pos (suc a)) (negsuc zero) k h =
-    sub-cases 0 (suc a) (λ z. k < orZero z → suc a + k ≤ max (suc a) 1) (λ l r. omega arith) (λ l r. omega arith) h
+    sub-cases 0 (suc a) (λ z. k < raised z → suc a + k ≤ max (suc a) 1) (λ l r. omega arith) (λ l r. omega arith) h
 between-suc (pos (suc a)) (negsuc (suc b)) k h = omega arith
 between-suc (negsuc a) (pos b) k h =
     sub-cases k (suc a) (λ z. natAbs z ≤ max (suc a) b) (λ l. omega arith) (λ l. omega arith)
 between-suc (negsuc a) (negsuc zero) k h =
     sub-cases k (suc a) (λ z. natAbs z ≤ max (suc a) 1) (λ l. omega arith) (λ l. omega arith)
 between-suc (negsuc a) (negsuc (suc b)) k h =
-    sub-cases (suc a) (suc b) (λ z. k < orZero z → natAbs (subℕ k (suc a)) ≤ max (suc a) (suc (suc b)))
+    sub-cases (suc a) (suc b) (λ z. k < raised z → natAbs (subℕ k (suc a)) ≤ max (suc a) (suc (suc b)))
     (λ l r. omega arith)
     (λ l r. sub-cases k (suc a) (λ z. natAbs z ≤ max (suc a) (suc (suc b))) (λ u. omega arith) (λ u. omega arith))
     h
@@ -34,21 +35,17 @@ between-suc (negsuc a) (negsuc (suc b)) k h =
 pub between : (i j : ℤ) (k : ℕ) → k < howMany i j → natAbs (i +ℤ pos k) ≤ max (natAbs i) (natAbs j)
 between i j k h = between-suc i j k (rw +ℤ-one at h)
 
-pub orZero-far : (z : ℤ) → orZero z ≤ natAbs z
-orZero-far (pos n) = omega arith
-orZero-far (negsuc n) = omega arith
-
 pub many-far : (i j : ℤ) → howMany i j ≤ natAbs j + 1 + natAbs i
-many-far i j = omega (arith, orZero-far (j +ℤ pos 1 -ℤ i), minus-far (j +ℤ pos 1) i, add-far j (pos 1))
+many-far i j = omega (arith, raised-far (j +ℤ pos 1 -ℤ i), minus-far (j +ℤ pos 1) i, add-far j (pos 1))
 
 -- from a number that is not negative on
 pub many-from : (x : ℕ) (j : ℤ) → howMany (pos x) j ≤ natAbs j + 1
 many-from x j = go (j +ℤ pos 1) x (omega (arith, add-far j (pos 1)))
   where
-    go : (z : ℤ) (x : ℕ) → natAbs z ≤ natAbs j + 1 → orZero (z -ℤ pos x) ≤ natAbs j + 1
+    go : (z : ℤ) (x : ℕ) → natAbs z ≤ natAbs j + 1 → raised (z -ℤ pos x) ≤ natAbs j + 1
     go (pos n) zero h = omega arith
-    go (pos n) (suc x) h = sub-cases n (suc x) (λ w. orZero w ≤ natAbs j + 1) (λ l. omega arith) (λ l. omega arith)
-    go (negsuc n) zero h = sub-cases 0 (suc n) (λ w. orZero w ≤ natAbs j + 1) (λ l. omega arith) (λ l. omega arith)
+    go (pos n) (suc x) h = sub-cases n (suc x) (λ w. raised w ≤ natAbs j + 1) (λ l. omega arith) (λ l. omega arith)
+    go (negsuc n) zero h = sub-cases 0 (suc n) (λ w. raised w ≤ natAbs j + 1) (λ l. omega arith) (λ l. omega arith)
     go (negsuc n) (suc x) h = omega arith
 
 pub first-times : (lo : ℤ) (s : ℕ) → natAbs (firstIndex lo s) * s ≤ natAbs lo + s

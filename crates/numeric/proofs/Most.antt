@@ -11,8 +11,9 @@ use lib.Dec.{T, leb, ltb}
 use lib.IntN.{ℤ, pos, negsuc, negℤ, natAbs, _+ℤ_, _-ℤ_, negℤ-negℤ}
 use lib.ListN.{length}
 use lib.Signed.{leZ}
+use Rattle.ranged1d.specs.Numbers.{raised}
 use Rattle.ranged1d.proofs.Whole.{sub-cases}
-use Rattle.numeric.specs.Marks.{low, high, orZero, howMany, firstIndex, lastIndex, distance, stepAt, powerOfTen, ceilDiv, serves, firstOf, chosen, noStepFor, noStep, stepFor, marksFor, marks}
+use Rattle.numeric.specs.Marks.{low, high, howMany, firstIndex, lastIndex, distance, stepAt, powerOfTen, ceilDiv, serves, firstOf, chosen, noStepFor, noStep, stepFor, marksFor, marks}
 use Rattle.numeric.proofs.Steps.{step-pos}
 use Rattle.numeric.proofs.Lists.{length-of}
 use Rattle.numeric.proofs.Reflect.{many-pos, many-turned}
@@ -66,7 +67,7 @@ pub apart-neg : (p q : ℕ) → q ≤ p → natAbs (negsuc q -ℤ negsuc p) ≡ 
 apart-neg p q h = sub-cases (suc p) (suc q) (λ z. natAbs z ≡ p - q) (λ l. omega arith) (λ l. omega arith)
 
 pub many-across : (f l : ℕ) → howMany (negℤ (pos f)) (pos l) ≡ l + 1 + f
-many-across f l = ap (λ (z : ℤ). orZero (pos (l + 1) +ℤ z)) (negℤ-negℤ (pos f))
+many-across f l = ap (λ (z : ℤ). raised (pos (l + 1) +ℤ z)) (negℤ-negℤ (pos f))
 
 module _ (s : ℕ) (hs : 0 < s) where
   -- l - f steps take no more than d and what is left of one step

@@ -1,7 +1,7 @@
 -- How near the marks of an accepted axis lie to it: each is admitted, and it lies at most eleven times as far from either end as the
 -- ends are apart. So every mark has a place. Assumes nothing.
 use mathlib.Core.Path.{_≡_, sym, ap, _∙_, subst}
-use mathlib.Core.Bool.{Bool, true, false, cond}
+use mathlib.Core.Bool.{Bool, true, false, cond, _&&_}
 use Prim.Native.Nat.{ℕ, zero, suc, _+_, _-_, _*_, _/_, _%_, _≤_, _<_, max}
 use native.Mathlib.Nat.{le-trans, add-mul, div-mul-le-self, div-add-mod', lt-div-mul-add, mul-le-mul-right, zero-mul}
 use native.Mathlib.Decide.{decLe}
@@ -10,6 +10,7 @@ use borrow.Author.Tests.{leb-true, leb-false, eq-eqb}
 use lib.Dec.{T, leb, ltb, eqb, leb→le, eqb→eq}
 use lib.IntN.{ℤ, pos, negsuc, negℤ, natAbs, subℕ, _+ℤ_, _-ℤ_, _*ℤ_, +ℤ-comm, +ℤ-assoc, +ℤ-negℤ-cancel, -ℤ-+ℤ-cancel, negℤ-+ℤ}
 use lib.ListN.{length}
+use mir.Facts.{and-yes}
 use lib.Signed.{leZ, pos-natAbs}
 use Rattle.ranged1d.proofs.Whole.{turned-far, sub-cases, neg-far, neg-times, times-far, ordered}
 use Rattle.ranged1d.specs.Answer.{given}
@@ -19,7 +20,7 @@ use Rattle.numeric.proofs.Bounds.{between, last-times, max-times, multi
 use Rattle.numeric.proofs.Plans.{one-near, Good, planned-good}
 use Rattle.numeric.proofs.Mirror.{low-high}
 use Rattle.numeric.proofs.NoStep.{differ}
-use Rattle.ranged1d.proofs.Table.{both, both-left, both-right, at}
+use Rattle.ranged1d.proofs.Table.{at}
 use Rattle.numeric.specs.Marks.{low, high, distance, stepAt, powerOfTen, ceilDiv, chosen, firstIndex, lastIndex, howMany, listOf, multiple, stepFor, marksFor}
 use Rattle.numeric.specs.Calls.{wholePlan, planOf, element}
 use Rattle.numeric.proofs.Steps.{steps, step-pos}
@@ -32,17 +33,17 @@ before : ℕ → ℕ
 before k = 3 * ((k - 1) / 3)
 
 right : ℕ → ℕ → Bool
-right k x = both (leb (stepAt k) (10 * stepAt (before k))) (eqb (before k % 3) 0)
+right k x = leb (stepAt k) (10 * stepAt (before k)) && eqb (before k % 3) 0
 
-passed : (k : ℕ) → k < 28 → T (both (leb (stepAt k) (10 * stepAt (before k))) (eqb (before k % 3) 0))
+passed : (k : ℕ) → k < 28 → T (leb (stepAt k) (10 * stepAt (before k)) && eqb (before k % 3) 0)
 unfolding right before stepAt
 passed k h = at right steps tt k h
 
 ten-times : (k : ℕ) → k < 28 → stepAt k ≤ 10 * stepAt (before k)
-ten-times k h = leb→le _ _ (both-left (leb (stepAt k) (10 * stepAt (before k))) (eqb (before k % 3) 0) (passed k h))
+ten-times k h = leb→le _ _ (and-yes (leb (stepAt k) (10 * stepAt (before k))) (eqb (before k % 3) 0) (passed k h) .0)
 
 power : (k : ℕ) → k < 28 → powerOfTen (before k) ≡ true
-power k h = eq-eqb _ _ (eqb→eq (before k % 3) 0 (both-right (leb (stepAt k) (10 * stepAt (before k))) (eqb (before k % 3) 0) (passed k h)))
+power k h = eq-eqb _ _ (eqb→eq (before k % 3) 0 (and-yes (leb (stepAt k) (10 * stepAt (before k))) (eqb (before k % 3) 0) (passed k h) .1))
 
 first-step : {d : ℕ} → 0 < d → stepAt 0 ≤ 10 * d
 unfolding stepAt

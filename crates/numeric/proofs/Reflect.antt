@@ -1,12 +1,13 @@
 -- Lists of multiples, turned about zero. Assumes nothing.
 use mathlib.Core.Path.{_≡_, refl, sym, ap, ap₂, _∙_}
 use mathlib.Core.List.{List, [], _∷_, _++_, map, reverse, reverse-append, reverse-cons}
-use Prim.Native.Nat.{ℕ, zero, suc, _+_, _-_, _*_, _≤_}
+use Prim.Native.Nat.{ℕ, zero, suc, _+_, _-_, _≤_}
 use native.Mathlib.Nat.{add-zero, add-suc}
 use native.Mathlib.Omega.{arith}
 use lib.IntN.{ℤ, pos, negsuc, negℤ, sucℤ, predℤ, _+ℤ_, _-ℤ_, _*ℤ_, +ℤ-one, +ℤ-comm, +ℤ-assoc, negℤ-+ℤ, negℤ-negℤ, sucℤ-+ℤ, pred-suc, -ℤ-+ℤ-cancel}
+use Rattle.ranged1d.specs.Numbers.{raised}
 use Rattle.ranged1d.proofs.Whole.{sub-cases, neg-times}
-use Rattle.numeric.specs.Marks.{orZero, howMany, multiple, multiples, listOf}
+use Rattle.numeric.specs.Marks.{howMany, multiple, multiples, listOf}
 use Rattle.numeric.specs.Mirror.{mirrored}
 use Rattle.numeric.proofs.Lists.{list-cons, list-ext}
 
@@ -31,13 +32,13 @@ turned (suc n) f h e =
 -- as many from -j to -i as from i to j
 pub many-turned : (i j : ℤ) → howMany (negℤ j) (negℤ i) ≡ howMany i j
 many-turned i j =
-    ap orZero
+    ap raised
     (ap (λ (z : ℤ). negℤ i +ℤ pos 1 +ℤ z) (negℤ-negℤ j)
     ∙ +ℤ-comm (negℤ i +ℤ pos 1) j
     ∙ ap (λ (z : ℤ). j +ℤ z) (+ℤ-comm (negℤ i) (pos 1))
     ∙ sym (+ℤ-assoc j (pos 1) (negℤ i)))
 
-above-zero : (z : ℤ) (n : ℕ) → orZero z ≡ suc n → z ≡ pos (suc n)
+above-zero : (z : ℤ) (n : ℕ) → raised z ≡ suc n → z ≡ pos (suc n)
 above-zero (pos a) n e = ap pos e
 above-zero (negsuc a) n e = absurd (omega arith)
 
@@ -63,7 +64,7 @@ reflect i j s =
 -- how many, for numbers that are not negative
 pub many-pos : (x y : ℕ) → howMany (pos x) (pos y) ≡ y + 1 - x
 many-pos zero y = omega arith
-many-pos (suc x) y = sub-cases (y + 1) (suc x) (λ z. orZero z ≡ y + 1 - suc x) (λ l. omega arith) (λ l. refl)
+many-pos (suc x) y = sub-cases (y + 1) (suc x) (λ z. raised z ≡ y + 1 - suc x) (λ l. omega arith) (λ l. refl)
 
 -- from i to j, i ≤ j: the first, and those from i + 1 on
 pub one-more : (x y s : ℕ) → x ≤ y → multiples (pos x) (pos y) s ≡ (pos x *ℤ pos s) ∷ multiples (pos (suc x)) (pos y) s

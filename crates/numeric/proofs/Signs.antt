@@ -5,19 +5,11 @@ use Prim.Native.Nat.{ℕ, zero, suc, _-_, _≤_, _<_}
 use native.Mathlib.Omega.{arith}
 use lib.Dec.{T}
 use lib.Ieee.Bits.{is-true}
-use lib.IntN.{ℤ, pos, negsuc, negℤ, natAbs, _+ℤ_, _-ℤ_}
+use lib.IntN.{ℤ, pos, negsuc, negℤ, _+ℤ_, _-ℤ_}
 use lib.Signed.{leZ, ltZ, quotZ, _≤ℤ_, _<ℤ_}
 use borrow.Author.Tests.{ltb-true, lt-ltb, le-leb}
 use Rattle.ranged1d.proofs.Whole.{sub-cases, neg-le}
-use Rattle.numeric.specs.Marks.{orZero, firstIndex}
-
-pub none-below-zero : (z : ℤ) → ltZ z (pos 0) ≡ true → orZero z ≡ 0
-none-below-zero (pos n) h = omega (arith, ltb-true n 0 h)
-none-below-zero (negsuc n) h = refl
-
-pub all-from-zero : (z : ℤ) → ltZ z (pos 0) ≡ false → natAbs z ≡ orZero z
-all-from-zero (pos n) h = refl
-all-from-zero (negsuc n) h = absurd (subst T h tt)
+use Rattle.numeric.specs.Marks.{firstIndex}
 
 pub first-below : (z : ℤ) (s : ℕ) → ltZ z (pos 0) ≡ true → quotZ z (pos s) ≡ firstIndex z s
 first-below (pos n) s h = absurd (omega (arith, ltb-true n 0 h))

@@ -6,6 +6,7 @@ use mathlib.Core.List.{List, [], _∷_, _++_}
 use lib.Dec.{leb, ltb, eqb}
 use lib.IntN.{ℤ, pos, negsuc, negℤ, natAbs, _+ℤ_, _-ℤ_, _*ℤ_}
 use lib.Signed.{leZ, quotZ}
+use Rattle.ranged1d.specs.Numbers.{raised}
 
 -- ---- the ends: the smaller, the larger, and how far they are apart
 abbrev pub low : ℤ → ℤ → ℤ
@@ -55,12 +56,8 @@ abbrev pub lastIndex : ℤ → ℕ → ℤ
 lastIndex z s = quotZ z (pos s)
 
 -- how many whole numbers there are from i to j
-abbrev pub orZero : ℤ → ℕ
-orZero (pos n) = n
-orZero (negsuc n) = 0
-
 abbrev pub howMany : ℤ → ℤ → ℕ
-howMany i j = orZero (j +ℤ pos 1 -ℤ i)
+howMany i j = raised (j +ℤ pos 1 -ℤ i)
 
 -- f 0, f 1, .., f (n - 1)
 abbrev pub listOf : {A : Type 0} → (ℕ → A) → ℕ → List A

@@ -12,6 +12,7 @@ use borrow.Author.Tests.{ltb-true, ltb-false, leb-true, leb-false, le-leb, lt-le
 use mir.Syntax.{Width, w32, w64}
 use mir.Val.{SFits, hbits}
 use Rattle.ranged1d.specs.Admitted.{wholeAdmitted}
+use Rattle.ranged1d.specs.Numbers.{raised}
 
 -- a − b is below 0 or not
 pub sub-cases : (a b : ℕ) (P : ℤ → Type 0) → (a < b → P (negsuc (b - suc a))) → (b ≤ a → P (pos (a - b))) → P (subℕ a b)
@@ -121,6 +122,19 @@ neg-nonNeg (negsuc n) h = tt
 pub not-negative : (z : ℤ) → ltZ z (pos 0) ≡ false → T (nonNeg z)
 not-negative (pos n) h = tt
 not-negative (negsuc n) h = subst T h tt
+
+-- ---- a number that is raised to zero
+pub raised-below : (z : ℤ) → ltZ z (pos 0) ≡ true → raised z ≡ 0
+raised-below (pos n) h = omega (arith, ltb-true n 0 h)
+raised-below (negsuc n) h = refl
+
+pub raised-above : (z : ℤ) → ltZ z (pos 0) ≡ false → raised z ≡ natAbs z
+raised-above (pos n) h = refl
+raised-above (negsuc n) h = absurd (subst T h tt)
+
+pub raised-far : (z : ℤ) → raised z ≤ natAbs z
+raised-far (pos n) = omega arith
+raised-far (negsuc n) = omega arith
 
 -- of two numbers one is not above the other
 pub other-way : (x y : ℤ) → leZ x y ≡ false → leZ y x ≡ true

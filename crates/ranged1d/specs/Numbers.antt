@@ -1,5 +1,7 @@
--- Tests of whole numbers that rules of several crates ask. Assumes nothing.
-use mathlib.Core.Bool.{Bool, false, _&&_}
+-- What rules of several crates ask of whole numbers and of lists. Assumes nothing.
+use Prim.Native.Nat.{ℕ}
+use mathlib.Core.Bool.{Bool, true, false, _&&_}
+use mathlib.Core.List.{List, [], _∷_}
 use lib.Dec.{eqb}
 use lib.IntN.{ℤ, pos, negsuc}
 use lib.Signed.{leZ}
@@ -14,3 +16,13 @@ eqZ (pos x) (pos y) = eqb x y
 eqZ (pos x) (negsuc y) = false
 eqZ (negsuc x) (pos y) = false
 eqZ (negsuc x) (negsuc y) = eqb x y
+
+-- a number below zero raised to zero
+abbrev pub raised : ℤ → ℕ
+raised (pos n) = n
+raised (negsuc n) = 0
+
+-- a test of every entry of a list
+abbrev pub every : {A : Type 0} → (A → Bool) → List A → Bool
+every p [] = true
+every p (x ∷ xs) = p x && every p xs

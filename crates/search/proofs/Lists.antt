@@ -6,9 +6,10 @@ use Prim.Native.Nat.{ℕ, zero, suc, _+_, _-_, _≤_, _<_}
 use native.Mathlib.Omega.{arith}
 use lib.ListN.{length, getD, take, drop, length-drop}
 use lib.Seq.{take-all, drop-drop}
+use Rattle.ranged1d.specs.Numbers.{every}
 use Rattle.ranged1d.proofs.Bools.{both-true}
 use Rattle.search.specs.Search.{Numbers}
-use Rattle.search.specs.Lists.{every, goesOn, ascends, searchable}
+use Rattle.search.specs.Lists.{goesOn, ascends, searchable}
 use Rattle.search.specs.Steps.{toward, risesFirst}
 use Rattle.search.proofs.Orders.{Order, Between, way}
 use Rattle.search.proofs.Settles.{Sorted, Ordinary}

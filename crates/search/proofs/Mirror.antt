@@ -13,11 +13,12 @@ use lib.IntN.{ℤ, negℤ, _+ℤ_, _-ℤ_, negℤ-negℤ, +ℤ-comm}
 use lib.Signed.{leZ}
 use lib.Ieee.{Float, nan, inf, fin, binary64, up, down, below, round, neg, sum, add, sub, lt}
 use Rattle.ranged1d.specs.Admitted.{wholeAdmitted}
+use Rattle.ranged1d.specs.Numbers.{every}
 use Rattle.ranged1d.proofs.Whole.{neg-le, neg-lt, admitted-neg}
 use Rattle.rounding.proofs.Signs.{neg-neg}
 use Rattle.real.proofs.Signs.{Alike, zeroOf, eq-neg, eq-alike, alike-on, alike-through, same-through, add-left}
 use Rattle.search.specs.Search.{wholes, reals, search}
-use Rattle.search.specs.Lists.{every, wholeSearch, realSearch}
+use Rattle.search.specs.Lists.{wholeSearch, realSearch}
 use Rattle.search.specs.Mirror.{turned, Mirrored}
 use Rattle.search.specs.declared.RoundingMethod.{RoundingMethod}
 use Rattle.search.specs.declared.RoundingMethod.the-variants.{Exact, Ceil, Floor, Round}

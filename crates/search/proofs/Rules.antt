@@ -12,8 +12,9 @@ use lib.Ieee as Ieee
 use lib.Ieee.{Float, nan, inf, fin}
 use Rattle.ranged1d.specs.Answer.{Answer, none, refused}
 use Rattle.ranged1d.specs.Admitted.{wholeAdmitted}
+use Rattle.ranged1d.specs.Numbers.{every}
 use Rattle.search.specs.Search.{Numbers, wholes, reals, best, search}
-use Rattle.search.specs.Lists.{every, ascends, searchable, wholeSearch, realSearch}
+use Rattle.search.specs.Lists.{ascends, searchable, wholeSearch, realSearch}
 use Rattle.search.specs.Settled.{settled, settledNan}
 use Rattle.search.specs.Steps.{toward, risesFirst, PlaceOf}
 use Rattle.search.specs.declared.RoundingMethod.{RoundingMethod}

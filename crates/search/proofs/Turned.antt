@@ -9,8 +9,9 @@ use borrow.Author.Tests.{lt-ltb, le-ltb}
 use lib.Dec.{ltb}
 use lib.ListN.{length}
 use Rattle.ranged1d.specs.Answer.{Answer, given, none}
+use Rattle.ranged1d.specs.Numbers.{every}
 use Rattle.search.specs.Search.{Numbers, further, unlessBetter, best, exact, up, down, nearer, between, indexOf, search}
-use Rattle.search.specs.Lists.{every, goesOn, ascends, searchable, isExact}
+use Rattle.search.specs.Lists.{goesOn, ascends, searchable, isExact}
 use Rattle.search.specs.Mirror.{turned}
 use Rattle.search.specs.declared.RoundingMethod.{RoundingMethod}
 use Rattle.search.specs.declared.RoundingMethod.the-variants.{Exact, Ceil, Floor, Round}

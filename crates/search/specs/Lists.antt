@@ -9,16 +9,13 @@ use lib.Ieee as Ieee
 use lib.Ieee.{Float}
 use Rattle.ranged1d.specs.Answer.{Answer, _when_, lowest}
 use Rattle.ranged1d.specs.Admitted.{wholeAdmitted}
+use Rattle.ranged1d.specs.Numbers.{every}
 use Rattle.search.specs.Search.{Numbers, wholes, reals, search}
 use Rattle.search.specs.declared.RoundingMethod.{RoundingMethod}
 use Rattle.search.specs.declared.RoundingMethod.the-variants.{Exact, Ceil, Floor, Round}
 
 -- ---- 8: which lists can be searched. No entry is a NaN, which is an entry that does not equal itself, and each is less than the next,
 -- or each is greater than the next.
-abbrev pub every : {A : Type 0} → (A → Bool) → List A → Bool
-every p [] = true
-every p (x ∷ xs) = p x && every p xs
-
 abbrev pub goesOn : {A : Type 0} → (A → A → Bool) → A → List A → Bool
 goesOn lt x [] = true
 goesOn lt x (y ∷ ys) = lt x y && goesOn lt y ys

@@ -5,8 +5,7 @@ use native.Mathlib.Omega.{arith}
 use mir.Facts.{toZ-ofZ}
 use mir.Syntax.{w32}
 use mir.Val.{SFits}
-use Rattle.ranged1d.proofs.Whole.{fits32, far32, add-far, minus-far, not-negative}
-use Rattle.numeric.proofs.Signs.{none-below-zero, all-from-zero}
+use Rattle.ranged1d.proofs.Whole.{fits32, far32, add-far, minus-far, not-negative, raised-below, raised-above}
 use Rattle.numeric.proofs.how_many.Statement.{statement}
 use Rattle.numeric.proofs.how_many.Tie as tie
 
@@ -33,13 +32,13 @@ cast-result c =
 returns : tie.Need-returns
 returns c =
     let b = c .before in
-    sym (none-below-zero (b .args .j +ℤ pos 1 -ℤ b .args .i) (rw (toZ-ofZ (b .fits .j), toZ-ofZ (b .fits .i), toZ-ofZ (next-fits b), toZ-ofZ (n-fits b)) at (c .if1 .taken)))
+    sym (raised-below (b .args .j +ℤ pos 1 -ℤ b .args .i) (rw (toZ-ofZ (b .fits .j), toZ-ofZ (b .fits .i), toZ-ofZ (next-fits b), toZ-ofZ (n-fits b)) at (c .if1 .taken)))
 
 returns-2 : tie.Need-returns-2
 returns-2 c =
     let b = c .before in
     rw (toZ-ofZ (b .fits .j), toZ-ofZ (b .fits .i), toZ-ofZ (next-fits b), toZ-ofZ (n-fits b))
-    (all-from-zero (b .args .j +ℤ pos 1 -ℤ b .args .i) (rw (toZ-ofZ (b .fits .j), toZ-ofZ (b .fits .i), toZ-ofZ (next-fits b), toZ-ofZ (n-fits b)) at (c .if1 .left)))
+    (sym (raised-above (b .args .j +ℤ pos 1 -ℤ b .args .i) (rw (toZ-ofZ (b .fits .j), toZ-ofZ (b .fits .i), toZ-ofZ (next-fits b), toZ-ofZ (n-fits b)) at (c .if1 .left))))
 
 pub how-many-spec : {M : Type 1} → statement M
 how-many-spec = tie.close (tie.spec add-n sub-n cast-result returns returns-2)

@@ -11,7 +11,7 @@ use lib.ListN.{length, getD, drop}
 use mir.Facts.{toZ-ofZ}
 use mir.Syntax.{w32}
 use Rattle.ranged1d.specs.Admitted.{wholeAdmitted}
-use Rattle.search.specs.Lists.{every}
+use Rattle.ranged1d.specs.Numbers.{every}
 use Rattle.search.proofs.Lists.{every-step, every-end}
 use Rattle.search.proofs.wholes.admitted.Statement.{statement}
 use Rattle.search.proofs.wholes.admitted.Tie as tie
