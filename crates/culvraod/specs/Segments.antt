@@ -3,7 +3,7 @@ use Prim.Native.Nat.{ℕ, zero, suc}
 use mathlib.Core.Bool.{false}
 use lib.IntN.{ℤ, pos}
 use lib.Ieee.{Float, fin}
-use Rattle.ranged1d.specs.Answer.{Answer, given, none, refused}
+use Rattle.ranged1d.specs.Answer.{Answer, given, refused}
 use Rattle.segmented.specs.Values.{Segment, exact, centerOf, last, wholeSegment, realSegment}
 use Rattle.culvraod.specs.Boundary.{code, outAfter}
 use Rattle.culvraod.specs.declared.segments.WholeCase.{WholeCase}
@@ -17,11 +17,6 @@ caseOf zero v = given (exact v)
 caseOf (suc zero) v = given (centerOf v)
 caseOf (suc (suc zero)) v = given last
 caseOf (suc (suc (suc n))) v = refused 1
-
-abbrev pub byCase : {A B : Type 0} → Answer (Segment A) → (Segment A → Answer B) → Answer B
-byCase (given s) rule = rule s
-byCase none rule = none
-byCase (refused n) rule = refused n
 
 -- the cases of the enums
 abbrev pub tellWholeCase : WholeCase → Answer (Segment ℤ)

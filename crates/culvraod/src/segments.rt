@@ -2,7 +2,7 @@
 ghost use mathlib.Core.Path.{_≡_};
 ghost use lib.IntN.{pos};
 ghost use lib.ListN.{length};
-ghost use Rattle.ranged1d.specs.Answer.{given};
+ghost use Rattle.ranged1d.specs.Answer.{given, andThen};
 ghost use Rattle.real.specs.Place.{tellPlace};
 ghost use Rattle.numeric.specs.Marks.{marks, stepOf};
 ghost use Rattle.numeric.specs.Whole.{tellIndex};
@@ -14,7 +14,7 @@ ghost use Rattle.segmented.specs.Axes.{wholeAxis, wholeFinder, steppedAxis, ste
 ghost use Rattle.culvraod.specs.Boundary.{single, limitOf};
 ghost use Rattle.culvraod.specs.Numeric.{keyPointsC};
 ghost use Rattle.culvraod.specs.Search.{methodOf, byMethod};
-ghost use Rattle.culvraod.specs.Segments.{caseOf, byCase, tellWholeCase, tellRealCase, nil, segmentC};
+ghost use Rattle.culvraod.specs.Segments.{caseOf, tellWholeCase, tellRealCase, nil, segmentC};
 ghost use Rattle.culvraod.specs.Steps.{listC};
 use crate::Method;
 use crate::give_count;
@@ -148,7 +148,7 @@ fn give_real_segment(x: Segmentf64, kind: &mut u32, v: &mut f64) -> i32
 
 // The place of such a value.
 fn place_whole(axis: SegmentedCoordi32, value: WholeCase, limit: Limit) -> Place
-    ensures { λ r. ⌜ tellPlace r ≡ byCase (tellWholeCase value) (λ s. segmentPlace (wholeAxis (axis .0 .0) (axis .0 .1)) (wholeFinder (axis .0 .0)) s limit) ⌝ }
+    ensures { λ r. ⌜ tellPlace r ≡ andThen (tellWholeCase value) (λ s. segmentPlace (wholeAxis (axis .0 .0) (axis .0 .1)) (wholeFinder (axis .0 .0)) s limit) ⌝ }
 {
     match value {
         WholeCase::Of(s) => axis.map(s, limit),
@@ -158,7 +158,7 @@ fn place_whole(axis: SegmentedCoordi32, value: WholeCase, limit: Limit) -> Place
 
 // Its index.
 fn index_whole(axis: SegmentedCoordi32, value: WholeCase) -> Index
-    ensures { λ r. ⌜ tellIndex r ≡ byCase (tellWholeCase value) (segmentIndexOf (wholeAxis (axis .0 .0) (axis .0 .1)) (wholeFinder (axis .0 .0))) ⌝ }
+    ensures { λ r. ⌜ tellIndex r ≡ andThen (tellWholeCase value) (segmentIndexOf (wholeAxis (axis .0 .0) (axis .0 .1)) (wholeFinder (axis .0 .0))) ⌝ }
 {
     match value {
         WholeCase::Of(s) => axis.index_of(s),
@@ -173,7 +173,7 @@ fn place_step_whole(
     value: WholeCase,
     limit: Limit,
 ) -> Place
-    ensures { λ r. ⌜ tellPlace r ≡ byMethod method (λ m. byCase (tellWholeCase value) (λ s. segmentPlace (steppedAxis whole (axis .0 .inner .0) (axis .0 .inner .1) (axis .0 .step)) (steppedFinder whole (axis .0 .inner .0) (axis .0 .inner .1) (axis .0 .step) m) s limit)) ⌝ }
+    ensures { λ r. ⌜ tellPlace r ≡ byMethod method (λ m. andThen (tellWholeCase value) (λ s. segmentPlace (steppedAxis whole (axis .0 .inner .0) (axis .0 .inner .1) (axis .0 .step)) (steppedFinder whole (axis .0 .inner .0) (axis .0 .inner .1) (axis .0 .step) m) s limit)) ⌝ }
 {
     match method {
         Method::Unknown => Place::Refused(Refusal::WholeNotAdmitted),
@@ -186,7 +186,7 @@ fn place_step_whole(
 
 // Its index.
 fn index_step_whole(axis: SegmentedLinspacei32, method: Method, value: WholeCase) -> Index
-    ensures { λ r. ⌜ tellIndex r ≡ byMethod method (λ m. byCase (tellWholeCase value) (segmentIndexOf (steppedAxis whole (axis .0 .inner .0) (axis .0 .inner .1) (axis .0 .step)) (steppedFinder whole (axis .0 .inner .0) (axis .0 .inner .1) (axis .0 .step) m))) ⌝ }
+    ensures { λ r. ⌜ tellIndex r ≡ byMethod method (λ m. andThen (tellWholeCase value) (segmentIndexOf (steppedAxis whole (axis .0 .inner .0) (axis .0 .inner .1) (axis .0 .step)) (steppedFinder whole (axis .0 .inner .0) (axis .0 .inner .1) (axis .0 .step) m))) ⌝ }
 {
     match method {
         Method::Unknown => Index::Refused(Refusal::WholeNotAdmitted),
@@ -204,7 +204,7 @@ fn place_step_real(
     value: RealCase,
     limit: Limit,
 ) -> Place
-    ensures { λ r. ⌜ tellPlace r ≡ byMethod method (λ m. byCase (tellRealCase value) (λ s. segmentPlace (steppedAxis real (axis .0 .inner .0) (axis .0 .inner .1) (axis .0 .step)) (steppedFinder real (axis .0 .inner .0) (axis .0 .inner .1) (axis .0 .step) m) s limit)) ⌝ }
+    ensures { λ r. ⌜ tellPlace r ≡ byMethod method (λ m. andThen (tellRealCase value) (λ s. segmentPlace (steppedAxis real (axis .0 .inner .0) (axis .0 .inner .1) (axis .0 .step)) (steppedFinder real (axis .0 .inner .0) (axis .0 .inner .1) (axis .0 .step) m) s limit)) ⌝ }
 {
     match method {
         Method::Unknown => Place::Refused(Refusal::WholeNotAdmitted),
@@ -217,7 +217,7 @@ fn place_step_real(
 
 // Its index.
 fn index_step_real(axis: SegmentedLinspacef64, method: Method, value: RealCase) -> Index
-    ensures { λ r. ⌜ tellIndex r ≡ byMethod method (λ m. byCase (tellRealCase value) (segmentIndexOf (steppedAxis real (axis .0 .inner .0) (axis .0 .inner .1) (axis .0 .step)) (steppedFinder real (axis .0 .inner .0) (axis .0 .inner .1) (axis .0 .step) m))) ⌝ }
+    ensures { λ r. ⌜ tellIndex r ≡ byMethod method (λ m. andThen (tellRealCase value) (segmentIndexOf (steppedAxis real (axis .0 .inner .0) (axis .0 .inner .1) (axis .0 .step)) (steppedFinder real (axis .0 .inner .0) (axis .0 .inner .1) (axis .0 .step) m))) ⌝ }
 {
     match method {
         Method::Unknown => Index::Refused(Refusal::WholeNotAdmitted),
@@ -246,7 +246,7 @@ pub extern "C" fn culv_seg_whole_map(
     q: i32,
     pixel: &mut i32,
 ) -> i32
-    ensures { λ r. ⌜ (r, now (pixel .exit)) ≡ single (byCase (caseOf kind v) (λ s. segmentPlace (wholeAxis a b) (wholeFinder a) s (limitOf p q))) (now (pixel .entry)) ⌝ }
+    ensures { λ r. ⌜ (r, now (pixel .exit)) ≡ single (andThen (caseOf kind v) (λ s. segmentPlace (wholeAxis a b) (wholeFinder a) s (limitOf p q))) (now (pixel .entry)) ⌝ }
 {
     let wholes = SegmentedCoordi32(RangedCoordi32(a, b));
     give_place(place_whole(wholes, whole_case(kind, v), Limit(p, q)), pixel)
@@ -254,7 +254,7 @@ pub extern "C" fn culv_seg_whole_map(
 
 #[no_mangle]
 pub extern "C" fn culv_seg_whole_index_of(a: i32, b: i32, kind: u32, v: i32, k: &mut u64) -> i32
-    ensures { λ r. ⌜ (r, now (k .exit)) ≡ single (byCase (caseOf kind v) (segmentIndexOf (wholeAxis a b) (wholeFinder a))) (now (k .entry)) ⌝ }
+    ensures { λ r. ⌜ (r, now (k .exit)) ≡ single (andThen (caseOf kind v) (segmentIndexOf (wholeAxis a b) (wholeFinder a))) (now (k .entry)) ⌝ }
 {
     let wholes = SegmentedCoordi32(RangedCoordi32(a, b));
     give_index(index_whole(wholes, whole_case(kind, v)), k)
@@ -328,7 +328,7 @@ pub extern "C" fn culv_seg_step_whole_map(
     q: i32,
     pixel: &mut i32,
 ) -> i32
-    ensures { λ r. ⌜ (r, now (pixel .exit)) ≡ single (byMethod (methodOf method) (λ m. byCase (caseOf kind v) (λ s. segmentPlace (steppedAxis whole a b d) (steppedFinder whole a b d m) s (limitOf p q)))) (now (pixel .entry)) ⌝ }
+    ensures { λ r. ⌜ (r, now (pixel .exit)) ≡ single (byMethod (methodOf method) (λ m. andThen (caseOf kind v) (λ s. segmentPlace (steppedAxis whole a b d) (steppedFinder whole a b d m) s (limitOf p q)))) (now (pixel .entry)) ⌝ }
 {
     let steps = SegmentedLinspacei32(Linspacei32 {
         inner: RangedCoordi32(a, b),
@@ -350,7 +350,7 @@ pub extern "C" fn culv_seg_step_whole_index_of(
     v: i32,
     k: &mut u64,
 ) -> i32
-    ensures { λ r. ⌜ (r, now (k .exit)) ≡ single (byMethod (methodOf method) (λ m. byCase (caseOf kind v) (segmentIndexOf (steppedAxis whole a b d) (steppedFinder whole a b d m)))) (now (k .entry)) ⌝ }
+    ensures { λ r. ⌜ (r, now (k .exit)) ≡ single (byMethod (methodOf method) (λ m. andThen (caseOf kind v) (segmentIndexOf (steppedAxis whole a b d) (steppedFinder whole a b d m)))) (now (k .entry)) ⌝ }
 {
     let steps = SegmentedLinspacei32(Linspacei32 {
         inner: RangedCoordi32(a, b),
@@ -441,7 +441,7 @@ pub extern "C" fn culv_seg_step_real_map(
     q: i32,
     pixel: &mut i32,
 ) -> i32
-    ensures { λ r. ⌜ (r, now (pixel .exit)) ≡ single (byMethod (methodOf method) (λ m. byCase (caseOf kind v) (λ s. segmentPlace (steppedAxis real a b d) (steppedFinder real a b d m) s (limitOf p q)))) (now (pixel .entry)) ⌝ }
+    ensures { λ r. ⌜ (r, now (pixel .exit)) ≡ single (byMethod (methodOf method) (λ m. andThen (caseOf kind v) (λ s. segmentPlace (steppedAxis real a b d) (steppedFinder real a b d m) s (limitOf p q)))) (now (pixel .entry)) ⌝ }
 {
     let reals = SegmentedLinspacef64(Linspacef64 {
         inner: RangedCoordf64(a, b),
@@ -463,7 +463,7 @@ pub extern "C" fn culv_seg_step_real_index_of(
     v: f64,
     k: &mut u64,
 ) -> i32
-    ensures { λ r. ⌜ (r, now (k .exit)) ≡ single (byMethod (methodOf method) (λ m. byCase (caseOf kind v) (segmentIndexOf (steppedAxis real a b d) (steppedFinder real a b d m)))) (now (k .entry)) ⌝ }
+    ensures { λ r. ⌜ (r, now (k .exit)) ≡ single (byMethod (methodOf method) (λ m. andThen (caseOf kind v) (segmentIndexOf (steppedAxis real a b d) (steppedFinder real a b d m)))) (now (k .entry)) ⌝ }
 {
     let reals = SegmentedLinspacef64(Linspacef64 {
         inner: RangedCoordf64(a, b),

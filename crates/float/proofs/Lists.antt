@@ -9,16 +9,17 @@ use native.Mathlib.Omega.{arith}
 use lib.Dec.{eqb}
 use lib.ListN.{length, set, take, drop, replicate, length-append, length-replicate, length-take, replicate-append-replicate, take-append-drop}
 use lib.Seq.{sets, sets-eq, take-length}
-use borrow.Author.Tests.{lt-ltb, le-ltb, eqb-true, eqb-false}
+use borrow.Author.Tests.{eqb-true, eqb-false}
 use borrow.Rule.Slice.PartMut.{putMid}
 use Rattle.ranged1d.proofs.Pieces.{put-more}
 use Rattle.decimal.specs.declared.LongText.{LongText}
 use Rattle.decimal.specs.Print.{longNatural, longTextOf}
 use Rattle.decimal.proofs.Digits.{digits-most, filled-to-long, unfilled-to}
-use Rattle.ranged1d.specs.Answer.{Answer, given, refused}
+use Rattle.ranged1d.specs.Answer.{Answer, given, listWritten}
+use Rattle.ranged1d.proofs.Answers.{all-written}
 use Rattle.float.specs.declared.Parts.{Parts}
 use Rattle.float.specs.Text.{filledUp, pointed, front}
-use Rattle.float.specs.Steps.{placed, tailOf, tailLength, bytesOf, textWritten}
+use Rattle.float.specs.Steps.{placed, tailOf, tailLength, bytesOf}
 use Rattle.float.proofs.Decimals.{placed-length, placed-some}
 
 pub sets-sets : (l : List ℕ) (i : ℕ) (a b : List ℕ) → sets (sets l i a) (i + length a) b ≡ sets l i (a ++ b)
@@ -137,9 +138,6 @@ pub bytes-stored : (t : Parts) (e : ℕ) (l : List ℕ) → length (bytesOf t e)
 unfolding bytesOf
 bytes-stored t e l h = all-stored l (front (t .minus) (t .whole)) (tailOf (t .places) (t .decimals) e) ∙ in-front l (bytesOf t e) h
 
--- ---- a text that is refused for want of room, and one that is written
-pub text-short : (t old : List ℕ) → length old < length t → _≡_ {A = Answer ℕ × List ℕ} (refused 13, old) (textWritten t old)
-text-short t old h = rw (lt-ltb (length old) (length t) h)
-
-pub text-held : (n : ℕ) (t old y : List ℕ) → n ≡ length t → length t ≤ length old → y ≡ t ++ drop (length t) old → _≡_ {A = Answer ℕ × List ℕ} (given n, y) (textWritten t old)
-text-held n t old y e h q = rw (le-ltb (length old) (length t) h, e, q)
+-- ---- a text that is written
+pub text-held : (n : ℕ) (t old y : List ℕ) → n ≡ length t → length t ≤ length old → y ≡ t ++ drop (length t) old → _≡_ {A = Answer ℕ × List ℕ} (given n, y) (listWritten t old)
+text-held n t old y e h q = rw (e, q) (all-written t old (length t) refl h)

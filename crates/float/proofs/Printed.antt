@@ -8,7 +8,7 @@ use lib.Dec.{eqb}
 use lib.ListN.{length}
 use lib.Ieee.{Float, binary64, fits}
 use borrow.Author.Tests.{le-leb, lt-leb, leb-false}
-use Rattle.ranged1d.specs.Answer.{Answer, refused}
+use Rattle.ranged1d.specs.Answer.{Answer, refused, listWritten}
 use Rattle.ranged1d.proofs.Bools.{chosen}
 use Rattle.rounding.specs.Within.{AtMost}
 use Rattle.decimal.specs.Print.{longNatural}
@@ -17,7 +17,7 @@ use Rattle.float.specs.declared.Parts.{Parts}
 use Rattle.float.specs.Shorten.{shorten, tolerance}
 use Rattle.float.specs.Text.{signOf, wholePart, decimalsOf, fillsUp, decimals, composed, shown, labelOf}
 use Rattle.float.specs.Calls.{printable, labelPrint}
-use Rattle.float.specs.Steps.{parts, partsOf, trimmed, bytesOf, textWritten}
+use Rattle.float.specs.Steps.{parts, partsOf, trimmed, bytesOf}
 use Rattle.float.proofs.Cases.{Few, trim-few, tail-le, shorten-few}
 use Rattle.float.proofs.Decimals.{decimals-kept}
 use Rattle.float.proofs.Lists.{front-most, bytes-length}
@@ -37,7 +37,7 @@ pub print-12e : (n : Float) (h e : ℕ) (old : List ℕ) → printable n ≡ tru
 unfolding labelPrint
 print-12e n h e old a l k = rw (a, le-leb h 10 l, lt-leb e 20 k)
 
-pub print-some : (n : Float) (h e : ℕ) (old : List ℕ) → printable n ≡ true → h ≤ 10 → e ≤ 20 → labelPrint n h e old ≡ textWritten (labelOf n h e) old
+pub print-some : (n : Float) (h e : ℕ) (old : List ℕ) → printable n ≡ true → h ≤ 10 → e ≤ 20 → labelPrint n h e old ≡ listWritten (labelOf n h e) old
 unfolding labelPrint
 print-some n h e old a l k = rw (a, le-leb h 10 l, le-leb e 20 k)
 

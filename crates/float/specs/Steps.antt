@@ -1,11 +1,9 @@
 -- What private functions promise on the way to `labelPrint`, and what they ask: no part of the rule. Assumes nothing.
 use mathlib.Core.Bool.{Bool, cond, _&&_}
-use mathlib.Core.List.{List, [], _∷_, _++_}
+use mathlib.Core.List.{List, [], _++_}
 use Prim.Native.Nat.{ℕ, zero, suc, _+_, _/_, _%_, max}
-use lib.Dec.{ltb, eqb}
-use lib.ListN.{length}
+use lib.Dec.{eqb}
 use lib.Ieee.{Float}
-use Rattle.ranged1d.specs.Answer.{Answer, given, _when_, lowest, written}
 use Rattle.decimal.specs.Print.{longNatural}
 use Rattle.float.specs.declared.Parts.{Parts}
 use Rattle.float.specs.Text.{signOf, wholePart, decimalsOf, fillsUp, padded, filledUp, pointed, front}
@@ -37,7 +35,3 @@ tailLength k e = cond (eqb k 0 && eqb e 0) 0 (1 + max k e)
 
 unfoldable pub bytesOf : Parts → ℕ → List ℕ
 bytesOf t e = front (t .minus) (t .whole) ++ tailOf (t .places) (t .decimals) e
-
--- a text written to lent bytes, if they are enough
-abbrev pub textWritten : List ℕ → List ℕ → Answer ℕ × List ℕ
-textWritten t old = written (lowest (13 when ltb (length old) (length t) ∷ []) (given (length t))) t old

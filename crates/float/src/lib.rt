@@ -7,11 +7,12 @@ ghost use Prim.Native.Nat.{ℕ, _+_, _-_, _^_, _≤_, _<_};
 ghost use lib.ListN.{length, drop, replicate};
 ghost use lib.Seq.{sets};
 ghost use lib.Ieee as Ieee;
+ghost use Rattle.ranged1d.specs.Answer.{listWritten};
 ghost use Rattle.rounding.specs.Within.{AtMost};
 ghost use Rattle.float.specs.Shorten.{shorten};
 ghost use Rattle.float.specs.Text.{signOf, sizeOf};
 ghost use Rattle.float.specs.Calls.{tellLabel, printable, labelPrint};
-ghost use Rattle.float.specs.Steps.{trimmed, partsOf, placed, tailOf, tailLength, bytesOf, textWritten};
+ghost use Rattle.float.specs.Steps.{trimmed, partsOf, placed, tailOf, tailLength, bytesOf};
 
 // How a label is written: with at least min_decimal decimals, of which at most max_decimal say anything of the number.
 pub struct FloatPrettyPrinter {
@@ -234,7 +235,7 @@ fn tail_length(k: usize, e: usize) -> usize
 // Writes the parts with at least e decimals, if out is long enough.
 fn float_to_string(t: Parts, e: u32, out: &mut [u8]) -> Label
     requires { ⌜ t .places ≤ 10 ⌝ ∗ ⌜ t .decimals < 10 ^ t .places ⌝ ∗ ⌜ e ≤ 20 ⌝ }
-    ensures { λ r. ⌜ (tellLabel r, now (out .exit)) ≡ textWritten (bytesOf t e) (now (out .entry)) ⌝ }
+    ensures { λ r. ⌜ (tellLabel r, now (out .exit)) ≡ listWritten (bytesOf t e) (now (out .entry)) ⌝ }
 {
     let k = t.places as usize;
     let d = t.decimals;

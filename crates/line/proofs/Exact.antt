@@ -9,7 +9,7 @@ use borrow.Author.Tests.{ne-eqb, eqb-true, ltb-true, lt-ltb}
 use lib.Dec.{ltb, eqb}
 use lib.IntN.{ℤ, pos, negsuc}
 use lib.ListN.{length, drop, length-append}
-use Rattle.ranged1d.specs.Answer.{Answer, given, none, refused}
+use Rattle.ranged1d.specs.Answer.{Answer, given, none, refused, andThen}
 use Rattle.ranged1d.specs.Numbers.{isI32}
 use Rattle.ranged1d.proofs.Answers.{not-both, not-none, choice}
 use Rattle.decimal.specs.Print.{digit, digits, natural, decimal}
@@ -17,7 +17,7 @@ use Rattle.decimal.specs.Read.{sameBytes, readI32, readU32}
 use Rattle.decimal.proofs.Texts.{same-self, same-equal}
 use Rattle.decimal.proofs.Reader.{reads-i32, reads-u32, printed-i32, printed-u32}
 use Rattle.line.specs.declared.Request.{Request}
-use Rattle.line.specs.Line.{keyword, lineOf, word, andThen, field, wholeField, ruleField, wholeFields, requestOf, parseNumbers, parseLine}
+use Rattle.line.specs.Line.{keyword, lineOf, word, field, wholeField, ruleField, wholeFields, requestOf, parseNumbers, parseLine}
 
 -- ---- texts without blanks
 unfoldable NoBlank : List ℕ → Type 0

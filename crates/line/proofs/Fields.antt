@@ -7,8 +7,8 @@ use native.Mathlib.Omega.{arith}
 use lib.IntN.{ℤ}
 use lib.ListN.{length, take, drop, set}
 use lib.Seq.{take-all, take-suc-set}
-use Rattle.ranged1d.specs.Answer.{Answer, given, none, refused}
-use Rattle.line.specs.Line.{andThen, wholeField, wholeFields}
+use Rattle.ranged1d.specs.Answer.{Answer, given, none, refused, andThen}
+use Rattle.line.specs.Line.{wholeField, wholeFields}
 
 -- numbers that were taken before
 abbrev pub prepend : List ℤ → Answer (List ℤ × List ℕ) → Answer (List ℤ × List ℕ)

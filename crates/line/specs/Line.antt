@@ -5,7 +5,7 @@ use mathlib.Core.List.{List, [], _∷_, _++_}
 use lib.Dec.{eqb, ltb}
 use lib.IntN.{ℤ, pos}
 use lib.ListN.{length, getD, drop}
-use Rattle.ranged1d.specs.Answer.{Answer, given, none, refused}
+use Rattle.ranged1d.specs.Answer.{Answer, given, none, andThen}
 use Rattle.decimal.specs.Print.{blank, natural, decimal}
 use Rattle.decimal.specs.Read.{sameBytes, readI32, readU32}
 use Rattle.line.specs.declared.Request.{Request}
@@ -31,12 +31,6 @@ lineOf r =
 unfoldable pub word : List ℕ → List ℕ
 word [] = []
 word (c ∷ cs) = cond (eqb c blank) [] (c ∷ word cs)
-
--- one part after the other; the first that is missing decides
-abbrev pub andThen : {A B : Type 0} → Answer A → (A → Answer B) → Answer B
-andThen (given x) f = f x
-andThen none f = none
-andThen (refused n) f = refused n
 
 -- a word that a blank ends, and what follows the blank
 abbrev pub field : List ℕ → Answer (List ℕ × List ℕ)

@@ -2,18 +2,18 @@
 -- written by the plan are the entries at them. Assumes nothing.
 use mathlib.Core.Path.{_≡_, refl, sym, ap, subst, _∙_}
 use mathlib.Core.Bool.{Bool, true, false, true≢false, _&&_}
-use mathlib.Core.List.{List, [], _++_, map}
+use mathlib.Core.List.{List, [], map}
 use mathlib.Core.Logic.{_⊎_, inl, inr}
 use Prim.Native.Nat.{ℕ, _+_, _-_, _*_, _/_, _≤_, _<_}
 use native.Mathlib.Nat.{zero-mul, div-eq-of-lt, div-mul-le-self, mul-le-mul-right}
 use native.Mathlib.Decide.{decLt}
 use native.Mathlib.Omega.{arith}
-use borrow.Author.Tests.{lt-ltb, le-ltb, le-leb, lt-leb, eqb-false}
+use borrow.Author.Tests.{lt-ltb, le-leb, lt-leb, eqb-false}
 use lib.Dec.{leb, eqb, leb·zero}
 use lib.IntN.{ℤ, pos, natAbs, _*ℤ_}
-use lib.ListN.{length, drop, getD}
-use Rattle.ranged1d.specs.Answer.{Answer, given, refused}
-use Rattle.ranged1d.proofs.Answers.{not-both}
+use lib.ListN.{length, getD}
+use Rattle.ranged1d.specs.Answer.{Answer, given, refused, listWritten}
+use Rattle.ranged1d.proofs.Answers.{not-both, all-written}
 use Rattle.numeric.specs.declared.KeyPoints.{KeyPoints}
 use Rattle.numeric.specs.Marks.{low, high, distance, chosen, stepAt, firstIndex, lastIndex, howMany, ceilDiv, listOf, multiple, multiples, noStepFor, stepFor, marksFor}
 use Rattle.numeric.specs.Calls.{wholePlan, planOf}
@@ -23,7 +23,6 @@ use Rattle.numeric.proofs.Reflect.{many-pos}
 use Rattle.numeric.proofs.NoStep.{none-served}
 use Rattle.numeric.proofs.Plans.{planned-good, index-marks-are}
 use Rattle.linspace.specs.Calls.{hasEntries, marksOf}
-use Rattle.linspace.specs.WholeSteps.{marksWritten}
 
 -- ---- the axis from 0 to h
 low-zero : (h : ℕ) → low (pos 0) (pos h) ≡ pos 0
@@ -137,15 +136,8 @@ marks-list x f n m some {p} plan =
 
 -- ---- what is written
 module _ {A : Type 0} (l old : List A) where
-  pub nothing-written : l ≡ [] → _≡_ {A = Answer ℕ × List A} (given 0, old) (marksWritten l old)
-  nothing-written e = rw (e, le-ltb (length old) 0 (omega arith)) refl
-
-  module _ (n : ℕ) (size : length l ≡ n) where
-    pub too-short : length old < n → _≡_ {A = Answer ℕ × List A} (refused 13, old) (marksWritten l old)
-    too-short h = rw (size, lt-ltb (length old) n h) refl
-
-    pub all-written : n ≤ length old → (given n, l ++ drop n old) ≡ marksWritten l old
-    all-written h = rw (size, le-ltb (length old) n h, size) refl
+  pub nothing-written : l ≡ [] → _≡_ {A = Answer ℕ × List A} (given 0, old) (listWritten l old)
+  nothing-written e = rw e (all-written [] old 0 refl (omega arith))
 
 -- a list with an entry has marks, where 3 was not met
 pub some-marks : {A : Type 0} (l : List A) (m n : ℕ) → (eqb m 0 && hasEntries l) ≡ false → length l ≡ n → 0 < n → 0 < m

@@ -9,7 +9,8 @@ use lib.Dec.{eqb}
 use lib.IntN.{pos, natAbs}
 use lib.ListN.{length, drop, getD}
 use lib.Ieee.{Float}
-use Rattle.ranged1d.specs.Answer.{given, refused}
+use Rattle.ranged1d.specs.Answer.{given, refused, listWritten}
+use Rattle.ranged1d.proofs.Answers.{too-short, all-written}
 use Rattle.numeric.specs.declared.KeyPoints.{KeyPoints}
 use Rattle.numeric.specs.Marks.{listOf}
 use Rattle.numeric.specs.Calls.{wholePlan}
@@ -17,7 +18,6 @@ use Rattle.numeric.proofs.Lists.{entry, length-of, list-ext}
 use Rattle.linspace.specs.List.{real, stepped, against}
 use Rattle.linspace.specs.Calls.{hasEntries, stepMarks, stepSize, stepKeyPoints}
 use Rattle.linspace.specs.RealSteps.{plusStep, after}
-use Rattle.linspace.specs.WholeSteps.{marksWritten}
 use Rattle.linspace.proofs.Axis.{size-is}
 use Rattle.linspace.proofs.Counts.{stepped-are}
 use Rattle.linspace.proofs.Marks as marks
@@ -64,7 +64,7 @@ module _ (a b d : Float) (m : ℕ) where
       points-refused e = sym (rules.points-stopped real a b d refl m old z (rules.size-is real a b d refl ∙ e))
 
       module _ (on : against real a b d ≡ false) (few : length l ≤ 65536) where
-        counted : marksWritten marked old ≡ stepKeyPoints real a b d m old
+        counted : listWritten marked old ≡ stepKeyPoints real a b d m old
         counted = rules.points-is real a b d refl m old z (rules.size-is real a b d refl ∙ sym (size-is a b d on few))
 
         -- no entry, and no mark
@@ -76,7 +76,7 @@ module _ (a b d : Float) (m : ℕ) where
           count-is = ap length (marks-are few z s e) ∙ length-of (λ k. after (plusStep d) (k * natAbs (p .step)) a) (p .count)
 
           pub points-short : length old < p .count → stepKeyPoints real a b d m old ≡ (refused 13, old)
-          points-short h = sym (marks.too-short marked old (p .count) count-is h ∙ counted)
+          points-short h = sym (too-short marked old (p .count) count-is h ∙ counted)
 
           pub points-written : p .count ≤ length old → stepKeyPoints real a b d m old ≡ (given (p .count), listOf (λ k. after (plusStep d) (k * natAbs (p .step)) a) (p .count) ++ drop (p .count) old)
-          points-written h = sym (ap (λ (w : List Float). (given (p .count), w ++ drop (p .count) old)) (sym (marks-are few z s e)) ∙ marks.all-written marked old (p .count) count-is h ∙ counted)
+          points-written h = sym (ap (λ (w : List Float). (given (p .count), w ++ drop (p .count) old)) (sym (marks-are few z s e)) ∙ all-written marked old (p .count) count-is h ∙ counted)

@@ -7,7 +7,7 @@ use borrow.Author.Tests.{lt-ltb, le-ltb}
 use lib.Dec.{ltb, eqb}
 use lib.IntN.{ℤ}
 use lib.ListN.{length, drop}
-use Rattle.ranged1d.specs.Answer.{Answer, given, none, refused, _when_, lowest, written}
+use Rattle.ranged1d.specs.Answer.{Answer, given, refused, _when_, lowest, written, andThen, listWritten}
 use Rattle.ranged1d.specs.Admitted.{pixelAdmitted, limitAdmitted}
 use Rattle.ranged1d.specs.declared.Limit.{Limit}
 use Rattle.ranged1d.proofs.Answers.{given-is, not-both}
@@ -17,19 +17,14 @@ use Rattle.search.specs.declared.RoundingMethod.{RoundingMethod}
 use Rattle.search.specs.Search as rule
 use Rattle.linspace.specs.List.{Kind, stepped, against, tooLong, axisAdmitted}
 use Rattle.linspace.specs.Calls.{nth, hasEntries, nthOf, stepValues, stepSize, stepFromIndex, stepIndexOf, stepSpot, stepPlace, stepReading, stepMarks, stepKeyPoints}
-use Rattle.linspace.specs.WholeSteps.{marksWritten}
 
 -- an answer once the entries are counted
 abbrev pub onceListed : {B : Type 0} → Answer ℕ → Answer B → Answer B
-onceListed (given n) r = r
-onceListed none r = none
-onceListed (refused n) r = refused n
+onceListed counts r = andThen counts (λ n. r)
 
 -- a place that is answered once the entries are counted
 abbrev pub placeListed : Answer ℤ → Answer ℕ → Answer ℤ
-placeListed (given z) counts = onceListed counts (given z)
-placeListed none counts = none
-placeListed (refused n) counts = refused n
+placeListed place counts = andThen place (λ z. onceListed counts (given z))
 
 module _ {A : Type 0} (kind : Kind A) (a b d : A) where
   -- the number of entries, or 6 or 7
@@ -177,5 +172,5 @@ module _ {A : Type 0} (kind : Kind A) (a b d : A) where
             go false true e = ap (λ (r : Answer ℕ). (r, old)) e
             go false false e = absurd (not-both e)
 
-        pub points-is : {n : ℕ} → counts ≡ given n → marksWritten (stepMarks kind a b d m) old ≡ stepKeyPoints kind a b d m old
+        pub points-is : {n : ℕ} → counts ≡ given n → listWritten (stepMarks kind a b d m) old ≡ stepKeyPoints kind a b d m old
         points-is e = let k = counted e in sym (points-by ∙ rw (k .onward, k .short) refl)

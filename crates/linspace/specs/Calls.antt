@@ -7,7 +7,7 @@ use mathlib.Core.List.{List, [], _∷_, map}
 use lib.Dec.{ltb, eqb}
 use lib.IntN.{ℤ, _-ℤ_}
 use lib.ListN.{length, getD}
-use Rattle.ranged1d.specs.Answer.{Answer, given, none, refused, _when_, lowest, written}
+use Rattle.ranged1d.specs.Answer.{Answer, given, none, refused, _when_, lowest, written, andThen}
 use Rattle.ranged1d.specs.Refusals.{numberOf}
 use Rattle.ranged1d.specs.Admitted.{pixelAdmitted, limitAdmitted}
 use Rattle.ranged1d.specs.declared.Limit.{Limit}
@@ -38,9 +38,7 @@ hasEntries l = ltb 0 (length l)
 
 -- the value at an index that a pixel was read as, if it was
 abbrev pub nthOf : {A : Type 0} → List A → Answer ℕ → Answer A
-nthOf l (given k) = nth l k
-nthOf l none = none
-nthOf l (refused n) = refused n
+nthOf l r = andThen r (nth l)
 
 unfoldable pub marksOf : {A : Type 0} → A → List A → ℕ → List A
 marksOf x l m = cond (hasEntries l) (map (λ k. getD l k x) (indexMarks 0 (length l - 1) m)) []

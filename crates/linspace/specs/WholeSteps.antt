@@ -2,12 +2,9 @@
 use Prim.Native.Nat.{ℕ, _+_, _-_, _*_, _/_, _≤_}
 use mathlib.Core.Path.{_≡_}
 use mathlib.Core.Bool.{true, false, cond}
-use mathlib.Core.List.{List, [], _∷_}
 use lib.Dec.{leb, ltb, eqb}
 use lib.IntN.{ℤ, pos, natAbs, _+ℤ_, _-ℤ_, _*ℤ_}
-use lib.ListN.{length}
 use lib.Signed.{ltZ, leZ}
-use Rattle.ranged1d.specs.Answer.{Answer, given, _when_, lowest, written}
 use Rattle.linspace.specs.List.{whole, most, against, axisAdmitted}
 
 -- how many entries a list would have that is not bounded: the distance of the ends over the step's size, rounded up; none where the first
@@ -38,7 +35,3 @@ pub record Lies (a b d : ℤ) (k : ℕ) : Type 0 where
   pub index : k ≤ most
   pub far : k * natAbs d ≤ 2_000_000_000
   pub near : natAbs (a +ℤ pos k *ℤ d) ≤ 1_000_000_000
-
--- the marks l written to a lent list, 13 where it is too short for them
-abbrev pub marksWritten : {A : Type 0} → List A → List A → Answer ℕ × List A
-marksWritten l old = written (lowest (13 when ltb (length old) (length l) ∷ []) (given (length l))) l old

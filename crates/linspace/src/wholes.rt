@@ -7,7 +7,7 @@ ghost use lib.Dec.{eqb};
 ghost use lib.IntN.{pos, natAbs};
 ghost use lib.ListN.{length, drop, getD};
 ghost use Rattle.ranged1d.specs.Admitted.{wholeAdmitted};
-ghost use Rattle.ranged1d.specs.Answer.{given, _when_, lowest};
+ghost use Rattle.ranged1d.specs.Answer.{given, _when_, lowest, listWritten};
 ghost use Rattle.numeric.specs.Marks.{listOf};
 ghost use Rattle.numeric.specs.Calls.{element};
 ghost use Rattle.numeric.specs.Whole.{tellCount, tellIndex, tellValue};
@@ -15,7 +15,7 @@ ghost use Rattle.real.specs.Place.{tellPlace};
 ghost use Rattle.search.specs.Search.{search, wholes};
 ghost use Rattle.linspace.specs.List.{whole, stepped, against, tooLong, axisAdmitted};
 ghost use Rattle.linspace.specs.Calls.{tellListed, nth, hasEntries, marksOf, stepValues, stepSize, stepFromIndex, stepIndexOf, stepPlace, stepReading, stepKeyPoints};
-ghost use Rattle.linspace.specs.WholeSteps.{wholeCount, past, wholePosition, Lies, Known, marksWritten};
+ghost use Rattle.linspace.specs.WholeSteps.{wholeCount, past, wholePosition, Lies, Known};
 use crate::Linspacei32;
 use crate::Listed;
 use discrete::PixelIndex;
@@ -235,7 +235,7 @@ fn put_list(out: &mut [i32], a: i32, d: i32, n: usize)
 fn put_marks(s: Steps, n: u32, m: u32, out: &mut [i32]) -> Listed
     requires { ⌜ Known (s .a) (s .b) (s .d) n ⌝ }
     requires { ⌜ ((0 < n) → 0 < m) ⌝ }
-    ensures { λ r. ⌜ (tellListed r, now (out .exit)) ≡ marksWritten (marksOf (pos 0) (listOf (element (s .a) (s .d)) n) m) (now (out .entry)) ⌝ }
+    ensures { λ r. ⌜ (tellListed r, now (out .exit)) ≡ listWritten (marksOf (pos 0) (listOf (element (s .a) (s .d)) n) m) (now (out .entry)) ⌝ }
 {
     if n == 0 {
         return Listed::Written(0);

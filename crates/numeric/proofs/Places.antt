@@ -12,8 +12,7 @@ use Rattle.ranged1d.specs.Answer.{given, _when_, lowest}
 use Rattle.ranged1d.specs.Admitted.{wholeAdmitted, limitAdmitted}
 use Rattle.ranged1d.specs.declared.Limit.{Limit}
 use Rattle.rounding.specs.declared.Whole.the-variants.{Number}
-use Rattle.real.specs.Place.{along, spot, realPlace, wholeSpot, wholePlace}
-use Rattle.real.proofs.Cases.{answered}
+use Rattle.real.specs.Place.{along, spot, realPlace, wholeSpot, wholePlace, spotAnswer}
 use Rattle.real.proofs.Exact.{int-self, same-int, whole-share}
 use Rattle.real.proofs.Placed.{Placed, whole-is-real, whole-placed}
 use Rattle.numeric.specs.declared.KeyPoints.{KeyPoints}
@@ -32,7 +31,7 @@ by-tests a b v limit t u e f = whole-is-real a b v limit ∙ rw (e, f, grouped (
     grouped false y z = refl
 
 -- past all tests it is the place of the rule, or 5
-pub past-tests : (a b v : ℤ) (limit : Limit) → true ≡ endsAdmitted a b → true ≡ wholeAdmitted v → limitAdmitted limit ≡ true → wholePlace a b v limit ≡ answered (wholeSpot a b v limit)
+pub past-tests : (a b v : ℤ) (limit : Limit) → true ≡ endsAdmitted a b → true ≡ wholeAdmitted v → limitAdmitted limit ≡ true → wholePlace a b v limit ≡ spotAnswer (wholeSpot a b v limit)
 unfolding realPlace
 past-tests a b v limit e f h = by-tests a b v limit true true e f ∙ rw h
 

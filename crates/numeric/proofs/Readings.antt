@@ -9,7 +9,7 @@ use lib.IntN.{ℤ, pos, negsuc, natAbs, _+ℤ_, _-ℤ_}
 use lib.Signed.{ltZ}
 use borrow.Author.Tests.{le-ltb}
 use mir.Facts.{and-yes, leb-yes}
-use Rattle.ranged1d.specs.Answer.{Answer, given, none, refused, _when_, lowest}
+use Rattle.ranged1d.specs.Answer.{Answer, given, none, _when_, lowest, andThen}
 use Rattle.ranged1d.specs.Admitted.{wholeAdmitted, pixelAdmitted, limitAdmitted}
 use Rattle.ranged1d.specs.declared.Limit.{Limit}
 use Rattle.ranged1d.proofs.Whole.{sub-cases}
@@ -28,9 +28,7 @@ not-too-low (negsuc n) k h = sub-cases k (suc n) (λ z. ltZ z (negsuc 2147483647
 
 -- a reading is the value at the pixel's index, where it has one
 abbrev pub thenValue : ℤ → Answer ℕ → Answer ℤ
-thenValue a (given k) = valueFrom a k
-thenValue a none = none
-thenValue a (refused n) = refused n
+thenValue a r = andThen r (valueFrom a)
 
 pub by-index : (a b x : ℤ) (l : Limit) → endsAdmitted a b ≡ true → wholeReading a b x l ≡ thenValue a (pixelIndex x l (countOf a b))
 unfolding wholeReading valueFrom pixelIndex indexFor

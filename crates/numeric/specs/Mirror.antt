@@ -9,7 +9,7 @@ use lib.Dec.{ltb}
 use lib.IntN.{ℤ, pos, negℤ, natAbs, _*ℤ_}
 use lib.ListN.{length}
 use lib.Signed.{ltZ, _≤ℤ_, _<ℤ_}
-use Rattle.ranged1d.specs.Answer.{Answer, given, none, refused}
+use Rattle.ranged1d.specs.Answer.{Answer, given, andThen}
 use Rattle.numeric.specs.Marks.{low, high, noStep, stepOf, marks}
 use Rattle.numeric.specs.Calls.{wholeKeyPoints}
 
@@ -45,9 +45,7 @@ pub record OneMore (s : ℕ) (z : ℤ) (more fewer : List ℤ) : Type 0 where
 
 -- an answer of `key_points`, but for the count
 abbrev pub stepOnly : Answer (ℤ × ℕ) → Answer ℤ
-stepOnly (given x) = given (x .0)
-stepOnly none = none
-stepOnly (refused n) = refused n
+stepOnly r = andThen r (λ x. given (x .0))
 
 -- the lent list is too short for the marks
 abbrev pub tooShort : ℤ → ℤ → ℕ → List ℤ → Bool

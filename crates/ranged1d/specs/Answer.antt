@@ -3,6 +3,7 @@
 use Prim.Native.Nat.{ℕ}
 use mathlib.Core.Bool.{Bool, cond}
 use mathlib.Core.List.{List, [], _∷_, _++_}
+use lib.Dec.{ltb}
 use lib.ListN.{length, drop}
 
 -- 01 "Why a call stops": a call gives its answer, or answers that there is none, or is refused with a number. None is no refusal.
@@ -36,3 +37,13 @@ heldAfter (refused n) new old = old
 -- The whole of what a call with lent memory does: its answer, and what the memory then holds.
 abbrev pub written : {A B : Type 0} → Answer A → List B → List B → Answer A × List B
 written a new old = (a, heldAfter a new old)
+
+-- One answer after the other: the first that is missing or refused decides.
+abbrev pub andThen : {A B : Type 0} → Answer A → (A → Answer B) → Answer B
+andThen (given x) f = f x
+andThen none f = none
+andThen (refused n) f = refused n
+
+-- A list that is put into lent memory, 13 where that is too short for it; else how many entries it has.
+abbrev pub listWritten : {A : Type 0} → List A → List A → Answer ℕ × List A
+listWritten l old = written (lowest (13 when ltb (length old) (length l) ∷ []) (given (length l))) l old

@@ -1,7 +1,6 @@
 -- The rules case by case, from the tests that the code makes. Assumes nothing.
 use mathlib.Core.Path.{_≡_, refl, sym, ap, _∙_}
 use mathlib.Core.Bool.{Bool, true, false, _&&_, true≢false}
-use mathlib.Core.List.{[], _∷_}
 use Prim.Native.Nat.{ℕ, zero, suc, _*_, _^_, _≤_, _<_, zero-le}
 use native.Mathlib.Nat.{le-refl, zero-mul, mul-pos}
 use native.Mathlib.Omega.{arith}
@@ -11,7 +10,6 @@ use lib.Ieee.{Float, nan, inf, fin, binary64, up, down, unlike, add, mul, eq, of
 use lib.Ieee.Fits.{down-pos}
 use lib.Ieee.Exact.{HasValue}
 use borrow.Author.Tests.{ltb-true, le-leb, leb-true, ne-eqb}
-use Rattle.ranged1d.specs.Answer.{Answer, given, _when_, lowest}
 use Rattle.ranged1d.specs.declared.Limit.{Limit}
 use Rattle.ranged1d.specs.Admitted.{pixelAdmitted, limitAdmitted}
 use Rattle.ranged1d.proofs.Bools.{both-true, both-false, chosen}
@@ -96,10 +94,6 @@ module _ (w : Way) (b : ℕ) (s : Bool) (m : ℕ) (e : ℤ) (l : ℤ) (held : na
       go : (c : Bool) → eq t (inf u) ≡ c → c ≡ false
       go true h = absurd (true≢false (sym (steps-inf u) ∙ sym (ap (λ (y : Float). isBeyond (steps w b (fin s m e) l y)) (is-inf t u h)) ∙ n))
       go false h = refl
-
--- ---- what a call with admitted arguments answers
-abbrev pub answered : Whole → Answer ℤ
-answered w = lowest (5 when isBeyond w ∷ []) (given (number w))
 
 -- ---- admitted limits are near 0
 pub near : (x : ℤ) → pixelAdmitted x ≡ true → natAbs x ≤ 1_000_000

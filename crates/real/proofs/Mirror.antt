@@ -18,9 +18,9 @@ use Rattle.rounding.specs.declared.Whole.{Whole}
 use Rattle.rounding.specs.declared.Whole.the-variants.{Number, Beyond}
 use Rattle.rounding.proofs.Laws.{ceil-within-neg}
 use Rattle.rounding.proofs.Signs as whole
-use Rattle.real.specs.Place.{farthest, milli, share, rising, falling, plus, orEnd, along, spot, isBeyond, realPlace, wholePlace, wholeSpot}
+use Rattle.real.specs.Place.{farthest, milli, share, rising, falling, plus, orEnd, along, spot, isBeyond, realPlace, wholePlace, wholeSpot, spotAnswer}
 use Rattle.real.specs.Mirror.{mirrored, negated, Mirrored}
-use Rattle.real.proofs.Cases.{answered, facing, facing-beyond, no-end, some-size, steps}
+use Rattle.real.proofs.Cases.{facing, facing-beyond, no-end, some-size, steps}
 use Rattle.real.proofs.Signs.{zeroOf, Alike, alike-on, alike-through, same-through, Turns, turns-alike, eq-neg, add-left, add-turns, sub-turns, mul-neg, mul-right, div-alike, eq-alike, int-neg, int-alike}
 use Rattle.real.proofs.Exact.{differ, no-difference, whole-share}
 use Rattle.real.proofs.Readings.{limit-neg, length-neg, readings}
@@ -123,14 +123,14 @@ spot-neg limit a b v a' b' v' ends alike = rw (ends, length-neg (limit .0) (limi
     go p q l true h = ap Number (half-neg l)
     go p q l false h = same-through (along (negℤ p) (negℤ q) (negℤ l)) (along-zero (negℤ p) (negℤ q) (negℤ l)) (alike h) ∙ along-neg p q l (share a b v)
 
-answered-neg : (w : Whole) → answered (whole.negated w) ≡ negated (answered w)
+answered-neg : (w : Whole) → spotAnswer (whole.negated w) ≡ negated (spotAnswer w)
 answered-neg (Number z) = refl
 answered-neg Beyond = refl
 
 -- behind the refusal 2
-behind : (c : Bool) (w' w : Whole) → w' ≡ whole.negated w → cond c (refused 2) (answered w') ≡ negated (cond c (refused 2) (answered w))
+behind : (c : Bool) (w' w : Whole) → w' ≡ whole.negated w → cond c (refused 2) (spotAnswer w') ≡ negated (cond c (refused 2) (spotAnswer w))
 behind true w' w e = refl
-behind false w' w e = ap answered e ∙ answered-neg w
+behind false w' w e = ap spotAnswer e ∙ answered-neg w
 
 -- ---- real places, also of a value that is the negated one only up to the sign of a zero
 less-alike : {x y : Float} (z : Float) → Alike x y → Alike (sub binary64 x z) (sub binary64 y z)
@@ -182,8 +182,8 @@ whole-places limit a b v =
     rw (admitted-neg a, admitted-neg b, admitted-neg v, limit-neg limit) (go (wholeAdmitted a) (wholeAdmitted b) (wholeAdmitted v) refl refl refl)
   where
     go : (x y z : Bool) → wholeAdmitted a ≡ x → wholeAdmitted b ≡ y → wholeAdmitted v ≡ z
-        → cond (not (x && y && z)) (refused 1) (cond (not (limitAdmitted limit)) (refused 2) (answered (wholeSpot (negℤ a) (negℤ b) (negℤ v) (mirrored limit))))
-        ≡ negated (cond (not (x && y && z)) (refused 1) (cond (not (limitAdmitted limit)) (refused 2) (answered (wholeSpot a b v limit))))
+        → cond (not (x && y && z)) (refused 1) (cond (not (limitAdmitted limit)) (refused 2) (spotAnswer (wholeSpot (negℤ a) (negℤ b) (negℤ v) (mirrored limit))))
+        ≡ negated (cond (not (x && y && z)) (refused 1) (cond (not (limitAdmitted limit)) (refused 2) (spotAnswer (wholeSpot a b v limit))))
     go true true true h i j =
         behind (not (limitAdmitted limit)) (wholeSpot (negℤ a) (negℤ b) (negℤ v) (mirrored limit)) (wholeSpot a b v limit) (whole-spot limit a b v h i j)
     go true true false h i j = refl

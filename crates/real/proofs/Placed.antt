@@ -22,8 +22,8 @@ use Rattle.rounding.specs.declared.Whole.{Whole}
 use Rattle.rounding.specs.declared.Whole.the-variants.{Number, Beyond}
 use Rattle.rounding.proofs.Value.{Told}
 use Rattle.rounding.proofs.Small.{small-neg, add-small, mul-small}
-use Rattle.real.specs.Place.{farthest, milli, share, product, rising, falling, plus, orEnd, along, spot, number, realPlace, wholePlace}
-use Rattle.real.proofs.Cases.{answered, near-limits, some-size, steps, steps-near}
+use Rattle.real.specs.Place.{farthest, milli, share, product, rising, falling, plus, orEnd, along, spot, number, realPlace, wholePlace, spotAnswer}
+use Rattle.real.proofs.Cases.{near-limits, some-size, steps, steps-near}
 use Rattle.real.proofs.Exact.{differ, no-difference, whole-share}
 use Rattle.real.proofs.Sizes.{small-int, small-quotient, small-told}
 
@@ -78,11 +78,11 @@ pub given-near : (a b v : Float) (limit : Limit) (z : ℤ) → realPlace a b v l
 unfolding realPlace
 given-near a b v limit z e = go (limitAdmitted limit) refl e
   where
-    of-answer : (w : Whole) → natAbs (number w) ≤ 1_001_000_000 → answered w ≡ given z → natAbs z ≤ 1_001_000_000
+    of-answer : (w : Whole) → natAbs (number w) ≤ 1_001_000_000 → spotAnswer w ≡ given z → natAbs z ≤ 1_001_000_000
     of-answer (Number k) n e = omega (arith, ap natAbs (given-is e))
     of-answer Beyond n e = absurd (not-both (sym e))
 
-    go : (c : Bool) → limitAdmitted limit ≡ c → cond (not c) (refused 2) (answered (spot a b v limit)) ≡ given z → natAbs z ≤ 1_001_000_000
+    go : (c : Bool) → limitAdmitted limit ≡ c → cond (not c) (refused 2) (spotAnswer (spot a b v limit)) ≡ given z → natAbs z ≤ 1_001_000_000
     go true h e = of-answer (spot a b v limit) (spot-near a b v limit h) e
     go false h e = absurd (not-both (sym e))
 
@@ -112,8 +112,8 @@ module _ (l : ℤ) (t : Float) (hl : natAbs l ≤ 2_000_000) (ht : AtMost 11 t) 
 plus-told : (p : ℤ) (w : Whole) → natAbs p ≤ 1_000_000 → Told w 22_000_001 → Told (plus p w) 23_000_001
 plus-told p w hp n = (p +ℤ n .0, ap (plus p) (n .1), omega (arith, add-far p (n .0), n .2))
 
-answered-at : (w : Whole) → Told w 23_000_001 → Placed (answered w)
-answered-at w n = record { at = n .0; is = ap answered (n .1); near = n .2 }
+answered-at : (w : Whole) → Told w 23_000_001 → Placed (spotAnswer w)
+answered-at w n = record { at = n .0; is = ap spotAnswer (n .1); near = n .2 }
 
 -- whole ends, which may be equal; if they are not, the value is at most eleven times their distance from the first
 pub placed : (a b v : ℤ) (limit : Limit) → limitAdmitted limit ≡ true → natAbs a ≤ 1_000_000_000 → natAbs b ≤ 1_000_000_000 → natAbs v ≤ 2_000_000_000

@@ -7,7 +7,7 @@ use mathlib.Core.Logic.{_⊎_}
 use lib.IntN.{ℤ, negℤ}
 use lib.Ieee as Ieee
 use lib.Ieee.{Float, nan, neg}
-use Rattle.ranged1d.specs.Answer.{Answer, given, none, refused}
+use Rattle.ranged1d.specs.Answer.{Answer, given, none, refused, andThen}
 use Rattle.ranged1d.specs.declared.Limit.{Limit}
 use Rattle.real.specs.Place.{realPlace, wholePlace}
 use Rattle.real.specs.Reading.{realReading}
@@ -18,9 +18,7 @@ mirrored l = record { 0 = negℤ (l .0); 1 = negℤ (l .1) }
 
 -- the mirror of an answered place; a refusal keeps its number
 abbrev pub negated : Answer ℤ → Answer ℤ
-negated (given z) = given (negℤ z)
-negated none = none
-negated (refused n) = refused n
+negated r = andThen r (λ z. given (negℤ z))
 
 -- when two values count as equal: a NaN equals a NaN, and IEEE 754's equality has a zero of either sign equal the other
 abbrev pub Same : Float → Float → Type 0

@@ -81,6 +81,10 @@ abbrev pub number : Whole → ℤ
 number (Number z) = z
 number Beyond = pos 0
 
+-- a place that is looked for, or 5
+abbrev pub spotAnswer : Whole → Answer ℤ
+spotAnswer w = lowest (5 when isBeyond w ∷ []) (given (number w))
+
 -- a place on a real axis: 2 where a limit is not admitted, 5 where the whole number is beyond
 unfoldable pub realPlace : Float → Float → Float → Limit → Answer ℤ
 realPlace a b v limit =

@@ -8,7 +8,7 @@ use lib.IntN.{ℤ, _-ℤ_}
 use lib.Signed.{ltZ, leZ}
 use lib.Ieee as Ieee
 use lib.Ieee.{Float, binary64}
-use Rattle.ranged1d.specs.Answer.{Answer, given, none, refused}
+use Rattle.ranged1d.specs.Answer.{Answer, given, none, refused, andThen}
 use Rattle.search.specs.declared.RoundingMethod.{RoundingMethod}
 use Rattle.search.specs.declared.RoundingMethod.the-variants.{Exact, Ceil, Floor, Round}
 
@@ -28,9 +28,7 @@ reals = record { less = Ieee.lt; equal = Ieee.eq; minus = Ieee.sub binary64 }
 -- ---- the best of the entries that pass, and its index: none where none passes. An entry stays the best unless one behind it is
 -- better. `best-is` of proofs/Best says what this is: the one that passes and is better than every other that does.
 abbrev pub further : {A : Type 0} → Answer (ℕ × A) → Answer (ℕ × A)
-further (given f) = given (suc (f .0), f .1)
-further none = none
-further (refused n) = refused n
+further r = andThen r (λ f. given (suc (f .0), f .1))
 
 abbrev pub unlessBetter : {A : Type 0} → (A → A → Bool) → A → Answer (ℕ × A) → Answer (ℕ × A)
 unlessBetter better x (given f) = cond (better (f .1) x) (given (suc (f .0), f .1)) (given (0, x))
@@ -72,9 +70,7 @@ module _ {A : Type 0} (num : Numbers A) (t : A) where
 
   -- ---- the search that was chosen
   abbrev pub indexOf : Answer (ℕ × A) → Answer ℕ
-  indexOf (given f) = given (f .0)
-  indexOf none = none
-  indexOf (refused n) = refused n
+  indexOf r = andThen r (λ f. given (f .0))
 
   abbrev pub search : RoundingMethod → List A → Answer ℕ
   search Exact l = indexOf (exact l)

@@ -11,14 +11,14 @@ use lib.Dec.{ltb, eqb}
 use lib.IntN.{ℤ, _+ℤ_, _-ℤ_}
 use lib.ListN.{length}
 use lib.Ieee.{Float}
-use Rattle.ranged1d.specs.Answer.{Answer, given, none, refused, Reason, _when_, lowest, written}
+use Rattle.ranged1d.specs.Answer.{Answer, given, none, refused, Reason, _when_, lowest, written, andThen}
 use Rattle.ranged1d.specs.Admitted.{wholeAdmitted, pixelAdmitted, limitAdmitted}
 use Rattle.ranged1d.specs.declared.Limit.{Limit}
 use Rattle.ranged1d.proofs.Answers.{one-refusal, given-is, not-both}
 use Rattle.rounding.specs.declared.Whole.{Whole}
 use Rattle.rounding.specs.declared.Whole.the-variants.{Number, Beyond}
 use Rattle.discrete.specs.Index.{indexFor, pixelIndex}
-use Rattle.real.specs.Place.{isBeyond, realPlace, wholePlace}
+use Rattle.real.specs.Place.{isBeyond, realPlace, wholePlace, spotAnswer}
 use Rattle.search.specs.declared.RoundingMethod.{RoundingMethod}
 use Rattle.linspace.specs.List.{Kind, whole, real, stepped, against, tooLong, axisAdmitted, most}
 use Rattle.linspace.specs.Calls.{hasEntries, stepSize, stepFromIndex, stepIndexOf, stepMarks, stepKeyPoints}
@@ -28,7 +28,7 @@ use Rattle.linspace.proofs.WholeRules.{ends-place}
 use Rattle.segmented.specs.Values.{Segment, exact, centerOf, last}
 use Rattle.segmented.specs.Segments.{Axis, Finder, half, margin, narrowed, start, entryAfter, successor, middle, placed, afterBeyond, tooFar, fitIn, unsoughtPlace, segmentPlace, segmentSize, indexIn, unsoughtIn, segmentIndexOf, exactly, segmentAt, segmentFromIndex, segmentOf, segmentReading, segmentKeyPoints}
 use Rattle.segmented.specs.Axes.{steppedAxis, steppedFinder}
-use Rattle.segmented.specs.Steps.{spotAnswer, countAnswer, Stands, nextAnswer, centerAnswer, placedAnswer}
+use Rattle.segmented.specs.Steps.{countAnswer, Stands, nextAnswer, centerAnswer, placedAnswer}
 use Rattle.segmented.proofs.Margin.{narrowed-admitted}
 
 -- ---- why there are no segments: u and z are 6 and 7, w that there are no entries or too many
@@ -285,9 +285,7 @@ module _ {A : Type 0} (kind : Kind A) (a b d : A) where
 
   -- ---- the count, from that of the list
   abbrev countOn : Bool → Answer ℕ → Answer ℕ
-  countOn o (given n) = cond o (refused 4) (given n)
-  countOn o none = none
-  countOn o (refused n) = refused n
+  countOn o r = andThen r (λ n. cond o (refused 4) (given n))
 
   count-on : countAnswer steps ≡ countOn (eqb (length (stepped kind a b d)) 0) (stepSize kind a b d)
   unfolding countAnswer stepSize
@@ -312,13 +310,13 @@ module _ {A : Type 0} (kind : Kind A) (a b d : A) where
       go true false false e = given-is e
 
   pub count-refused : {n : ℕ} → stepSize kind a b d ≡ refused n → refused n ≡ countAnswer steps
-  count-refused e = sym (count-on ∙ ap (countOn _) e)
+  count-refused e = sym (count-on ∙ ap (countOn (eqb (length (stepped kind a b d)) 0)) e)
 
   pub count-none : {n : ℕ} → stepSize kind a b d ≡ given n → n ≡ 0 → refused 4 ≡ countAnswer steps
-  count-none e z = sym (count-on ∙ ap (countOn _) e ∙ rw (eq-eqb (length (stepped kind a b d)) 0 (size-length e ∙ z)) refl)
+  count-none e z = sym (count-on ∙ ap (countOn (eqb (length (stepped kind a b d)) 0)) e ∙ rw (eq-eqb (length (stepped kind a b d)) 0 (size-length e ∙ z)) refl)
 
   pub count-some : {n : ℕ} → stepSize kind a b d ≡ given n → (n ≡ 0 → ⊥) → given n ≡ countAnswer steps
-  count-some e z = sym (count-on ∙ ap (countOn _) e ∙ rw (ne-eqb (length (stepped kind a b d)) 0 (λ h. z (sym (size-length e) ∙ h))) refl)
+  count-some e z = sym (count-on ∙ ap (countOn (eqb (length (stepped kind a b d)) 0)) e ∙ rw (ne-eqb (length (stepped kind a b d)) 0 (λ h. z (sym (size-length e) ∙ h))) refl)
 
   -- ---- entries
   module _ {n : ℕ} (s : Stands steps n) where

@@ -16,7 +16,7 @@ use Rattle.ranged1d.specs.Admitted.{wholeAdmitted, limitAdmitted}
 use Rattle.ranged1d.specs.declared.Limit.{Limit}
 use Rattle.ranged1d.proofs.Answers.{given-is, not-both, not-none, one-refusal}
 use Rattle.ranged1d.proofs.Bools.{both-true}
-use Rattle.real.specs.Place.{wholePlace}
+use Rattle.real.specs.Place.{wholePlace, spotAnswer}
 use Rattle.ranged1d.proofs.Whole.{ordered, not-lt}
 use Rattle.numeric.specs.declared.KeyPoints.{KeyPoints}
 use Rattle.numeric.specs.Marks.{marks, stepOf, noStep}
@@ -25,7 +25,7 @@ use Rattle.numeric.specs.Whole.{countOf, endsAdmitted, wholeSize, wholeIndexOf}
 use Rattle.segmented.specs.Values.{exact}
 use Rattle.segmented.specs.Segments.{Axis, narrowed, start, segmentAt, segmentIndexOf, segmentKeyPoints}
 use Rattle.segmented.specs.Axes.{wholeAxis, wholeFinder}
-use Rattle.segmented.specs.Steps.{spotAnswer, countAnswer, Stands, nextAnswer}
+use Rattle.segmented.specs.Steps.{countAnswer, Stands, nextAnswer}
 use Rattle.segmented.proofs.Margin.{narrowed-admitted, squeezed}
 use Rattle.segmented.proofs.Rules.{stands, some-entries, exact-at}
 

@@ -9,7 +9,7 @@ use lib.ListN.{length}
 use lib.Signed.{quotZ}
 use lib.Ieee as Ieee
 use lib.Ieee.{binary32}
-use Rattle.ranged1d.specs.Answer.{Answer, given, none, refused, _when_, lowest, written}
+use Rattle.ranged1d.specs.Answer.{Answer, given, none, refused, _when_, lowest, written, andThen}
 use Rattle.ranged1d.specs.Admitted.{pixelAdmitted, limitAdmitted}
 use Rattle.ranged1d.specs.declared.Limit.{Limit}
 use Rattle.rounding.specs.declared.Whole.{Whole}
@@ -74,9 +74,7 @@ module _ {A : Type 0} (axis : Axis A) where
   -- the entry one after an index, and the successor of a value: the entry one after its index; none where it has no index or
   -- cannot be searched for, or is the last
   abbrev pub entryAfter : Answer ℕ → Answer A
-  entryAfter (given k) = axis .entry (suc k)
-  entryAfter none = none
-  entryAfter (refused n) = refused n
+  entryAfter r = andThen r (λ k. axis .entry (suc k))
 
   abbrev pub successor : Finder A → A → Answer A
   successor find v = cond (find .unsought v) none (entryAfter (find .index v))
@@ -164,9 +162,7 @@ module _ {A : Type 0} (axis : Axis A) where
 
   -- ---- `from_index`: `Exact` of each entry, then `Last`, then none
   abbrev pub exactly : Answer A → Answer (Segment A)
-  exactly (given v) = given (exact v)
-  exactly none = none
-  exactly (refused n) = refused n
+  exactly r = andThen r (λ v. given (exact v))
 
   unfoldable pub segmentAt : ℕ → Answer (Segment A)
   segmentAt k = cond (eqb k (axis .count)) (given last) (exactly (axis .entry k))
@@ -183,9 +179,7 @@ module _ {A : Type 0} (axis : Axis A) where
 
   -- ---- `unmap`: the value at the index of the pixel on an axis with one value more
   abbrev pub segmentOf : Answer ℕ → Answer (Segment A)
-  segmentOf (given k) = segmentAt k
-  segmentOf none = none
-  segmentOf (refused n) = refused n
+  segmentOf r = andThen r segmentAt
 
   unfoldable pub segmentReading : ℤ → Limit → Answer (Segment A)
   segmentReading x limit =

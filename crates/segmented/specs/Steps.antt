@@ -6,14 +6,8 @@ use mathlib.Core.List.{[], _∷_}
 use lib.IntN.{ℤ}
 use Rattle.ranged1d.specs.Answer.{Answer, given, _when_, lowest}
 use Rattle.ranged1d.specs.declared.Limit.{Limit}
-use Rattle.rounding.specs.declared.Whole.{Whole}
-use Rattle.real.specs.Place.{isBeyond, number}
 use Rattle.segmented.specs.Values.{Segment}
 use Rattle.segmented.specs.Segments.{Axis, Finder, noSegments, successor, middle, placed, afterBeyond, tooFar, unsoughtPlace}
-
--- a place that is looked for, or 5
-abbrev pub spotAnswer : Whole → Answer ℤ
-spotAnswer w = lowest (5 when isBeyond w ∷ []) (given (number w))
 
 module _ {A : Type 0} (axis : Axis A) where
   -- how many entries the segments stand on, or why there are no segments

@@ -1,12 +1,13 @@
 -- `float::float_to_string` meets its contract. Assumes nothing.
-use mathlib.Core.Path.{_≡_}
+use mathlib.Core.Path.{_≡_, refl}
 use Prim.Native.Nat.{_+_, _-_, _≤_}
 use native.Mathlib.Omega.{arith}
 use lib.ListN.{length}
+use Rattle.ranged1d.proofs.Answers.{too-short}
 use Rattle.float.specs.Text.{front}
 use Rattle.float.specs.Steps.{bytesOf}
 use Rattle.float.proofs.Cases.{tail-le}
-use Rattle.float.proofs.Lists.{Told, told, front-long, bytes-length, bytes-stored, text-short, text-held}
+use Rattle.float.proofs.Lists.{Told, told, front-long, bytes-length, bytes-stored, text-held}
 use borrow.Author.Needs.{needs}
 use Rattle.float.proofs.float_to_string.Statement.{statement}
 use Rattle.float.proofs.float_to_string.Tie as tie
@@ -42,7 +43,7 @@ returns c =
     let k = h .before in
     let s = k .before .before .before .before in
     let a = s .args in
-    text-short (bytesOf (a .t) (a .e)) (a .out .now) (omega (arith, c .if1 .taken, label k .count, h .tail-length .ensures, bytes-length (a .t) (a .e) (s .pre .1 .0)))
+    too-short (bytesOf (a .t) (a .e)) (a .out .now) (length (bytesOf (a .t) (a .e))) refl (omega (arith, c .if1 .taken, label k .count, h .tail-length .ensures, bytes-length (a .t) (a .e) (s .pre .1 .0)))
 
 put-text-requires : tie.Need-put-text-requires
 put-text-requires c κs =

@@ -7,10 +7,10 @@ use borrow.Author.Tests.{not-true, not-false}
 use lib.IntN.{pos}
 use lib.ListN.{getD, drop}
 use mir.Facts.{toZ-ofZ}
-use Rattle.ranged1d.specs.Answer.{given, none}
+use Rattle.ranged1d.specs.Answer.{given, none, andThen}
 use Rattle.decimal.specs.declared.Natural.{Natural}
 use Rattle.decimal.specs.Read.{tellNatural, readU32}
-use Rattle.line.specs.Line.{andThen, wholeFields, requestOf, parseNumbers}
+use Rattle.line.specs.Line.{wholeFields, requestOf, parseNumbers}
 use Rattle.ranged1d.proofs.Pieces.{rest-is}
 use borrow.Author.Needs.{needs}
 use Rattle.line.proofs.read_numbers.Statement.{statement}

@@ -1,16 +1,16 @@
 -- `line::whole_field` meets its contract. Assumes nothing.
 use mathlib.Core.Path.{_≡_, sym, ap, _∙_}
-use Prim.Native.Nat.{ℕ, suc, _-_}
+use Prim.Native.Nat.{ℕ, suc}
 use native.Mathlib.Nat.{sub-zero}
 use native.Mathlib.Numerals.{add-one}
 use native.Mathlib.Omega.{arith}
 use borrow.Author.Tests.{lt-ltb, le-ltb}
 use lib.ListN.{length, drop}
 use mir.Facts.{toZ-ofZ}
-use Rattle.ranged1d.specs.Answer.{given}
+use Rattle.ranged1d.specs.Answer.{given, andThen}
 use Rattle.decimal.specs.declared.Whole.{Whole}
 use Rattle.decimal.specs.Read.{tellWhole, readI32}
-use Rattle.line.specs.Line.{word, andThen, wholeField}
+use Rattle.line.specs.Line.{word, wholeField}
 use Rattle.line.proofs.Words.{word-front}
 use borrow.Author.Needs.{needs}
 use Rattle.line.proofs.whole_field.Statement.{statement}

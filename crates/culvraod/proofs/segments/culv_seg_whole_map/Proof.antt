@@ -5,12 +5,11 @@ use denote.Ref.{now}
 use mir.Facts.{toZ-ofZ}
 use mir.Syntax.{w32}
 use Rattle.segmented.specs.Axes.{wholeAxis, wholeFinder}
-use Rattle.ranged1d.specs.Answer.{Answer}
+use Rattle.ranged1d.specs.Answer.{Answer, andThen}
 use lib.IntN.{ℤ}
 use Rattle.segmented.specs.Values.{Segment}
 use Rattle.segmented.specs.Segments.{segmentPlace}
 use Rattle.culvraod.specs.Boundary.{limitOf}
-use Rattle.culvraod.specs.Segments.{byCase}
 use Rattle.culvraod.proofs.Crossing.{handed}
 use Rattle.culvraod.proofs.segments.culv_seg_whole_map.Statement.{statement}
 use Rattle.culvraod.proofs.segments.culv_seg_whole_map.Tie as tie
@@ -31,7 +30,7 @@ returns c =
     rw (toZ-ofZ {w = w32} (record { sfits = c .give-place .ok }))
     (handed (now (s .args .pixel)) (c .give-place .ensures)
     (rw (toZ-ofZ (s .fits .a), toZ-ofZ (s .fits .b), toZ-ofZ (s .fits .p), toZ-ofZ (s .fits .q)) at (c .before .before .place-whole .ensures)
-    ∙ ap (λ (x : Answer (Segment ℤ)). byCase x (λ v. segmentPlace (wholeAxis (s .args .a) (s .args .b)) (wholeFinder (s .args .a)) v (limitOf (s .args .p) (s .args .q)))) (rw (toZ-ofZ (s .fits .v)) at (k .whole-case .ensures))))
+    ∙ ap (λ (x : Answer (Segment ℤ)). andThen x (λ v. segmentPlace (wholeAxis (s .args .a) (s .args .b)) (wholeFinder (s .args .a)) v (limitOf (s .args .p) (s .args .q)))) (rw (toZ-ofZ (s .fits .v)) at (k .whole-case .ensures))))
 
 pub culv-seg-whole-map-spec : {M : Type 1} → statement M
 culv-seg-whole-map-spec = tie.close (tie.spec whole-case-requires place-whole-requires give-place-requires returns)

@@ -1,10 +1,11 @@
 -- `culvraod::segments::place_step_real` meets its contract. Assumes nothing.
 use mathlib.Core.Path.{sym, ap}
 use borrow.Author.Needs.{needs}
+use Rattle.ranged1d.specs.Answer.{andThen}
 use Rattle.linspace.specs.List.{real}
 use Rattle.segmented.specs.Axes.{steppedAxis, steppedFinder}
 use Rattle.segmented.specs.Segments.{segmentPlace}
-use Rattle.culvraod.specs.Segments.{tellRealCase, byCase}
+use Rattle.culvraod.specs.Segments.{tellRealCase}
 use Rattle.culvraod.specs.declared.Method.{Method}
 use Rattle.culvraod.specs.Search.{byMethod}
 use Rattle.culvraod.proofs.Crossing.{by-method}
@@ -30,20 +31,20 @@ enum-told-2 c = search needs
 returns : tie.Need-returns
 returns c =
     let s = c .before .before in
-    sym (ap (λ (n : Method). byMethod n (λ m. byCase (tellRealCase (s .args .value)) (λ v. segmentPlace (steppedAxis real (s .args .axis .0 .inner .0) (s .args .axis .0 .inner .1) (s .args .axis .0 .step)) (steppedFinder real (s .args .axis .0 .inner .0) (s .args .axis .0 .inner .1) (s .args .axis .0 .step) m) v (s .args .limit)))) (c .enum-told .given .1))
+    sym (ap (λ (n : Method). byMethod n (λ m. andThen (tellRealCase (s .args .value)) (λ v. segmentPlace (steppedAxis real (s .args .axis .0 .inner .0) (s .args .axis .0 .inner .1) (s .args .axis .0 .step)) (steppedFinder real (s .args .axis .0 .inner .0) (s .args .axis .0 .inner .1) (s .args .axis .0 .step) m) v (s .args .limit)))) (c .enum-told .given .1))
 
 returns-2 : tie.Need-returns-2
 returns-2 c =
     let v = c .before .before in
     let n = v .before .before .before in
     let s = n .before .before in
-    by-method (λ m. byCase (tellRealCase (s .args .value)) (λ v. segmentPlace (steppedAxis real (s .args .axis .0 .inner .0) (s .args .axis .0 .inner .1) (s .args .axis .0 .step)) (steppedFinder real (s .args .axis .0 .inner .0) (s .args .axis .0 .inner .1) (s .args .axis .0 .step) m) v (s .args .limit))) (n .method .given .1) (by-case (λ v. segmentPlace (steppedAxis real (s .args .axis .0 .inner .0) (s .args .axis .0 .inner .1) (s .args .axis .0 .step)) (steppedFinder real (s .args .axis .0 .inner .0) (s .args .axis .0 .inner .1) (s .args .axis .0 .step) (n .method .given .0 .0)) v (s .args .limit)) (ap tellRealCase (v .value .given .1)) (c .map .ensures))
+    by-method (λ m. andThen (tellRealCase (s .args .value)) (λ v. segmentPlace (steppedAxis real (s .args .axis .0 .inner .0) (s .args .axis .0 .inner .1) (s .args .axis .0 .step)) (steppedFinder real (s .args .axis .0 .inner .0) (s .args .axis .0 .inner .1) (s .args .axis .0 .step) m) v (s .args .limit))) (n .method .given .1) (by-case (λ v. segmentPlace (steppedAxis real (s .args .axis .0 .inner .0) (s .args .axis .0 .inner .1) (s .args .axis .0 .step)) (steppedFinder real (s .args .axis .0 .inner .0) (s .args .axis .0 .inner .1) (s .args .axis .0 .step) (n .method .given .0 .0)) v (s .args .limit)) (ap tellRealCase (v .value .given .1)) (c .map .ensures))
 
 returns-3 : tie.Need-returns-3
 returns-3 c =
     let n = c .before .before .before in
     let s = n .before .before in
-    by-method (λ m. byCase (tellRealCase (s .args .value)) (λ v. segmentPlace (steppedAxis real (s .args .axis .0 .inner .0) (s .args .axis .0 .inner .1) (s .args .axis .0 .step)) (steppedFinder real (s .args .axis .0 .inner .0) (s .args .axis .0 .inner .1) (s .args .axis .0 .step) m) v (s .args .limit))) (n .method .given .1) (no-case (λ v. segmentPlace (steppedAxis real (s .args .axis .0 .inner .0) (s .args .axis .0 .inner .1) (s .args .axis .0 .step)) (steppedFinder real (s .args .axis .0 .inner .0) (s .args .axis .0 .inner .1) (s .args .axis .0 .step) (n .method .given .0 .0)) v (s .args .limit)) (ap tellRealCase (c .enum-told2 .given .1)))
+    by-method (λ m. andThen (tellRealCase (s .args .value)) (λ v. segmentPlace (steppedAxis real (s .args .axis .0 .inner .0) (s .args .axis .0 .inner .1) (s .args .axis .0 .step)) (steppedFinder real (s .args .axis .0 .inner .0) (s .args .axis .0 .inner .1) (s .args .axis .0 .step) m) v (s .args .limit))) (n .method .given .1) (no-case (λ v. segmentPlace (steppedAxis real (s .args .axis .0 .inner .0) (s .args .axis .0 .inner .1) (s .args .axis .0 .step)) (steppedFinder real (s .args .axis .0 .inner .0) (s .args .axis .0 .inner .1) (s .args .axis .0 .step) (n .method .given .0 .0)) v (s .args .limit)) (ap tellRealCase (c .enum-told2 .given .1)))
 
 pub place-step-real-spec : {M : Type 1} → statement M
 place-step-real-spec =

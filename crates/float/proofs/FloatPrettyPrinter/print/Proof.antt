@@ -5,6 +5,7 @@ use mathlib.Core.List.{List}
 use Prim.Native.Nat.{ℕ, _^_, _≤_}
 use native.Mathlib.Omega.{arith}
 use borrow.Author.Tests.{not-true, not-false}
+use Rattle.ranged1d.specs.Answer.{listWritten}
 use Rattle.rounding.specs.Within.{AtMost}
 use Rattle.rounding.proofs.Sizes.{in-float}
 use Rattle.float.specs.declared.Parts.{Parts}
@@ -12,7 +13,7 @@ use Rattle.float.specs.declared.Shortened.{Shortened}
 use Rattle.float.specs.Shorten.{shorten, tolerance}
 use Rattle.float.specs.Text.{labelOf, shownOf}
 use Rattle.float.specs.Calls.{printable}
-use Rattle.float.specs.Steps.{bytesOf, textWritten}
+use Rattle.float.specs.Steps.{bytesOf}
 use Rattle.float.proofs.Cases.{Few, pow-small, shorten-few}
 use Rattle.float.proofs.Bounds.{near, stays-near, printable-at-most}
 use Rattle.float.proofs.Printed.{print-11, print-12h, print-12e, print-some, parts-few, bytes-shown}
@@ -101,7 +102,7 @@ returns-4 c =
     let h = s .args .self .«max_decimal» in
     let e = s .args .self .«min_decimal» in
     let b : bytesOf (p .take-apart .result) e ≡ labelOf n h e = ap (λ (r : Parts). bytesOf r e) (p .take-apart .ensures) ∙ bytes-shown (f .find-minimal-repr .result .value) (f .find-minimal-repr .result .levels) e (levels-few f) ∙ ap (λ (r : Shortened). shownOf r e) (found f) in
-    g .float-to-string .ensures ∙ ap (λ (r : List ℕ). textWritten r (s .args .out .now)) b
+    g .float-to-string .ensures ∙ ap (λ (r : List ℕ). listWritten r (s .args .out .now)) b
     ∙ sym (print-some n h e (s .args .out .now) (labelled i) (t .before .if2 .left) (t .if3 .left))
 
 pub print-spec : {M : Type 1} → statement M

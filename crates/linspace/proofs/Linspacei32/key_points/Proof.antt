@@ -7,11 +7,12 @@ use borrow.Author.Tests.{not-true, not-false}
 use borrow.Author.Needs.{needs}
 use lib.IntN.{ℤ, pos}
 use lib.Dec.{eqb}
+use Rattle.ranged1d.specs.Answer.{listWritten}
 use Rattle.numeric.specs.Whole.{tellCount}
 use Rattle.numeric.specs.declared.whole.Count.{Count}
 use Rattle.linspace.specs.List.{whole, stepped, axisAdmitted}
 use Rattle.linspace.specs.Calls.{hasEntries, marksOf}
-use Rattle.linspace.specs.WholeSteps.{Known, marksWritten}
+use Rattle.linspace.specs.WholeSteps.{Known}
 use Rattle.linspace.proofs.Rules.{counts, counted, points-refused, points-none, points-stopped, points-is}
 use Rattle.linspace.proofs.Marks.{some-marks}
 use Rattle.linspace.proofs.WholeList.{list-is}
@@ -105,7 +106,7 @@ returns-4 c =
     let s = e .before .before in
     let old = start s .args .out .now in
     rw (s .steps .ensures .0, s .steps .ensures .2) at (c .before .put-marks .ensures)
-    ∙ ap (λ (l : List ℤ). marksWritten (marksOf (pos 0) l (start s .args .m)) old) (sym (list-is (known n)))
+    ∙ ap (λ (l : List ℤ). listWritten (marksOf (pos 0) l (start s .args .m)) old) (sym (list-is (known n)))
     ∙ points-is whole (a s) (b s) (d s) (axis s) (start s .args .m) old (served e) (counts-are (n .before .before) (n .n .given .1))
 
 pub key-points-spec : {M : Type 1} → statement M

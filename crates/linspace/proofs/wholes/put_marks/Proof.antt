@@ -11,6 +11,7 @@ use mir.Syntax.{w32}
 use mir.Val.{SFits, toZ, ofZ}
 use Rattle.ranged1d.specs.Answer.{given}
 use Rattle.ranged1d.proofs.Whole.{far32}
+use Rattle.ranged1d.proofs.Answers.{too-short, all-written}
 use Rattle.numeric.specs.declared.KeyPoints.{KeyPoints}
 use Rattle.numeric.specs.declared.Planned.{Planned}
 use Rattle.numeric.specs.Marks.{listOf}
@@ -19,7 +20,7 @@ use Rattle.numeric.proofs.Lists.{length-of}
 use Rattle.numeric.proofs.Plans.{natural, planned-good, first-natural, step-natural}
 use Rattle.linspace.specs.Calls.{marksOf}
 use Rattle.linspace.specs.WholeSteps.{Lies}
-use Rattle.linspace.proofs.Marks.{plan-given, mark-inside, marks-none, marks-list, nothing-written, too-short, all-written}
+use Rattle.linspace.proofs.Marks.{plan-given, mark-inside, marks-none, marks-list, nothing-written}
 use Rattle.linspace.proofs.WholeList.{lies}
 use Rattle.linspace.proofs.wholes.put_marks.Statement.{statement}
 use Rattle.linspace.proofs.wholes.put_marks.Tie as tie

@@ -13,8 +13,7 @@ use Rattle.ranged1d.specs.Admitted.{wholeAdmitted, limitAdmitted}
 use Rattle.ranged1d.proofs.Whole.{fits32}
 use Rattle.rounding.specs.declared.Whole.{Whole}
 use Rattle.rounding.specs.declared.Whole.the-variants.{Number}
-use Rattle.real.specs.Place.{number, realPlace, wholeSpot, wholePlace}
-use Rattle.real.proofs.Cases.{answered}
+use Rattle.real.specs.Place.{number, realPlace, wholeSpot, wholePlace, spotAnswer}
 use Rattle.real.proofs.Placed.{spot-near}
 use Rattle.numeric.specs.Whole.{endsAdmitted}
 use Rattle.numeric.proofs.Places.{by-tests, past-tests}
@@ -76,10 +75,10 @@ spot-of-requires c κs = (sym (ends-admitted (E c .before .before)), (rw (toZ-of
 spot-told : (c : tie.After-spot-of) → c .spot-of .result ≡ place (c .before)
 spot-told c = rw (toZ-ofZ (S (c .before) .fits .v)) at (c .spot-of .ensures)
 
-answers : (c : tie.Else3) {w : Whole} → w ≡ place c → answered w ≡ wholePlace (S c .args .self .0) (S c .args .self .1) (S c .args .v) (S c .args .limit)
+answers : (c : tie.Else3) {w : Whole} → w ≡ place c → spotAnswer w ≡ wholePlace (S c .args .self .0) (S c .args .self .1) (S c .args .v) (S c .args .limit)
 answers c e =
     let at = S c .args in
-    ap answered e ∙ sym (past-tests (at .self .0) (at .self .1) (at .v) (at .limit) (ends-admitted (E c .before .before)) (v-admitted (E c)) (allowed c))
+    ap spotAnswer e ∙ sym (past-tests (at .self .0) (at .self .1) (at .v) (at .limit) (ends-admitted (E c .before .before)) (v-admitted (E c)) (allowed c))
 
 -- a place
 module _ (c : tie.After-known-told) where

@@ -13,8 +13,7 @@ use Rattle.ranged1d.specs.Admitted.{limitAdmitted}
 use Rattle.ranged1d.proofs.Whole.{fits32}
 use Rattle.rounding.specs.declared.Whole.{Whole}
 use Rattle.rounding.specs.declared.Whole.the-variants.{Number}
-use Rattle.real.specs.Place.{spot, number, realPlace}
-use Rattle.real.proofs.Cases.{answered}
+use Rattle.real.specs.Place.{spot, number, realPlace, spotAnswer}
 use Rattle.real.proofs.Placed.{spot-near}
 use Rattle.real.proofs.RangedCoordf64.map.Statement.{statement}
 use Rattle.real.proofs.RangedCoordf64.map.Tie as tie
@@ -66,13 +65,13 @@ enum-told c = search needs
 
 returns-2 : tie.Need-returns-2
 unfolding realPlace
-returns-2 c = rw (toZ-ofZ (z64 c), toZ-ofZ (z32 c), allowed (E c)) (ap answered (sym (is-place c)))
+returns-2 c = rw (toZ-ofZ (z64 c), toZ-ofZ (z32 c), allowed (E c)) (ap spotAnswer (sym (is-place c)))
 
 returns-3 : tie.Need-returns-3
 unfolding realPlace
 returns-3 c =
     let s = c .before .before in
-    rw (allowed (s .before)) (ap answered (sym (sym (s .spot-of .ensures) ∙ c .enum-told .given .1)))
+    rw (allowed (s .before)) (ap spotAnswer (sym (sym (s .spot-of .ensures) ∙ c .enum-told .given .1)))
 
 pub map-spec : {M : Type 1} → statement M
 map-spec =

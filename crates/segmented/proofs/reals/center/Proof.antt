@@ -8,7 +8,7 @@ use mir.Val.{toZ, ofZ}
 use mir.Facts.{toZ-ofZ}
 use Rattle.ranged1d.specs.Answer.{given}
 use Rattle.rounding.specs.declared.Whole.the-variants.{Number}
-use Rattle.real.specs.Place.{tellPlace, realPlace}
+use Rattle.real.specs.Place.{tellPlace, realPlace, spotAnswer}
 use Rattle.real.specs.declared.Place.{Place}
 use Rattle.real.specs.Reading.{tellReading}
 use Rattle.real.specs.declared.RealReading.{RealReading}
@@ -17,7 +17,7 @@ use Rattle.segmented.proofs.Margin.{moved-by, within-admitted}
 use Rattle.segmented.proofs.Entries.{start-near}
 use Rattle.segmented.specs.Segments.{Axis, Finder, half, margin, start}
 use Rattle.segmented.specs.Axes.{steppedAxis, steppedFinder}
-use Rattle.segmented.specs.Steps.{spotAnswer, nextAnswer}
+use Rattle.segmented.specs.Steps.{nextAnswer}
 use Rattle.segmented.proofs.Rules.{real-begins, spot-number, center-refused, center-alone, center-far, center-between}
 use borrow.Author.Needs.{needs}
 use Rattle.segmented.proofs.reals.center.Statement.{statement}

@@ -10,7 +10,7 @@ use Rattle.ranged1d.specs.Answer.{given}
 use Rattle.ranged1d.specs.Admitted.{wholeAdmitted}
 use mathlib.Core.Bool.{true}
 use Rattle.rounding.specs.declared.Whole.the-variants.{Number}
-use Rattle.real.specs.Place.{tellPlace, wholePlace}
+use Rattle.real.specs.Place.{tellPlace, wholePlace, spotAnswer}
 use Rattle.real.specs.declared.Place.{Place}
 use Rattle.numeric.specs.Whole.{tellValue}
 use Rattle.numeric.specs.declared.whole.Value.{Value}
@@ -19,7 +19,7 @@ use Rattle.segmented.proofs.Margin.{moved-by, within-admitted}
 use Rattle.segmented.proofs.Entries.{start-near, next-admitted}
 use Rattle.segmented.specs.Segments.{Axis, Finder, half, margin, start}
 use Rattle.segmented.specs.Axes.{steppedAxis, steppedFinder}
-use Rattle.segmented.specs.Steps.{spotAnswer, nextAnswer}
+use Rattle.segmented.specs.Steps.{nextAnswer}
 use Rattle.segmented.proofs.Rules.{whole-begins, spot-number, center-refused, center-alone, center-far, center-between}
 use borrow.Author.Needs.{needs}
 use Rattle.segmented.proofs.steps.center.Statement.{statement}
