@@ -6,7 +6,7 @@ use mathlib.Core.List.{List, [], _∷_}
 use lib.Dec.{eqb}
 use lib.IntN.{ℤ, pos, negℤ}
 use Rattle.ranged1d.specs.Answer.{Answer, given, none, refused}
-use Rattle.ranged1d.specs.Numbers.{eqZ}
+use Rattle.ranged1d.specs.Numbers.{same}
 use Rattle.numeric.specs.Marks.{stepOf, marks}
 use Rattle.numeric.specs.Calls.{wholePlan}
 
@@ -27,7 +27,7 @@ abbrev pub sameList : List ℤ → List ℤ → Bool
 sameList [] [] = true
 sameList [] (y ∷ ys) = false
 sameList (x ∷ xs) [] = false
-sameList (x ∷ xs) (y ∷ ys) = eqZ x y && sameList xs ys
+sameList (x ∷ xs) (y ∷ ys) = same x y && sameList xs ys
 
 abbrev pub accepted : {A : Type 0} → Answer A → Bool
 accepted (given x) = true

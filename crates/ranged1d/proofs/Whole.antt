@@ -1,9 +1,9 @@
 -- Whole numbers: how far from 0 a sum, a difference, a product or a quotient lies, what fits an i32 or an i64, and what a test of
 -- order says. Assumes nothing.
 use mathlib.Core.Path.{_≡_, refl, sym, ap, _∙_, subst}
-use mathlib.Core.Bool.{Bool, true, false, cond, not}
+use mathlib.Core.Bool.{Bool, true, false, cond, not, _&&_}
 use Prim.Native.Nat.{ℕ, zero, suc, _+_, _-_, _*_, _/_, _^_, _≤_, _<_}
-use native.Mathlib.Nat.{div-le-self, zero-mul}
+use native.Mathlib.Nat.{le-refl, div-le-self, zero-mul}
 use native.Mathlib.Omega.{arith}
 use lib.Dec.{T, ltb, leb, lit<, leb·zero, leb·suc-zero, leb·suc-suc}
 use lib.IntN.{ℤ, pos, negsuc, negℤ, natAbs, subℕ, _+ℤ_, _-ℤ_, _*ℤ_, +ℤ-comm, +ℤ-assoc, +ℤ-idl, +ℤ-negℤ-cancel, negℤ-+ℤ, negℤ-negℤ}
@@ -12,7 +12,8 @@ use borrow.Author.Tests.{ltb-true, ltb-false, leb-true, leb-false, le-leb, lt-le
 use mir.Syntax.{Width, w32, w64}
 use mir.Val.{SFits, hbits}
 use Rattle.ranged1d.specs.Admitted.{wholeAdmitted}
-use Rattle.ranged1d.specs.Numbers.{raised}
+use Rattle.ranged1d.specs.Numbers.{raised, same}
+use Rattle.ranged1d.proofs.Bools.{both-true}
 
 -- a − b is below 0 or not
 pub sub-cases : (a b : ℕ) (P : ℤ → Type 0) → (a < b → P (negsuc (b - suc a))) → (b ≤ a → P (pos (a - b))) → P (subℕ a b)
@@ -148,6 +149,25 @@ both-ways (pos a) (pos b) h k = ap pos (omega (arith, leb-true a b h, leb-true b
 both-ways (pos a) (negsuc b) h k = absurd (subst T (sym h) tt)
 both-ways (negsuc a) (pos b) h k = absurd (subst T (sym k) tt)
 both-ways (negsuc a) (negsuc b) h k = ap negsuc (omega (arith, leb-true b a h, leb-true a b k))
+
+-- ---- `same`
+le-self : (x : ℤ) → leZ x x ≡ true
+le-self (pos n) = le-leb n n (le-refl n)
+le-self (negsuc n) = le-leb n n (le-refl n)
+
+pub same-yes : (p q : ℤ) → p ≡ q → same p q ≡ true
+same-yes p q e = rw (e, le-self q)
+
+pub same-no : (p q : ℤ) → (p ≡ q → ⊥) → same p q ≡ false
+same-no p q n = go (leZ p q) (leZ q p) refl refl
+  where
+    go : (a b : Bool) → leZ p q ≡ a → leZ q p ≡ b → (a && b) ≡ false
+    go true true h k = absurd (n (both-ways p q h k))
+    go true false h k = refl
+    go false b h k = refl
+
+pub same-is : (p q : ℤ) → same p q ≡ true → p ≡ q
+same-is p q e = let w = both-true (leZ p q) (leZ q p) e in both-ways p q (w .0) (w .1)
 
 -- ---- negation
 pub neg-le : (x y : ℤ) → leZ (negℤ x) (negℤ y) ≡ leZ y x

@@ -1,8 +1,7 @@
 -- What rules of several crates ask of whole numbers and of lists. Assumes nothing.
 use Prim.Native.Nat.{ℕ}
-use mathlib.Core.Bool.{Bool, true, false, _&&_}
+use mathlib.Core.Bool.{Bool, true, _&&_}
 use mathlib.Core.List.{List, [], _∷_}
-use lib.Dec.{eqb}
 use lib.IntN.{ℤ, pos, negsuc}
 use lib.Signed.{leZ}
 
@@ -10,12 +9,9 @@ use lib.Signed.{leZ}
 abbrev pub isI32 : ℤ → Bool
 isI32 z = leZ (negsuc 2_147_483_647) z && leZ z (pos 2_147_483_647)
 
--- two whole numbers are the same
-abbrev pub eqZ : ℤ → ℤ → Bool
-eqZ (pos x) (pos y) = eqb x y
-eqZ (pos x) (negsuc y) = false
-eqZ (negsuc x) (pos y) = false
-eqZ (negsuc x) (negsuc y) = eqb x y
+-- two whole numbers are the same: neither is below the other
+abbrev pub same : ℤ → ℤ → Bool
+same p q = leZ p q && leZ q p
 
 -- a number below zero raised to zero
 abbrev pub raised : ℤ → ℕ

@@ -1,8 +1,8 @@
 -- The rules case by case, from the tests that the code makes. Assumes nothing.
 use mathlib.Core.Path.{_≡_, refl, sym, ap, _∙_}
-use mathlib.Core.Bool.{Bool, true, false, _&&_, true≢false}
+use mathlib.Core.Bool.{Bool, true, false, true≢false}
 use Prim.Native.Nat.{ℕ, zero, suc, _*_, _^_, _≤_, _<_, zero-le}
-use native.Mathlib.Nat.{le-refl, zero-mul, mul-pos}
+use native.Mathlib.Nat.{zero-mul, mul-pos}
 use native.Mathlib.Omega.{arith}
 use lib.IntN.{ℤ, pos, negsuc, natAbs}
 use lib.Signed.{ltZ, leZ}
@@ -13,7 +13,7 @@ use borrow.Author.Tests.{ltb-true, le-leb, leb-true, ne-eqb}
 use Rattle.ranged1d.specs.declared.Limit.{Limit}
 use Rattle.ranged1d.specs.Admitted.{pixelAdmitted, limitAdmitted}
 use Rattle.ranged1d.proofs.Bools.{both-true, both-false, chosen}
-use Rattle.ranged1d.proofs.Whole.{both-ways, not-lt}
+use Rattle.ranged1d.proofs.Whole.{not-lt}
 use Rattle.rounding.specs.Integral.{Way}
 use Rattle.rounding.specs.Within.{within}
 use Rattle.rounding.specs.declared.Whole.{Whole}
@@ -21,7 +21,7 @@ use Rattle.rounding.specs.declared.Whole.the-variants.{Number, Beyond}
 use Rattle.rounding.proofs.Bounds.{Held, within-held}
 use Rattle.rounding.proofs.Signs.{negated}
 use Rattle.real.specs.Place.{farthest, along, product, isBeyond, number}
-use Rattle.real.specs.Reading.{lower, upper, outside, same}
+use Rattle.real.specs.Reading.{lower, upper, outside}
 use Rattle.real.proofs.Signs.{int-value}
 
 -- ---- `along`
@@ -104,24 +104,8 @@ near-limits limit h =
     let w = both-true (pixelAdmitted (limit .0)) (pixelAdmitted (limit .1)) h in
     (near (limit .0) (w .0), near (limit .1) (w .1))
 
--- ---- `same`
-le-self : (x : ℤ) → leZ x x ≡ true
-le-self (pos n) = le-leb n n (le-refl n)
-le-self (negsuc n) = le-leb n n (le-refl n)
-
-pub same-yes : (p q : ℤ) → p ≡ q → same p q ≡ true
-same-yes p q e = rw (e, le-self q)
-
-pub same-no : (p q : ℤ) → (p ≡ q → ⊥) → same p q ≡ false
-same-no p q n = go (leZ p q) (leZ q p) refl refl
-  where
-    go : (a b : Bool) → leZ p q ≡ a → leZ q p ≡ b → a && b ≡ false
-    go true true h k = absurd (n (both-ways p q h k))
-    go true false h k = refl
-    go false b h k = refl
-
 -- ---- a pixel between the limits is as near 0 as they are
-between-far : (k : ℕ) (lo x hi : ℤ) → leZ lo x ≡ true → leZ x hi ≡ true → natAbs lo ≤ k → natAbs hi ≤ k → natAbs x ≤ k
+pub between-far : (k : ℕ) (lo x hi : ℤ) → leZ lo x ≡ true → leZ x hi ≡ true → natAbs lo ≤ k → natAbs hi ≤ k → natAbs x ≤ k
 between-far k lo (pos n) (pos m) g h a b = omega (arith, leb-true n m h)
 between-far k lo (pos n) (negsuc m) g h a b = absurd (true≢false (sym h))
 between-far k (negsuc m) (negsuc n) hi g h a b = omega (arith, leb-true n m g)

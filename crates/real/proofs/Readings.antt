@@ -10,11 +10,11 @@ use lib.Ieee.{Float, nan, inf, fin, binary64, neg, add, sub, mul, ofInt, isNan}
 use Rattle.ranged1d.specs.Answer.{given, none, refused}
 use Rattle.ranged1d.specs.Admitted.{pixelAdmitted, limitAdmitted}
 use Rattle.ranged1d.specs.declared.Limit.{Limit}
-use Rattle.ranged1d.proofs.Whole.{neg-far, neg-le, neg-lt, not-lt, lt-not, other-way, both-ways}
-use Rattle.real.specs.Reading.{lower, upper, outside, same, offset, valueAt, realReading}
+use Rattle.ranged1d.specs.Numbers.{same}
+use Rattle.ranged1d.proofs.Whole.{neg-far, neg-le, neg-lt, not-lt, lt-not, other-way, both-ways, same-yes}
+use Rattle.real.specs.Reading.{lower, upper, outside, offset, valueAt, realReading}
 use Rattle.real.specs.Mirror.{mirrored, Same, Opposite, values, both-none, both-refused}
 use Rattle.real.proofs.Signs.{Alike, zeros-equal, alike-on, alike-through, turns-alike, add-turns, sub-turns, mul-neg, mul-alike, div-alike, add-left, int-neg, int-alike}
-use Rattle.real.proofs.Cases.{same-yes}
 use Rattle.real.proofs.Exact.{eq-self, no-difference}
 
 -- ---- what is admitted

@@ -2,13 +2,14 @@
 use mathlib.Core.Bool.{Bool, not, cond, _&&_, _||_}
 use mathlib.Core.List.{[], _∷_}
 use lib.IntN.{ℤ, _-ℤ_}
-use lib.Signed.{ltZ, leZ}
+use lib.Signed.{ltZ}
 use lib.Ieee as Ieee
 use lib.Ieee.{Float, binary64}
 use Rattle.ranged1d.specs.Answer.{Answer, given, none, refused, _when_, lowest}
 use Rattle.ranged1d.specs.Refusals.{numberOf}
 use Rattle.ranged1d.specs.Admitted.{pixelAdmitted, limitAdmitted}
 use Rattle.ranged1d.specs.declared.Limit.{Limit}
+use Rattle.ranged1d.specs.Numbers.{same}
 use Rattle.real.specs.declared.RealReading.{RealReading}
 use Rattle.real.specs.declared.RealReading.the-variants as reading-is
 
@@ -30,10 +31,6 @@ upper p q = cond (ltZ p q) q p
 abbrev pub outside : ℤ → ℤ → ℤ → Bool
 outside x p q = ltZ x (lower p q) || ltZ (upper p q) x
 
--- the film has no length
-abbrev pub same : ℤ → ℤ → Bool
-same p q = leZ p q && leZ q p
-
 -- ---- 01 "Mirroring, real reading, stepped axes": the value
 -- the share of the film at which x lies
 abbrev pub offset : ℤ → ℤ → ℤ → Float
@@ -43,7 +40,8 @@ offset x p q = Ieee.div binary64 (Ieee.ofInt binary64 (x -ℤ p)) (Ieee.ofInt bi
 abbrev pub valueAt : Float → Float → Float → Float
 valueAt a b t = Ieee.add binary64 (Ieee.mul binary64 (Ieee.sub binary64 b a) t) a
 
--- ---- 01 "Why a call stops": the call. 2 where a limit or the pixel is not admitted; then none off the film and on a film without length
+-- ---- 01 "Why a call stops": the call. 2 where a limit or the pixel is not admitted; then none off the film and on a film without length,
+-- whose limits are the same
 unfoldable pub realReading : Float → Float → ℤ → Limit → Answer Float
 realReading a b x limit =
     lowest (2 when not (limitAdmitted limit && pixelAdmitted x) ∷ [])

@@ -8,39 +8,39 @@ use native.Mathlib.Decide.{decLt}
 use native.Mathlib.Omega.{arith}
 use lib.IntN.{ℤ}
 use lib.ListN.{length}
-use Rattle.ranged1d.specs.Numbers.{eqZ}
+use Rattle.ranged1d.specs.Numbers.{same}
+use Rattle.ranged1d.proofs.Whole.{same-yes, same-no, same-is}
 use Rattle.numeric.specs.Marks.{listOf}
 use Rattle.numeric.proofs.Lists.{length-of}
 use Rattle.ruler.specs.Rule.{indexOf}
-use Rattle.ruler.proofs.Numbers.{eqZ-same, eqZ-other, eqZ-true}
 
 -- where it is not in the first list, it is looked for in the second
 index-right : (v : ℤ) (xs ys : List ℤ) → indexOf v xs ≡ length xs → indexOf v (xs ++ ys) ≡ length xs + indexOf v ys
 index-right v [] ys e = omega arith
-index-right v (x ∷ xs) ys e = go (eqZ x v) refl e (index-right v xs ys)
+index-right v (x ∷ xs) ys e = go (same x v) refl e (index-right v xs ys)
   where
-    go : (t : Bool) → eqZ x v ≡ t → cond t 0 (suc (indexOf v xs)) ≡ suc (length xs) → (indexOf v xs ≡ length xs → indexOf v (xs ++ ys) ≡ length xs + indexOf v ys) → cond t 0 (suc (indexOf v (xs ++ ys))) ≡ suc (length xs) + indexOf v ys
+    go : (t : Bool) → same x v ≡ t → cond t 0 (suc (indexOf v xs)) ≡ suc (length xs) → (indexOf v xs ≡ length xs → indexOf v (xs ++ ys) ≡ length xs + indexOf v ys) → cond t 0 (suc (indexOf v (xs ++ ys))) ≡ suc (length xs) + indexOf v ys
     go true q e rec = absurd (omega arith)
     go false q e rec = omega (arith, rec (omega arith))
 
 -- and where it is in the first, its place is its place there
 index-left : (v : ℤ) (xs ys : List ℤ) → indexOf v xs < length xs → indexOf v (xs ++ ys) ≡ indexOf v xs
 index-left v [] ys h = absurd (omega arith)
-index-left v (x ∷ xs) ys h = go (eqZ x v) h (index-left v xs ys)
+index-left v (x ∷ xs) ys h = go (same x v) h (index-left v xs ys)
   where
     go : (t : Bool) → cond t 0 (suc (indexOf v xs)) < suc (length xs) → (indexOf v xs < length xs → indexOf v (xs ++ ys) ≡ indexOf v xs) → cond t 0 (suc (indexOf v (xs ++ ys))) ≡ cond t 0 (suc (indexOf v xs))
     go true h rec = refl
     go false h rec = ap suc (rec (omega arith))
 
 module _ (v : ℤ) (f : ℕ → ℤ) (k : ℕ) (e : indexOf v (listOf f k) ≡ k) where
-  seam : indexOf v (listOf f (suc k)) ≡ k + cond (eqZ (f k) v) 0 1
-  seam = index-right v (listOf f k) (f k ∷ []) (e ∙ sym (length-of f k)) ∙ ap (λ (n : ℕ). n + cond (eqZ (f k) v) 0 1) (length-of f k)
+  seam : indexOf v (listOf f (suc k)) ≡ k + cond (same (f k) v) 0 1
+  seam = index-right v (listOf f k) (f k ∷ []) (e ∙ sym (length-of f k)) ∙ ap (λ (n : ℕ). n + cond (same (f k) v) 0 1) (length-of f k)
 
   pub index-more : (f k ≡ v → ⊥) → indexOf v (listOf f (k + 1)) ≡ k + 1
-  index-more g = rw (add-one k) (seam ∙ rw (eqZ-other (f k) v g) (add-one k))
+  index-more g = rw (add-one k) (seam ∙ rw (same-no (f k) v g) (add-one k))
 
   here : f k ≡ v → indexOf v (listOf f (suc k)) ≡ k
-  here h = seam ∙ rw (h, eqZ-same v) (omega arith)
+  here h = seam ∙ rw (h, same-yes v v refl) (omega arith)
 
   pub index-hit : (n : ℕ) → k < n → f k ≡ v → indexOf v (listOf f n) ≡ k
   index-hit zero l h = absurd (omega arith)
@@ -52,7 +52,7 @@ module _ (v : ℤ) (f : ℕ → ℤ) (k : ℕ) (e : indexOf v (listOf f k) ≡ k
 
 pub index-most : (v : ℤ) (xs : List ℤ) → indexOf v xs ≤ length xs
 index-most v [] = omega arith
-index-most v (x ∷ xs) = go (eqZ x v) (index-most v xs)
+index-most v (x ∷ xs) = go (same x v) (index-most v xs)
   where
     go : (t : Bool) → indexOf v xs ≤ length xs → cond t 0 (suc (indexOf v xs)) ≤ suc (length xs)
     go true h = omega arith
@@ -63,12 +63,12 @@ pub index-found : (v : ℤ) (f : ℕ → ℤ) (n : ℕ) → indexOf v (listOf f 
 index-found v f zero h = absurd (omega arith)
 index-found v f (suc n) h = go (decLt (indexOf v (listOf f n)) n) (index-found v f n)
   where
-    last : indexOf v (listOf f n) ≡ n → (t : Bool) → eqZ (f n) v ≡ t → indexOf v (listOf f (suc n)) ≡ n + cond t 0 1 → f (indexOf v (listOf f (suc n))) ≡ v
-    last e true q w = let d : indexOf v (listOf f (suc n)) ≡ n = omega arith in ap f d ∙ eqZ-true (f n) v q
+    last : indexOf v (listOf f n) ≡ n → (t : Bool) → same (f n) v ≡ t → indexOf v (listOf f (suc n)) ≡ n + cond t 0 1 → f (indexOf v (listOf f (suc n))) ≡ v
+    last e true q w = let d : indexOf v (listOf f (suc n)) ≡ n = omega arith in ap f d ∙ same-is (f n) v q
     last e false q w = absurd (omega arith)
 
     go : Dec (indexOf v (listOf f n) < n) → (indexOf v (listOf f n) < n → f (indexOf v (listOf f n)) ≡ v) → f (indexOf v (listOf f (suc n))) ≡ v
     go (yes u) rec = ap f (index-left v (listOf f n) (f n ∷ []) (omega (arith, length-of f n))) ∙ rec u
     go (no u) rec =
         let e : indexOf v (listOf f n) ≡ n = omega (arith, index-most v (listOf f n), length-of f n) in
-        last e (eqZ (f n) v) refl (seam v f n e)
+        last e (same (f n) v) refl (seam v f n e)

@@ -10,8 +10,9 @@ use lib.IntN.{ℤ}
 use lib.ListN.{length, take, drop, replicate, length-replicate}
 use lib.Seq.{drop-drop, drop-at}
 use borrow.Author.Tests.{ltb-true, lt-ltb, le-ltb}
-use Rattle.ranged1d.specs.Numbers.{eqZ}
+use Rattle.ranged1d.specs.Numbers.{same}
 use Rattle.ranged1d.proofs.Bools.{both-true}
+use Rattle.ranged1d.proofs.Whole.{same-yes, same-is}
 use Rattle.numeric.specs.declared.KeyPoints.{KeyPoints}
 use Rattle.numeric.specs.Marks.{listOf}
 use Rattle.numeric.specs.Calls.{planOf, element}
@@ -24,7 +25,6 @@ use Rattle.ruler.specs.Bytes.{whole, mark, markBody, laid}
 use Rattle.ruler.specs.Place.{placeOf}
 use Rattle.ruler.specs.Rule.{markAt, aIn, bIn, limitIn, mIn, marksIn, isRuler, indexOf, hasMark, recordText, labelText, recordAt, labelAt, nowhere, recordIn, labelIn, part, further}
 use Rattle.ruler.specs.Steps.{Inside, draftIn}
-use Rattle.ruler.proofs.Numbers.{eqZ-same, eqZ-true}
 use Rattle.ruler.proofs.Lists.{drop-take}
 use Rattle.ruler.proofs.Records.{run-at}
 use Rattle.ruler.proofs.Index.{index-found}
@@ -163,19 +163,19 @@ module _ (l : List ℕ) (from : ℕ × ℕ) {x text : List ℕ} {at : ℕ × ℕ
 -- ---- which needles are found: those of the list of marks
 found-in : (v : ℤ) (xs : List ℤ) → indexOf v xs < length xs → List·Memᴰ v xs
 found-in v [] h = absurd (omega arith)
-found-in v (x ∷ xs) h = go (eqZ x v) refl h (found-in v xs)
+found-in v (x ∷ xs) h = go (same x v) refl h (found-in v xs)
   where
-    go : (t : Bool) → eqZ x v ≡ t → cond t 0 (suc (indexOf v xs)) < suc (length xs) → (indexOf v xs < length xs → List·Memᴰ v xs) → List·Memᴰ v (x ∷ xs)
-    go true e h rec = List·Memᴰ·head (sym (eqZ-true x v e))
+    go : (t : Bool) → same x v ≡ t → cond t 0 (suc (indexOf v xs)) < suc (length xs) → (indexOf v xs < length xs → List·Memᴰ v xs) → List·Memᴰ v (x ∷ xs)
+    go true e h rec = List·Memᴰ·head (sym (same-is x v e))
     go false e h rec = List·Memᴰ·tail (rec (omega arith))
 
 index-in : (v : ℤ) (xs : List ℤ) → List·Memᴰ v xs → indexOf v xs < length xs
 index-in v [] w = absurd (List·Memᴰ·not-nil w)
-index-in v (x ∷ xs) w = go (eqZ x v) refl (List·Memᴰ·cases-cons w) (index-in v xs)
+index-in v (x ∷ xs) w = go (same x v) refl (List·Memᴰ·cases-cons w) (index-in v xs)
   where
-    go : (t : Bool) → eqZ x v ≡ t → (v ≡ x) ⊎ List·Memᴰ v xs → (List·Memᴰ v xs → indexOf v xs < length xs) → cond t 0 (suc (indexOf v xs)) < suc (length xs)
+    go : (t : Bool) → same x v ≡ t → (v ≡ x) ⊎ List·Memᴰ v xs → (List·Memᴰ v xs → indexOf v xs < length xs) → cond t 0 (suc (indexOf v xs)) < suc (length xs)
     go true e u rec = omega arith
-    go false e (inl q) rec = absurd (subst T (sym (ap (eqZ x) q ∙ eqZ-same x) ∙ e) tt)
+    go false e (inl q) rec = absurd (subst T (sym (ap (same x) q ∙ same-yes x x refl) ∙ e) tt)
     go false e (inr u) rec = omega (arith, rec u)
 
 pub marks-found : (l : List ℕ) (v : ℤ) → (hasMark l v ≡ true) ↔ ((isRuler l ≡ true) × List·Memᴰ v (marksIn l))

@@ -1,17 +1,17 @@
--- Whole numbers as the bits of a u32, and back; their equality. Assumes nothing.
+-- Whole numbers as the bits of a u32, and back. Assumes nothing.
 use mathlib.Core.Path.{_≡_, refl, sym, ap, _∙_, subst}
 use mathlib.Core.Bool.{true, false}
 use Prim.Native.Nat.{ℕ, zero, suc, _+_, _-_, _*_, _/_, _%_, _^_, _≤_, _<_}
 use native.Mathlib.Nat.{div-div-eq-div-mul, div-add-mod', div-lt-iff-lt-mul, mod-eq-of-lt}
 use native.Mathlib.Omega.{arith}
 use lib.Dec.{T, lit<}
-use lib.IntN.{ℤ, pos, negsuc, negℤ, natAbs, _-ℤ_, +ℤ-idl, -ℤ-one}
+use lib.IntN.{ℤ, pos, negsuc, natAbs, _-ℤ_, +ℤ-idl, -ℤ-one}
 use lib.Signed.{ltZ, mag}
-use borrow.Author.Tests.{ltb-true, eq-eqb, ne-eqb, eqb-true}
+use borrow.Author.Tests.{ltb-true}
 use mir.Facts.{toZ-neg, toZ-ofZ, fits-ofZ}
 use mir.Syntax.{w32}
 use mir.Val.{bits, hbits, ofZ, toZ, SFits}
-use Rattle.ranged1d.specs.Numbers.{eqZ}
+use Rattle.ranged1d.proofs.Whole.{fits32, zero-minus-far}
 
 pub bits-below : (z : ℤ) → ltZ z (pos 0) ≡ true → (0 < natAbs z) × (4294967295 - (natAbs z - 1) ≡ ofZ w32 z)
 bits-below (pos n) h = absurd (omega (arith, ltb-true n 0 h))
@@ -28,11 +28,7 @@ less (suc k) = rw (+ℤ-idl (negsuc k), -ℤ-one (negsuc k))
 -- x of 2 ^ 31 and more, with k below it from the top
 module _ (x : ℕ) (h : 2147483648 ≤ x) (l : x < 4294967296) where
   pub minus-fits : SFits w32 (pos 0 -ℤ pos (4294967295 - x))
-  minus-fits = rw (+ℤ-idl (negℤ (pos (4294967295 - x)))) (go (4294967295 - x) (omega arith))
-    where
-      go : (k : ℕ) → k ≤ 2147483647 → SFits w32 (negℤ (pos k))
-      go zero u = record { sfits = omega arith }
-      go (suc k) u = record { sfits = omega arith }
+  minus-fits = fits32 (pos 0 -ℤ pos (4294967295 - x)) (rw (zero-minus-far (pos (4294967295 - x))) (omega arith))
 
   pub less-fits : SFits w32 (pos 0 -ℤ pos (4294967295 - x) -ℤ pos 1)
   less-fits = rw (less (4294967295 - x)) (record { sfits = omega arith })
@@ -57,20 +53,3 @@ number-back z f = ap (toZ w32) (word-back (ofZ w32 z) (fits-ofZ f .fits)) ∙ to
 -- a number that was read, as the code passes it on
 pub read-is : {z : ℤ} {x y : ℕ} → mag z < 2 ^ hbits w32 → z ≡ toZ w32 x → x ≡ y → toZ w32 (ofZ w32 z) ≡ toZ w32 y
 read-is f e g = toZ-ofZ (record { sfits = f }) ∙ e ∙ ap (toZ w32) g
-
--- equality of whole numbers
-pub eqZ-same : (z : ℤ) → eqZ z z ≡ true
-eqZ-same (pos n) = eq-eqb n n refl
-eqZ-same (negsuc n) = eq-eqb n n refl
-
-pub eqZ-other : (y z : ℤ) → (y ≡ z → ⊥) → eqZ y z ≡ false
-eqZ-other (pos m) (pos n) f = ne-eqb m n (λ e. f (ap pos e))
-eqZ-other (pos m) (negsuc n) f = refl
-eqZ-other (negsuc m) (pos n) f = refl
-eqZ-other (negsuc m) (negsuc n) f = ne-eqb m n (λ e. f (ap negsuc e))
-
-pub eqZ-true : (y z : ℤ) → eqZ y z ≡ true → y ≡ z
-eqZ-true (pos m) (pos n) e = ap pos (eqb-true m n e)
-eqZ-true (pos m) (negsuc n) e = absurd (subst T (sym e) tt)
-eqZ-true (negsuc m) (pos n) e = absurd (subst T (sym e) tt)
-eqZ-true (negsuc m) (negsuc n) e = ap negsuc (eqb-true m n e)

@@ -10,7 +10,7 @@ use lib.Signed.{ltZ}
 use Rattle.ranged1d.specs.Answer.{Answer, given, refused, _when_, lowest, written}
 use Rattle.ranged1d.specs.Refusals.{numberOf}
 use Rattle.ranged1d.specs.Admitted.{wholeAdmitted, limitAdmitted}
-use Rattle.ranged1d.specs.Numbers.{eqZ}
+use Rattle.ranged1d.specs.Numbers.{same}
 use Rattle.ranged1d.specs.declared.Limit.{Limit}
 use Rattle.numeric.specs.declared.KeyPoints.{KeyPoints}
 use Rattle.numeric.specs.Marks.{noStep, stepOf, marks}
@@ -116,7 +116,7 @@ rulerRead l =
 -- where v stands first in a list; the list's length if it does not
 abbrev pub indexOf : ℤ → List ℤ → ℕ
 indexOf v [] = 0
-indexOf v (x ∷ xs) = cond (eqZ x v) 0 (suc (indexOf v xs))
+indexOf v (x ∷ xs) = cond (same x v) 0 (suc (indexOf v xs))
 
 -- v is a mark of the ruler l
 unfoldable pub hasMark : List ℕ → ℤ → Bool

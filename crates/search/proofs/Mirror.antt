@@ -43,22 +43,21 @@ whole-turns = record {
 abbrev pub Across : Float → Float → Type 0
 Across x x' = Alike x (neg x')
 
-sum-comm : (s t : Bool) (a b c : ℕ) → sum binary64 s a t b c ≡ sum binary64 t b s a c
+unlike-comm : (a b c : ℕ) → sum binary64 true a false b c ≡ sum binary64 false b true a c
 unfolding sum
-sum-comm true true a b c = ap (λ (k : ℕ). round binary64 true k c) (add-comm a b)
-sum-comm false false a b c = ap (λ (k : ℕ). round binary64 false k c) (add-comm a b)
-sum-comm true false a b c = go (decLt a b) (decLt b a)
+unlike-comm a b c = go (decLt a b) (decLt b a)
   where
     go : Dec (a < b) → Dec (b < a) → cond (ltb a b) (round binary64 false (b - a) c) (round binary64 (ltb b a) (a - b) c) ≡ cond (ltb b a) (round binary64 true (a - b) c) (round binary64 false (b - a) c)
     go (yes h) k = rw (lt-ltb a b h, le-ltb b a (omega (arith, h))) refl
     go (no h) (yes k) = rw (le-ltb a b (omega (arith, h)), lt-ltb b a k) refl
     go (no h) (no k) = let e : a - b ≡ b - a = omega (arith, h, k) in rw (le-ltb a b (omega (arith, h)), le-ltb b a (omega (arith, k)), e) refl
-sum-comm false true a b c = go (decLt a b) (decLt b a)
-  where
-    go : Dec (a < b) → Dec (b < a) → cond (ltb a b) (round binary64 true (b - a) c) (round binary64 false (a - b) c) ≡ cond (ltb b a) (round binary64 false (a - b) c) (round binary64 (ltb a b) (b - a) c)
-    go (yes h) k = rw (lt-ltb a b h, le-ltb b a (omega (arith, h))) refl
-    go (no h) (yes k) = rw (le-ltb a b (omega (arith, h)), lt-ltb b a k) refl
-    go (no h) (no k) = let e : a - b ≡ b - a = omega (arith, h, k) in rw (le-ltb a b (omega (arith, h)), le-ltb b a (omega (arith, k)), e) refl
+
+sum-comm : (s t : Bool) (a b c : ℕ) → sum binary64 s a t b c ≡ sum binary64 t b s a c
+unfolding sum
+sum-comm true true a b c = ap (λ (k : ℕ). round binary64 true k c) (add-comm a b)
+sum-comm false false a b c = ap (λ (k : ℕ). round binary64 false k c) (add-comm a b)
+sum-comm true false a b c = unlike-comm a b c
+sum-comm false true a b c = sym (unlike-comm b a c)
 
 beq-same : (s t : Bool) → cond (Bool·beq s t) (inf s) nan ≡ cond (Bool·beq t s) (inf t) nan
 beq-same true true = refl

@@ -160,14 +160,11 @@ level-follow s t u a b c p q r P Q R h k = go (levelled s t (a * q) (b * p) h)
         let z = zero-to t u (eq-zero a q Q x) (eq-zero b p P y) k in
         subst (λ (w : Bool). below s (a * r) w (c * p) ≡ true) (sym (z .0)) (zero-from s (eq-zero a q Q x) (z .1))
 
+unlevel : (a b : ℕ) → (eqb a b && true) ≡ false → a ≡ b → ⊥
+unlevel a b k e = true≢false (sym (rw (eq-eqb a b e) refl) ∙ k)
+
 below-total : (s t : Bool) (a b : ℕ) → below s a t b ≡ false → level s a t b ≡ false → below t b s a ≡ true
-below-total false false a b h k =
-    let l : b ≤ a = ltb-false a b h in
-    lt-ltb b a (other (decLt b a) l)
-  where
-    other : Dec (b < a) → b ≤ a → b < a
-    other (yes g) l = g
-    other (no g) l = let e : a ≡ b = omega (arith, g, l) in absurd (true≢false (sym (rw (eq-eqb a b e) refl) ∙ k))
+below-total false false a b h k = lt-ltb b a (omega (arith, ltb-false a b h, unlevel a b k))
 below-total false true a b h k = other (decLt 0 (b + a))
   where
     other : Dec (0 < b + a) → ltb 0 (b + a) ≡ true
@@ -181,13 +178,7 @@ below-total true false a b h k =
     let e : a ≡ b = omega (arith, l) in
     let z : a ≡ 0 = omega (arith, l) in
     absurd (true≢false (sym (rw (eq-eqb a b e, eq-eqb a 0 z) refl) ∙ k))
-below-total true true a b h k =
-    let l : a ≤ b = ltb-false b a h in
-    lt-ltb a b (other (decLt a b) l)
-  where
-    other : Dec (a < b) → a ≤ b → a < b
-    other (yes g) l = g
-    other (no g) l = let e : a ≡ b = omega (arith, g, l) in absurd (true≢false (sym (rw (eq-eqb a b e) refl) ∙ k))
+below-total true true a b h k = lt-ltb a b (omega (arith, ltb-false b a h, unlevel a b k))
 
 -- ---- floats
 -- eq-zero lies past infinity

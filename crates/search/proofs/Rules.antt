@@ -13,6 +13,7 @@ use lib.Ieee.{Float, nan, inf, fin}
 use Rattle.ranged1d.specs.Answer.{Answer, none, refused}
 use Rattle.ranged1d.specs.Admitted.{wholeAdmitted}
 use Rattle.ranged1d.specs.Numbers.{every}
+use Rattle.ranged1d.proofs.Whole.{same-yes}
 use Rattle.search.specs.Search.{Numbers, wholes, reals, best, search}
 use Rattle.search.specs.Lists.{ascends, searchable, wholeSearch, realSearch}
 use Rattle.search.specs.Settled.{settled, settledNan}
@@ -20,7 +21,6 @@ use Rattle.search.specs.Steps.{toward, risesFirst, PlaceOf}
 use Rattle.search.specs.declared.RoundingMethod.{RoundingMethod}
 use Rattle.search.specs.declared.RoundingMethod.the-variants.{Exact, Ceil, Floor, Round}
 use Rattle.search.proofs.Best.{best-none}
-use Rattle.real.proofs.Cases.{same-yes}
 use Rattle.search.proofs.Orders.{Order, way, between-toward}
 use Rattle.search.proofs.WholeOrder.{whole-order, whole-between}
 use Rattle.search.proofs.Settles.{settles}

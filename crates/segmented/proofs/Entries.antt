@@ -12,13 +12,13 @@ use Rattle.ranged1d.specs.Answer.{Answer, given, none, refused}
 use Rattle.ranged1d.specs.Admitted.{wholeAdmitted, limitAdmitted}
 use Rattle.ranged1d.specs.declared.Limit.{Limit}
 use Rattle.ranged1d.proofs.Answers.{given-is, not-both, not-none}
+use Rattle.ranged1d.proofs.Whole.{same-yes}
 use Rattle.rounding.specs.declared.Whole.{Whole}
 use Rattle.rounding.specs.declared.Whole.the-variants.{Number}
 use Rattle.numeric.specs.Marks.{listOf}
 use Rattle.numeric.specs.Calls.{element}
 use Rattle.real.specs.Place.{number, spot}
 use Rattle.real.proofs.Placed.{spot-near}
-use Rattle.real.proofs.Cases.{same-yes}
 use Rattle.search.specs.declared.RoundingMethod.{RoundingMethod}
 use Rattle.linspace.specs.List.{whole, stepped}
 use Rattle.linspace.specs.Calls.{nth}

@@ -10,12 +10,12 @@ use lib.IntN.{ℤ}
 use mir.Facts.{toZ-ofZ}
 use Rattle.ranged1d.specs.Answer.{Answer}
 use Rattle.ranged1d.specs.Admitted.{wholeAdmitted}
+use Rattle.ranged1d.proofs.Whole.{same-yes}
 use Rattle.numeric.specs.Whole.{tellCount, tellIndex}
 use Rattle.numeric.specs.declared.whole.Count.{Count}
 use Rattle.numeric.specs.Marks.{listOf}
 use Rattle.numeric.specs.Calls.{element}
 use Rattle.search.specs.Search.{wholes}
-use Rattle.real.proofs.Cases.{same-yes}
 use Rattle.search.specs.Search as rule
 use Rattle.linspace.specs.List.{whole, stepped, axisAdmitted}
 use Rattle.linspace.specs.Calls.{stepIndexOf}

@@ -9,9 +9,9 @@ use mir.Syntax.{w32}
 use mir.Val.{SFits, toZ, ofZ}
 use mir.Facts.{toZ-ofZ}
 use Rattle.ranged1d.specs.Admitted.{pixelAdmitted, limitAdmitted}
-use Rattle.ranged1d.proofs.Whole.{fits32, minus-far}
+use Rattle.ranged1d.proofs.Whole.{fits32, minus-far, same-yes, same-no}
 use Rattle.real.specs.Reading.{outside, realReading}
-use Rattle.real.proofs.Cases.{near, near-limits, same-yes, same-no, inside-admitted}
+use Rattle.real.proofs.Cases.{near, near-limits, inside-admitted}
 use Rattle.real.proofs.RangedCoordf64.unmap.Statement.{statement}
 use Rattle.real.proofs.RangedCoordf64.unmap.Tie as tie
 
