@@ -1,22 +1,22 @@
 -- The index at each return of the code, by the tests that led there. Assumes nothing.
-use mathlib.Core.Path.{_≡_, refl, sym, ap, subst, _∙_}
+use mathlib.Core.Path.{_≡_, refl, sym, ap, _∙_}
 use mathlib.Core.Bool.{true, false, _&&_}
 use Prim.Native.Nat.{ℕ, zero, suc, _/_, _≤_}
 use native.Mathlib.Nat.{div-le-self}
 use native.Mathlib.Omega.{arith}
-use lib.Dec.{T, ltb}
+use lib.Dec.{ltb}
 use lib.Pow.{pow-pos}
 use lib.IntN.{ℤ, pos, negsuc, natAbs, _-ℤ_, _*ℤ_}
 use lib.Signed.{ltZ, quotZ}
 use borrow.Author.Tests.{leb-true}
-use mir.Facts.{toZ-ofZ, toZ-pos, and-yes, leb-yes}
+use mir.Facts.{toZ-ofZ, toZ-pos}
 use mir.Syntax.{Width}
 use mir.Val.{SFits, hbits, toZ, ofZ}
 use Rattle.ranged1d.specs.Answer.{given, none}
 use Rattle.ranged1d.specs.Admitted.{pixelAdmitted, limitAdmitted}
 use Rattle.ranged1d.specs.Numbers.{raised}
 use Rattle.ranged1d.specs.declared.Limit.{Limit}
-use Rattle.ranged1d.proofs.Whole.{neg-far, minus-far, raised-below, raised-above}
+use Rattle.ranged1d.proofs.Whole.{neg-far, minus-far, both-near, raised-below, raised-above}
 use Rattle.discrete.specs.Index.{isZero, noIndex, indexBy, indexFor}
 use Rattle.discrete.proofs.Floor.{cut-raised}
 
@@ -68,8 +68,6 @@ module _ (d w : ℤ) (n : ℕ) where
 -- ---- how far a pixel and the second limit lie from the first
 pub distances : (x : ℤ) (l : Limit) → pixelAdmitted x ≡ true → limitAdmitted l ≡ true → (natAbs (x -ℤ l .0) ≤ 2000000) × (natAbs (l .1 -ℤ l .0) ≤ 2000000)
 distances x l h k =
-    let both = and-yes (pixelAdmitted (l .0)) (pixelAdmitted (l .1)) (subst T (sym k) tt) in
+    let near = both-near 1000000 (l .0) (l .1) k in
     let x-near : natAbs x ≤ 1000000 = leb-true _ _ h in
-    let p-near : natAbs (l .0) ≤ 1000000 = leb-yes (both .0) in
-    let q-near : natAbs (l .1) ≤ 1000000 = leb-yes (both .1) in
-    (omega (arith, minus-far x (l .0), x-near, p-near), omega (arith, minus-far (l .1) (l .0), q-near, p-near))
+    (omega (arith, minus-far x (l .0), x-near, near .0), omega (arith, minus-far (l .1) (l .0), near .1, near .0))

@@ -7,12 +7,13 @@ use native.Mathlib.Omega.{arith}
 use borrow.Author.Tests.{lt-ltb, le-ltb}
 use lib.ListN.{length}
 use lib.Ieee.{Float, lt, le, eq}
+use Rattle.linspace.proofs.Entries.{run-some, some-if}
 use Rattle.ranged1d.specs.Answer.{Answer, given, refused}
 use Rattle.search.proofs.RealOrder.{real-order}
-use Rattle.linspace.specs.List.{real, entries, most, toward, run, stepped, against}
+use Rattle.linspace.specs.List.{real, entries, toward, run, stepped, against}
 use Rattle.linspace.specs.Calls.{hasEntries, stepSize}
 use Rattle.linspace.specs.RealSteps.{plusStep, Walked}
-use Rattle.linspace.proofs.Walks.{entries-on, entries-few}
+use Rattle.linspace.proofs.Walks.{entries-few}
 
 -- the same axis told twice
 pub same-axis : {A : Type 0} (f : Float → Float → Float → A) {a a' b b' d d' : Float} → (a ≡ a') × (b ≡ b') × (d ≡ d') → f a b d ≡ f a' b' d'
@@ -45,24 +46,11 @@ module _ (a b d : Float) where
   unfolding stepped
   stepped-none h k = rw (h, k) refl
 
-  run-some : (rises : Bool) → toward real rises b a ≡ true → hasEntries (run real a b d rises) ≡ true
-  run-some rises h =
-      let tail = entries (toward real rises b) (plusStep d) most (plusStep d a) in
-      ap hasEntries (entries-on (toward real rises b) (plusStep d) most a h) ∙ lt-ltb 0 (length (a ∷ tail)) (omega arith)
-
   pub has-up : lt a b ≡ true → lt (plusStep d a) b ≡ hasEntries (stepped real a b d)
-  has-up h = sym (ap hasEntries (stepped-up h) ∙ go (lt (plusStep d a) b))
-    where
-      go : (t : Bool) → hasEntries (cond t (run real a b d true) []) ≡ t
-      go true = run-some true h
-      go false = refl
+  has-up h = some-if (lt (plusStep d a) b) (run real a b d true) (run-some real a b d true h) ∙ sym (ap hasEntries (stepped-up h))
 
   pub has-down : lt a b ≡ false → lt b a ≡ true → lt b (plusStep d a) ≡ hasEntries (stepped real a b d)
-  has-down h k = sym (ap hasEntries (stepped-down h k) ∙ go (lt b (plusStep d a)))
-    where
-      go : (t : Bool) → hasEntries (cond t (run real a b d false) []) ≡ t
-      go true = run-some false k
-      go false = refl
+  has-down h k = some-if (lt b (plusStep d a)) (run real a b d false) (run-some real a b d false k) ∙ sym (ap hasEntries (stepped-down h k))
 
   pub has-none : lt a b ≡ false → lt b a ≡ false → hasEntries (stepped real a b d) ≡ false
   has-none h k = ap hasEntries (stepped-none h k)

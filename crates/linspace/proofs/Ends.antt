@@ -11,6 +11,7 @@ use lib.Ieee.{Float}
 use Rattle.ranged1d.proofs.Bools.{both-true}
 use Rattle.search.proofs.RealOrder.{real-order}
 use Rattle.search.proofs.WholeOrder.{whole-order}
+use Rattle.search.proofs.Orders.{not-itself}
 use Rattle.linspace.specs.List.{Kind, whole, real, entries, most, toward, upward, downward, run, stepped}
 use Rattle.linspace.proofs.Walks.{entries-on, entry-is, entry-passes}
 
@@ -52,12 +53,8 @@ module _ {A : Type 0} (kind : Kind A) (a b d : A) where
           let here = sym (entry-is passes next (suc most) a (kind .nil) k h) ∙ e in
           true≢false (sym (subst (λ (x : A). passes x ≡ true) here (entry-passes passes next (suc most) a k h)) ∙ itself rises)
 
-no-less : (t : Bool) → (t ≡ true → t ≡ false) → t ≡ false
-no-less true f = f refl
-no-less false f = refl
-
 pub whole-end-not-listed : (a b d : ℤ) (k : ℕ) → k < length (stepped whole a b d) → getD (stepped whole a b d) k (whole .nil) ≡ b → ⊥
-whole-end-not-listed a b d = not-listed whole a b d (no-less (whole .numbers .less b b) (whole-order .asym b b))
+whole-end-not-listed a b d = not-listed whole a b d (not-itself whole-order b)
 
 pub real-end-not-listed : (a b d : Float) (k : ℕ) → k < length (stepped real a b d) → getD (stepped real a b d) k (real .nil) ≡ b → ⊥
-real-end-not-listed a b d = not-listed real a b d (no-less (real .numbers .less b b) (real-order .asym b b))
+real-end-not-listed a b d = not-listed real a b d (not-itself real-order b)

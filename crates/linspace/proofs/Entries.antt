@@ -1,8 +1,8 @@
 -- Lists that are made by steps, as lists by index: `entries` as `listOf`, and the entries, the order and the length of such a list.
 -- Assumes nothing.
 use mathlib.Core.Path.{_≡_, refl, sym, ap, _∙_}
-use mathlib.Core.Bool.{Bool, true}
-use mathlib.Core.List.{List, _∷_}
+use mathlib.Core.Bool.{Bool, true, false, cond}
+use mathlib.Core.List.{List, [], _∷_}
 use Prim.Native.Nat.{ℕ, zero, suc, _≤_, _<_, min}
 use native.Mathlib.Nat.{zero-min, min-zero, suc-min-suc}
 use native.Mathlib.Omega.{arith}
@@ -13,7 +13,7 @@ use Rattle.ranged1d.specs.Answer.{given, none}
 use Rattle.numeric.specs.Marks.{listOf}
 use Rattle.numeric.proofs.Lists.{entry, length-of, list-cons}
 use Rattle.search.specs.Lists.{goesOn, ascends}
-use Rattle.linspace.specs.List.{entries}
+use Rattle.linspace.specs.List.{Kind, most, toward, run, entries}
 use Rattle.linspace.specs.Calls.{nth, hasEntries}
 use Rattle.linspace.proofs.Walks.{nth-is, nth-past}
 
@@ -33,6 +33,14 @@ entries-list {A} passes next f (suc n) (suc m) steps stops =
 pub entries-some : {A : Type 0} (passes : A → Bool) (next : A → A) (n : ℕ) (x : A) → passes x ≡ true → hasEntries (entries passes next (suc n) x) ≡ true
 unfolding entries
 entries-some passes next n x e = rw e (lt-ltb 0 (suc (length (entries passes next n (next x)))) (omega arith))
+
+pub run-some : {A : Type 0} (kind : Kind A) (a b d : A) (rises : Bool) → toward kind rises b a ≡ true → hasEntries (run kind a b d rises) ≡ true
+run-some kind a b d rises e = entries-some (toward kind rises b) (λ x. kind .plus x d) most a e
+
+-- a list that has an entry, if it is listed
+pub some-if : {A : Type 0} (t : Bool) (l : List A) → hasEntries l ≡ true → t ≡ hasEntries (cond t l [])
+some-if true l e = sym e
+some-if false l e = refl
 
 module _ {A : Type 0} where
   pub nth-list : (f : ℕ → A) (n k : ℕ) → k < n → given (f k) ≡ nth (listOf f n) k

@@ -31,7 +31,7 @@ use Rattle.search.proofs.Rules.{nan-answered}
 use Rattle.linspace.specs.List.{real, entries, toward, stepped, against}
 use Rattle.linspace.specs.Calls.{hasEntries, stepIndexOf}
 use Rattle.linspace.specs.RealSteps.{plusStep, after, Parted}
-use Rattle.linspace.proofs.Walks.{entries-on, entries-off, entries-few, entry-is, entry-passes}
+use Rattle.linspace.proofs.Walks.{entries-on, entries-off, entry-is, entry-passes, entries-none}
 use Rattle.linspace.proofs.Axis.{against-up, against-down, has-up, has-down, has-none, stepped-run, stepped-empty, stepped-total}
 use Rattle.linspace.proofs.RealList.{run-ascends}
 
@@ -76,11 +76,7 @@ module _ (a b d : Float) where
 
 -- ---- every entry passes the test of the walk
 every-entry : {A : Type 0} (passes : A → Bool) (next : A → A) (q : A → Bool) → ((x : A) → passes x ≡ true → q x ≡ true) → (n : ℕ) (x : A) → every q (entries passes next n x) ≡ true
-every-entry passes next q f zero x = nil (entries passes next 0 x) (entries-few passes next 0 x)
-  where
-    nil : (l : List _) → length l ≤ 0 → every q l ≡ true
-    nil [] h = refl
-    nil (y ∷ ys) h = absurd (omega (arith, h))
+every-entry passes next q f zero x = ap (every q) (entries-none passes next 0 x refl)
 every-entry passes next q f (suc n) x = go (passes x) refl (every-entry passes next q f n (next x))
   where
     go : (t : Bool) → passes x ≡ t → every q (entries passes next n (next x)) ≡ true → every q (entries passes next (suc n) x) ≡ true

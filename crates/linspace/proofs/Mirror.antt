@@ -10,7 +10,7 @@ use Rattle.ranged1d.specs.Admitted.{wholeAdmitted, limitAdmitted}
 use Rattle.ranged1d.specs.declared.Limit.{Limit}
 use Rattle.ranged1d.proofs.Whole.{neg-far}
 use Rattle.real.specs.Place.{spot, isBeyond, number, realPlace, wholePlace}
-use Rattle.search.specs.Mirror.{turned}
+use Rattle.search.specs.Mirror.{turned, Each, end, more}
 use Rattle.search.specs.declared.RoundingMethod.{RoundingMethod}
 use Rattle.real.specs.Mirror.{mirrored, negated}
 use Rattle.real.proofs.Signs.{add-turns, turns-alike, alike-on}
@@ -18,8 +18,8 @@ use Rattle.real.proofs.Readings.{alike-same}
 use Rattle.real.proofs.Mirror as places
 use Rattle.search.proofs.WholeOrder.{whole-order}
 use Rattle.search.proofs.RealOrder.{real-order}
-use Rattle.search.proofs.Turned.{Each, end, more}
 use Rattle.search.proofs.Mirror.{Opposite, Across, whole-turns, real-turns, add-alike, turned-twice}
+use Rattle.search.proofs.Turned.{each-map}
 use Rattle.linspace.specs.List.{whole, real, stepped, against, tooLong}
 use Rattle.linspace.specs.Calls.{stepMarks, stepIndexOf, stepPlace}
 use Rattle.linspace.specs.Mirror as mirror
@@ -131,8 +131,7 @@ module _ (a b d : ℤ) where
 
 -- ---- real stepped axes
 negated-list : (l l' : List Float) → Each Across l l' → mirror.Negated l l'
-negated-list [] [] end = mirror.end
-negated-list (x ∷ xs) (y ∷ ys) (more r e) = mirror.more (alike-same r) (negated-list xs ys e)
+negated-list = each-map (λ x y r. alike-same r)
 
 module _ (a b d : Float) where
   self : (x : Float) → Across (neg x) x

@@ -3,7 +3,7 @@
 use mathlib.Core.Path.{_≡_, refl, sym, ap, subst, _∙_}
 use mathlib.Core.Logic.{_⊎_, inl, inr}
 use mathlib.Core.Bool.{Bool, true, false}
-use mathlib.Core.List.{List, [], _∷_}
+use mathlib.Core.List.{_∷_}
 use Prim.Native.Nat.{ℕ, zero, suc, _≤_, _<_}
 use native.Mathlib.Omega.{arith}
 use lib.Dec.{T}
@@ -17,7 +17,7 @@ use Rattle.search.proofs.Orders.{Order, way}
 use Rattle.search.proofs.RealOrder.{real-order}
 use Rattle.linspace.specs.List.{real, entries, toward}
 use Rattle.linspace.specs.RealSteps.{plusStep}
-use Rattle.linspace.proofs.Walks.{entries-on, entries-off, entries-few}
+use Rattle.linspace.proofs.Walks.{entries-on, entries-off, entries-few, entries-none}
 use Rattle.linspace.proofs.RealSums.{eq-written, never-back, never-on}
 
 -- ---- any walk: where a step leads on, or else no end is reached, a list with an end is ordered
@@ -36,11 +36,7 @@ module _ {A : Type 0} (passes : A → Bool) (next : A → A) (lt : A → A → B
         first k e q (inr w) = absurd (omega (arith, h, w (suc n)))
 
         go : (k : ℕ) → n ≡ k → (t : Bool) → passes (next x) ≡ t → goesOn lt x (entries passes next n (next x)) ≡ true
-        go zero e t q = ap (goesOn lt x) (nil (entries passes next n (next x)) (omega (arith, e, entries-few passes next n (next x))))
-          where
-            nil : (l : List A) → length l ≡ 0 → l ≡ []
-            nil [] z = refl
-            nil (y ∷ ys) z = absurd (omega (arith, z))
+        go zero e t q = ap (goesOn lt x) (entries-none passes next n (next x) e)
         go (suc k) e true q = first k e q (step x g p q)
         go (suc k) e false q = ap (goesOn lt x) (entries-off passes next n (next x) q)
 

@@ -8,9 +8,9 @@ use lib.ListN.{length, getD}
 use Rattle.ranged1d.proofs.Bools.{both-true}
 use Rattle.numeric.specs.Calls.{indexMarks}
 use Rattle.search.specs.Search as rule
-use Rattle.search.specs.Mirror.{turned}
+use Rattle.search.specs.Mirror.{turned, Each, end, more}
 use Rattle.search.specs.declared.RoundingMethod.{RoundingMethod}
-use Rattle.search.proofs.Turned.{Turns, Each, end, more, each-length, search-turned, exact-stays}
+use Rattle.search.proofs.Turned.{Turns, each-length, search-turned, exact-stays}
 use Rattle.linspace.specs.List.{Kind, entries, most, toward, upward, downward, run, stepped, against, tooLong, axisAdmitted}
 use Rattle.linspace.specs.Calls.{hasEntries, marksOf, stepMarks, stepValues, stepSize, stepIndexOf, stepKeyPoints}
 use Rattle.linspace.specs.Mirror.{AlikeLong}

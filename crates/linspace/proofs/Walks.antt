@@ -67,7 +67,7 @@ module _ {A : Type 0} (passes : A → Bool) (next : A → A) where
   entries-off zero x p = refl
   entries-off (suc n) x p = rw p refl
 
-  entries-none : (n : ℕ) (x : A) → n ≡ 0 → entries passes next n x ≡ []
+  pub entries-none : (n : ℕ) (x : A) → n ≡ 0 → entries passes next n x ≡ []
   unfolding entries
   entries-none zero x e = refl
   entries-none (suc n) x e = absurd (omega (arith, e))

@@ -6,20 +6,21 @@ use mathlib.Core.List.{[]}
 use Prim.Native.Nat.{ℕ, zero, suc, _+_, _-_, _*_, _/_, _≤_, _<_, min, max}
 use native.Mathlib.Nat.{le-div-iff-mul-le, add-zero, mul-zero, zero-mul, one-mul, min-zero, min-eq-left, min-eq-right}
 use native.Mathlib.Omega.{arith}
-use borrow.Author.Tests.{lt-ltb, le-ltb, le-leb, lt-leb, ltb-true, ltb-false}
-use lib.Dec.{T, leb, ltb}
+use borrow.Author.Tests.{lt-ltb, le-ltb, le-leb, lt-leb, leb-true, ltb-true, ltb-false}
+use lib.Dec.{leb, ltb}
 use lib.IntN.{ℤ, ℤ-discrete, pos, negsuc, negℤ, natAbs, subℕ, _+ℤ_, _-ℤ_, _*ℤ_, +ℤ-comm, +ℤ-assoc, +ℤ-idr, +ℤ-invr, +ℤ-negℤ-cancel, -ℤ-+ℤ-cancel, negℤ-+ℤ, negℤ-negℤ, zero-*ℤ, sucℤ-*ℤ}
 use lib.ListN.{length}
-use lib.Signed.{ltZ, leZ, pos-natAbs}
-use mir.Facts.{and-yes, leb-yes}
+use lib.Signed.{ltZ, pos-natAbs}
 use Rattle.ranged1d.specs.Admitted.{wholeAdmitted}
-use Rattle.ranged1d.proofs.Bools.{both-false}
-use Rattle.ranged1d.proofs.Whole.{sub-cases, minus-far, turned-far, minus-shift, ordered, not-lt, both-ways, neg-far, neg-lt}
+use Rattle.ranged1d.specs.Numbers.{same}
+use Rattle.ranged1d.proofs.Bools.{both-false, both-true}
+use Rattle.ranged1d.proofs.Whole.{sub-cases, minus-far, turned-far, minus-shift, ordered, not-lt, both-ways, neg-far, neg-lt, both-near}
 use Rattle.numeric.specs.Marks.{listOf}
 use Rattle.numeric.specs.Calls.{element}
 use Rattle.numeric.proofs.Lists.{length-of}
 use Rattle.search.specs.Steps.{toward}
 use Rattle.search.proofs.WholeOrder.{whole-order}
+use Rattle.search.proofs.Orders.{not-itself}
 use Rattle.linspace.specs.List.{whole, most, entries, run, stepped, against, tooLong, axisAdmitted}
 use Rattle.linspace.specs.WholeSteps.{wholeCount, Known, Lies}
 use Rattle.linspace.proofs.Entries.{entries-list}
@@ -143,31 +144,24 @@ apart-some x y h =
     let p = natAbs (y -ℤ x) in
     ltb-true 0 p (sym (lt-shift x (pos 0) (pos p)) ∙ ap (λ (z : ℤ). ltZ z (x +ℤ pos p)) (+ℤ-idr x) ∙ ap (λ (z : ℤ). ltZ x z) (sym (after x y h)) ∙ h)
 
-step-up : (d : ℤ) → (ltZ d (pos 0) || (leZ d (pos 0) && leZ (pos 0) d)) ≡ false → (d ≡ pos (natAbs d)) × (0 < natAbs d)
+step-up : (d : ℤ) → (ltZ d (pos 0) || same d (pos 0)) ≡ false → (d ≡ pos (natAbs d)) × (0 < natAbs d)
 step-up (pos zero) h = absurd (true≢false h)
 step-up (pos (suc n)) h = (refl, omega arith)
 step-up (negsuc n) h = absurd (true≢false h)
 
-step-down : (d : ℤ) → (ltZ (pos 0) d || (leZ (pos 0) d && leZ d (pos 0))) ≡ false → (d ≡ negℤ (pos (natAbs d))) × (0 < natAbs d)
+step-down : (d : ℤ) → (ltZ (pos 0) d || same (pos 0) d) ≡ false → (d ≡ negℤ (pos (natAbs d))) × (0 < natAbs d)
 step-down (pos zero) h = absurd (true≢false h)
 step-down (pos (suc n)) h = absurd (true≢false (sym (rw (lt-ltb 0 (suc n) (omega arith)) refl) ∙ h))
 step-down (negsuc n) h = (refl, omega arith)
 
 -- equal ends
-less-self : (x : ℤ) → ltZ x x ≡ false
-less-self x = go (ltZ x x) refl
-  where
-    go : (t : Bool) → ltZ x x ≡ t → ltZ x x ≡ false
-    go true e = whole-order .asym x x e
-    go false e = e
-
 level-count : (a d : ℤ) → wholeCount a a d ≡ 0
 unfolding wholeCount
 level-count a d = rw (+ℤ-invr a, le-leb 0 (natAbs d) (omega arith)) refl
 
 level-list : (a d : ℤ) → stepped whole a a d ≡ []
 unfolding stepped
-level-list a d = rw (less-self a) refl
+level-list a d = rw (not-itself whole-order a) refl
 
 level : (a b d : ℤ) → a ≡ b → stepped whole a b d ≡ listOf (element a d) (min (suc most) (wholeCount a b d))
 level a b d e =
@@ -176,10 +170,10 @@ level a b d e =
 
 module _ (a b d : ℤ) (h : against whole a b d ≡ false) where
   abbrev wrong : Bool
-  wrong = ltZ d (pos 0) || (leZ d (pos 0) && leZ (pos 0) d)
+  wrong = ltZ d (pos 0) || same d (pos 0)
 
   abbrev other : Bool
-  other = ltZ (pos 0) d || (leZ (pos 0) d && leZ d (pos 0))
+  other = ltZ (pos 0) d || same (pos 0) d
 
   up-of : ltZ a b ≡ true → Sloped true a b d (natAbs (b -ℤ a)) (natAbs d)
   unfolding against
@@ -242,9 +236,9 @@ near-way false a x p h = rw (← turned x, ← turned p, ← neg-far a) (near-up
 module _ (a b d : ℤ) (h : axisAdmitted whole a b d ≡ true) where
   pub admitted-near : (natAbs a ≤ 1000000000) × (natAbs b ≤ 1000000000) × (natAbs d ≤ 1000000000)
   admitted-near =
-      let both = and-yes (wholeAdmitted a && wholeAdmitted b) (wholeAdmitted d) (subst T (sym h) tt) in
-      let ends = and-yes (wholeAdmitted a) (wholeAdmitted b) (both .0) in
-      (leb-yes (ends .0), leb-yes (ends .1), leb-yes (both .1))
+      let both = both-true (wholeAdmitted a && wholeAdmitted b) (wholeAdmitted d) h in
+      let ends = both-near 1000000000 a b (both .0) in
+      (ends .0, ends .1, leb-true (natAbs d) 1000000000 (both .1))
 
 module _ {a b d : ℤ} {n : ℕ} (known : Known a b d n) where
   pub list-is : stepped whole a b d ≡ listOf (element a d) n

@@ -1,68 +1,49 @@
 -- The steps of the calls on whole stepped axes, by the tests that lead to each answer. Assumes nothing.
 use mathlib.Core.Path.{_≡_, refl, sym, ap, subst, _∙_}
-use mathlib.Core.Bool.{Bool, true, false, cond, true≢false, _&&_, _||_, or-false}
-use mathlib.Core.List.{List, []}
-use Prim.Native.Nat.{ℕ, zero, suc, _+_, _-_, _/_, _≤_, _<_}
+use mathlib.Core.Bool.{true, false, true≢false, or-false}
+use Prim.Native.Nat.{ℕ, _+_, _-_, _/_, _≤_, _<_}
 use native.Mathlib.Decide.{decLt}
 use native.Mathlib.Omega.{arith}
-use borrow.Author.Tests.{lt-ltb, le-leb, lt-leb, ltb-false}
-use lib.Dec.{leb·zero, leb·suc-zero}
-use lib.IntN.{ℤ, pos, negsuc, natAbs, _+ℤ_, _-ℤ_, +ℤ-invr}
+use borrow.Author.Tests.{le-leb, lt-leb, ltb-false}
+use lib.IntN.{ℤ, pos, natAbs, _+ℤ_, _-ℤ_, +ℤ-invr}
 use lib.ListN.{length}
 use lib.Signed.{ltZ, leZ}
 use Rattle.ranged1d.specs.Answer.{Answer, given, refused}
 use Rattle.ranged1d.specs.declared.Limit.{Limit}
+use Rattle.ranged1d.proofs.Whole.{less-or-same}
 use Rattle.real.specs.Place.{wholePlace}
 use Rattle.search.proofs.WholeOrder.{whole-order}
-use Rattle.linspace.specs.List.{whole, most, toward, run, stepped, against, axisAdmitted}
+use Rattle.linspace.specs.List.{whole, most, run, stepped, against, axisAdmitted}
 use Rattle.linspace.specs.Calls.{hasEntries}
 use Rattle.linspace.specs.WholeSteps.{wholeCount, Known}
-use Rattle.linspace.proofs.Entries.{entries-some}
+use Rattle.linspace.proofs.Entries.{run-some, some-if}
 use Rattle.linspace.proofs.Rules.{counts, Counted, counted, endsPlace}
 use Rattle.linspace.proofs.WholeList.{sloped, too-long, not-long, length-is, admitted-near}
 
 -- ---- 6
--- below zero or zero
-not-above : (d : ℤ) → leZ d (pos 0) ≡ (ltZ d (pos 0) || (leZ d (pos 0) && leZ (pos 0) d))
-not-above (pos zero) = refl
-not-above (pos (suc n)) = leb·suc-zero n ∙ sym (rw (leb·suc-zero (suc n), leb·suc-zero n) refl)
-not-above (negsuc n) = refl
-
-not-below : (d : ℤ) → leZ (pos 0) d ≡ (ltZ (pos 0) d || (leZ (pos 0) d && leZ d (pos 0)))
-not-below (pos zero) = refl
-not-below (pos (suc n)) = leb·zero (suc n) ∙ sym (rw (lt-ltb 0 (suc n) (omega arith)) refl)
-not-below (negsuc n) = refl
-
 module _ (a b d : ℤ) where
   pub against-up : ltZ a b ≡ true → leZ d (pos 0) ≡ against whole a b d
   unfolding against
-  against-up e = rw (e, whole-order .asym a b e) (not-above d ∙ sym (or-false _))
+  against-up e = rw (e, whole-order .asym a b e) (less-or-same d (pos 0) ∙ sym (or-false _))
 
   module _ (n : ltZ a b ≡ false) where
     pub against-down : ltZ b a ≡ true → leZ (pos 0) d ≡ against whole a b d
     unfolding against
-    against-down e = rw (n, e) (not-below d)
+    against-down e = rw (n, e) (less-or-same (pos 0) d)
 
     pub against-level : ltZ b a ≡ false → false ≡ against whole a b d
     unfolding against
     against-level e = rw (n, e) refl
 
   -- ---- whether there is an entry: the first two come before b
-  has-run : (rises : Bool) → toward whole rises b a ≡ true → hasEntries (run whole a b d rises) ≡ true
-  has-run rises e = entries-some (toward whole rises b) (λ x. x +ℤ d) most a e
-
-  some-if : (t : Bool) (l : List ℤ) → hasEntries l ≡ true → t ≡ hasEntries (cond t l [])
-  some-if true l e = sym e
-  some-if false l e = refl
-
   pub entries-up : ltZ a b ≡ true → ltZ (a +ℤ d) b ≡ hasEntries (stepped whole a b d)
   unfolding stepped
-  entries-up e = rw (e, whole-order .asym a b e) (some-if (ltZ (a +ℤ d) b) (run whole a b d true) (has-run true e))
+  entries-up e = rw (e, whole-order .asym a b e) (some-if (ltZ (a +ℤ d) b) (run whole a b d true) (run-some whole a b d true e))
 
   module _ (n : ltZ a b ≡ false) where
     pub entries-down : ltZ b a ≡ true → ltZ b (a +ℤ d) ≡ hasEntries (stepped whole a b d)
     unfolding stepped
-    entries-down e = rw (n, e) (some-if (ltZ b (a +ℤ d)) (run whole a b d false) (has-run false e))
+    entries-down e = rw (n, e) (some-if (ltZ b (a +ℤ d)) (run whole a b d false) (run-some whole a b d false e))
 
     pub entries-level : ltZ b a ≡ false → false ≡ hasEntries (stepped whole a b d)
     unfolding stepped

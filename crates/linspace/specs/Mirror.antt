@@ -3,14 +3,14 @@
 -- proofs/Mirror prove it of all numbers. Assumes nothing.
 use Prim.Native.Nat.{ℕ}
 use mathlib.Core.Path.{_≡_}
-use mathlib.Core.List.{List, [], _∷_, map}
+use mathlib.Core.List.{List, map}
 use lib.Dec.{ltb}
 use lib.IntN.{ℤ, negℤ}
 use lib.ListN.{length}
 use lib.Ieee.{Float, neg}
 use Rattle.ranged1d.specs.declared.Limit.{Limit}
 use Rattle.real.specs.Mirror.{mirrored, negated, Same}
-use Rattle.search.specs.Mirror.{turned}
+use Rattle.search.specs.Mirror.{turned, Each}
 use Rattle.search.specs.declared.RoundingMethod.{RoundingMethod}
 use Rattle.linspace.specs.List.{whole, real, stepped}
 use Rattle.linspace.specs.Calls.{stepMarks, stepValues, stepSize, stepIndexOf, stepPlace, stepKeyPoints}
@@ -20,9 +20,8 @@ abbrev pub AlikeLong : {A : Type 0} → ℕ → List A → List A → Type 0
 AlikeLong n old old' = ltb (length old') n ≡ ltb (length old) n
 
 -- a list of reals and its mirror: negated entry for entry in the same order, a zero of either sign and a NaN each counting as equal
-pub data Negated : List Float → List Float → Type 0 where
-  end : Negated [] []
-  more : {x y : Float} {xs ys : List Float} → Same x (neg y) → Negated xs ys → Negated (x ∷ xs) (y ∷ ys)
+abbrev pub Negated : List Float → List Float → Type 0
+Negated l l' = Each (λ x y. Same x (neg y)) l l'
 
 -- ---- whole stepped axes
 pub record WholeMirrored (a b d : ℤ) : Type 0 where

@@ -2,7 +2,7 @@
 use mathlib.Core.Path.{_≡_, refl, sym, ap, _∙_}
 use mathlib.Core.Bool.{true, false, not, _&&_, _||_}
 use mathlib.Core.List.{List, [], _∷_, map}
-use Prim.Native.Nat.{ℕ, suc}
+use Prim.Native.Nat.{ℕ}
 use lib.Dec.{ltb, eqb}
 use lib.IntN.{ℤ, pos, negℤ}
 use lib.ListN.{length, length-map}
@@ -18,12 +18,13 @@ use Rattle.numeric.specs.Marks.{noStep, stepOf, marks}
 use Rattle.numeric.specs.Calls.{wholeKeyPoints}
 use Rattle.numeric.specs.Mirror.{stepOnly}
 use Rattle.numeric.proofs.Mirror as marks-mirror
-use Rattle.search.specs.Mirror.{turned}
+use Rattle.search.specs.Mirror.{turned, end}
 use Rattle.search.specs.declared.RoundingMethod.{RoundingMethod}
 use Rattle.search.proofs.Mirror as searches
+use Rattle.search.proofs.Turned.{each-length}
 use Rattle.linspace.specs.List.{Kind, whole, real, stepped, against, tooLong, axisAdmitted}
 use Rattle.linspace.specs.Calls.{hasEntries, stepValues, stepIndexOf, stepPlace, stepMarks, stepKeyPoints}
-use Rattle.linspace.specs.Mirror.{AlikeLong, Negated, end, more}
+use Rattle.linspace.specs.Mirror.{AlikeLong, Negated}
 use Rattle.linspace.proofs.Mirror as steps
 use Rattle.segmented.specs.Segments.{noSegments, segmentKeyPoints}
 use Rattle.segmented.specs.Axes.{steppedAxis}
@@ -190,10 +191,6 @@ module _ {A : Type 0} (kind : Kind A) (opposite : A → A) (Turned : List A → 
 alike-long : {A : Type 0} (n n' : ℕ) (old old' : List A) → n' ≡ n → BothLong n old n' old' → AlikeLong n old old'
 alike-long n n' old old' e h = ap (λ k. ltb (length old') k) (sym e) ∙ sym h
 
-negated-long : (l l' : List Float) → Negated l' l → length l' ≡ length l
-negated-long [] [] end = refl
-negated-long (x ∷ l) (x' ∷ l') (more s t) = ap suc (negated-long l l' t)
-
 -- what is known of whole and of real stepped axes, in one form
 record Known {A : Type 0} (kind : Kind A) (opposite : A → A) (Turned : List A → List A → Type 0) (a b d : A) : Type 0 where
   nothing : Turned [] []
@@ -251,7 +248,7 @@ real-steps a b d =
     stepped-axis real neg Negated a b d
     (record {
       nothing = end;
-      long = negated-long;
+      long = λ l l' t. each-length l' l t;
       lists = r .lists;
       marks = r .marks;
       values = r .values;

@@ -1,25 +1,21 @@
 -- Values and readings of a whole axis, by the tests that lead to each answer. Assumes nothing.
-use mathlib.Core.Path.{_≡_, refl, sym, subst}
+use mathlib.Core.Path.{_≡_, refl}
 use mathlib.Core.Bool.{Bool, true, false, cond, not, _&&_}
 use mathlib.Core.List.{[], _∷_}
 use Prim.Native.Nat.{ℕ, suc, _-_, _≤_}
 use native.Mathlib.Omega.{arith}
-use lib.Dec.{T}
 use lib.IntN.{ℤ, pos, negsuc, natAbs, _+ℤ_, _-ℤ_}
 use lib.Signed.{ltZ}
 use borrow.Author.Tests.{le-ltb}
-use mir.Facts.{and-yes, leb-yes}
 use Rattle.ranged1d.specs.Answer.{Answer, given, none, _when_, lowest, andThen}
-use Rattle.ranged1d.specs.Admitted.{wholeAdmitted, pixelAdmitted, limitAdmitted}
+use Rattle.ranged1d.specs.Admitted.{pixelAdmitted, limitAdmitted}
 use Rattle.ranged1d.specs.declared.Limit.{Limit}
-use Rattle.ranged1d.proofs.Whole.{sub-cases}
+use Rattle.ranged1d.proofs.Whole.{sub-cases, both-near}
 use Rattle.discrete.specs.Index.{noIndex, indexBy, indexFor, pixelIndex}
 use Rattle.numeric.specs.Whole.{endsAdmitted, countOf, aboveI32, valueAt, valueFrom, wholeReading}
 
 pub ends-near : (a b : ℤ) → endsAdmitted a b ≡ true → (natAbs a ≤ 1000000000) × (natAbs b ≤ 1000000000)
-ends-near a b e =
-    let both = and-yes (wholeAdmitted a) (wholeAdmitted b) (subst T (sym e) tt) in
-    (leb-yes (both .0), leb-yes (both .1))
+ends-near = both-near 1000000000
 
 -- what lies past an admitted end is no less than the least i32
 pub not-too-low : (a : ℤ) (k : ℕ) → natAbs a ≤ 1000000000 → ltZ (a +ℤ pos k) (negsuc 2147483647) ≡ false

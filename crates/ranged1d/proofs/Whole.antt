@@ -1,7 +1,7 @@
 -- Whole numbers: how far from 0 a sum, a difference, a product or a quotient lies, what fits an i32 or an i64, and what a test of
 -- order says. Assumes nothing.
 use mathlib.Core.Path.{_≡_, refl, sym, ap, _∙_, subst}
-use mathlib.Core.Bool.{Bool, true, false, cond, not, _&&_}
+use mathlib.Core.Bool.{Bool, true, false, cond, not, _&&_, _||_, and-true}
 use Prim.Native.Nat.{ℕ, zero, suc, _+_, _-_, _*_, _/_, _^_, _≤_, _<_}
 use native.Mathlib.Nat.{le-refl, div-le-self, zero-mul}
 use native.Mathlib.Omega.{arith}
@@ -59,6 +59,10 @@ times-far (negsuc a) s = neg-far (pos (suc a * s))
 pub pos-times-far : (i : ℕ) (z : ℤ) → natAbs (pos i *ℤ z) ≡ i * natAbs z
 pos-times-far i (pos a) = refl
 pos-times-far i (negsuc a) = neg-far (pos (i * suc a))
+
+-- two numbers, each tested
+pub both-near : (k : ℕ) (x y : ℤ) → (leb (natAbs x) k && leb (natAbs y) k) ≡ true → (natAbs x ≤ k) × (natAbs y ≤ k)
+both-near k x y h = let w = both-true (leb (natAbs x) k) (leb (natAbs y) k) h in (leb-true (natAbs x) k (w .0), leb-true (natAbs y) k (w .1))
 
 -- ---- what is small in size fits
 pub fits-abs : (w : Width) (z : ℤ) (k : ℕ) → natAbs z ≤ k → k < 2 ^ hbits w → SFits w z
@@ -144,6 +148,9 @@ other-way (pos a) (negsuc b) h = refl
 other-way (negsuc a) (pos b) h = absurd (subst T h tt)
 other-way (negsuc a) (negsuc b) h = le-leb a b (omega (arith, leb-false b a h))
 
+pub less-not-above : (x y : ℤ) → ltZ x y ≡ true → leZ x y ≡ true
+less-not-above x y p = other-way y x (lt-not x y p)
+
 pub both-ways : (x y : ℤ) → leZ x y ≡ true → leZ y x ≡ true → x ≡ y
 both-ways (pos a) (pos b) h k = ap pos (omega (arith, leb-true a b h, leb-true b a k))
 both-ways (pos a) (negsuc b) h k = absurd (subst T (sym h) tt)
@@ -168,6 +175,14 @@ same-no p q n = go (leZ p q) (leZ q p) refl refl
 
 pub same-is : (p q : ℤ) → same p q ≡ true → p ≡ q
 same-is p q e = let w = both-true (leZ p q) (leZ q p) e in both-ways p q (w .0) (w .1)
+
+-- not above is below or the same
+pub less-or-same : (x y : ℤ) → leZ x y ≡ (ltZ x y || same x y)
+less-or-same x y = go (ltZ x y) refl
+  where
+    go : (b : Bool) → ltZ x y ≡ b → leZ x y ≡ (b || same x y)
+    go true h = less-not-above x y h
+    go false h = rw (not-lt x y h) (sym (and-true (leZ x y)))
 
 -- ---- negation
 pub neg-le : (x y : ℤ) → leZ (negℤ x) (negℤ y) ≡ leZ y x

@@ -12,8 +12,8 @@ use lib.Ieee.Exact.{HasValue}
 use borrow.Author.Tests.{ltb-true, le-leb, leb-true, ne-eqb}
 use Rattle.ranged1d.specs.declared.Limit.{Limit}
 use Rattle.ranged1d.specs.Admitted.{pixelAdmitted, limitAdmitted}
-use Rattle.ranged1d.proofs.Bools.{both-true, both-false, chosen}
-use Rattle.ranged1d.proofs.Whole.{not-lt}
+use Rattle.ranged1d.proofs.Bools.{both-false, chosen}
+use Rattle.ranged1d.proofs.Whole.{not-lt, both-near}
 use Rattle.rounding.specs.Integral.{Way}
 use Rattle.rounding.specs.Within.{within}
 use Rattle.rounding.specs.declared.Whole.{Whole}
@@ -100,9 +100,7 @@ pub near : (x : ℤ) → pixelAdmitted x ≡ true → natAbs x ≤ 1_000_000
 near x h = leb-true (natAbs x) 1_000_000 h
 
 pub near-limits : (limit : Limit) → limitAdmitted limit ≡ true → (natAbs (limit .0) ≤ 1_000_000) × (natAbs (limit .1) ≤ 1_000_000)
-near-limits limit h =
-    let w = both-true (pixelAdmitted (limit .0)) (pixelAdmitted (limit .1)) h in
-    (near (limit .0) (w .0), near (limit .1) (w .1))
+near-limits limit h = both-near 1_000_000 (limit .0) (limit .1) h
 
 -- ---- a pixel between the limits is as near 0 as they are
 pub between-far : (k : ℕ) (lo x hi : ℤ) → leZ lo x ≡ true → leZ x hi ≡ true → natAbs lo ≤ k → natAbs hi ≤ k → natAbs x ≤ k

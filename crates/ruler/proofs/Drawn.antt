@@ -4,11 +4,12 @@ use mathlib.Core.Bool.{Bool, true, false, not, _&&_}
 use mathlib.Core.List.{List, [], _∷_, _++_, map}
 use Prim.Native.Nat.{ℕ, _+_, _*_, _≤_, _<_}
 use native.Mathlib.Omega.{arith}
-use lib.Dec.{T, ltb}
+use lib.Dec.{ltb}
 use lib.IntN.{ℤ}
 use lib.ListN.{length, take, drop, length-append, take-append-drop}
 use lib.Seq.{take-at, drop-at}
 use borrow.Author.Tests.{lt-ltb, le-ltb}
+use Rattle.ruler.proofs.Places.{ends, film, served}
 use Rattle.ranged1d.specs.Answer.{Answer, given, none, refused, _when_, lowest, written}
 use Rattle.ranged1d.specs.Admitted.{wholeAdmitted, limitAdmitted}
 use Rattle.ranged1d.specs.declared.Limit.{Limit}
@@ -85,14 +86,8 @@ module _ (a b : ℤ) (limit : Limit) (m : ℕ) where
 
   -- an axis that has a ruler has a plan
   pub has-plan : hasRuler a b limit m ≡ true → rulerPlan a b limit m ≡ given (planOf a b m)
-  unfolding hasRuler rulerPlan
-  has-plan = go (wholeAdmitted a && wholeAdmitted b) (limitAdmitted limit) (noStep a b m)
-    where
-      go : (t u v : Bool) → (t && (u && not v)) ≡ true → lowest (1 when not t ∷ 2 when not u ∷ 3 when v ∷ []) (given (planOf a b m)) ≡ given (planOf a b m)
-      go true true false h = refl
-      go true true true h = absurd (subst T (sym h) tt)
-      go true false v h = absurd (subst T (sym h) tt)
-      go false u v h = absurd (subst T (sym h) tt)
+  unfolding rulerPlan
+  has-plan h = rw (ends a b limit m h, film a b limit m h, served a b limit m h) refl
 
   module _ {p : KeyPoints} (e : rulerPlan a b limit m ≡ given p) where
     pub is-drawn : Drawn a b limit m p

@@ -1,12 +1,12 @@
 -- Every mark of an axis that has a ruler has a place, the one in its record, so that the writer never meets 5. Assumes nothing.
-use mathlib.Core.Path.{_≡_, refl, sym, ap, _∙_, subst}
-use mathlib.Core.Bool.{Bool, true, false, not, _&&_}
-use mathlib.Core.List.{List, [], _∷_}
+use mathlib.Core.Path.{_≡_, refl, sym, ap, _∙_}
+use mathlib.Core.Bool.{true, false, not, _&&_}
+use mathlib.Core.List.{List}
 use Prim.Native.Nat.{ℕ, _<_}
-use lib.Dec.{T}
 use lib.IntN.{ℤ, pos}
 use lib.ListN.{length, getD}
-use Rattle.ranged1d.specs.Answer.{Answer, given, _when_, lowest}
+use borrow.Author.Tests.{not-true}
+use Rattle.ranged1d.specs.Answer.{Answer, given}
 use Rattle.ranged1d.specs.Admitted.{wholeAdmitted, limitAdmitted}
 use Rattle.ranged1d.specs.declared.Limit.{Limit}
 use Rattle.ranged1d.proofs.Bools.{both-true}
@@ -20,19 +20,23 @@ use Rattle.ruler.specs.Place.{placeIn, placeOf}
 use Rattle.ruler.specs.Rule.{hasRuler}
 
 module _ (a b : ℤ) (limit : Limit) (m : ℕ) (h : hasRuler a b limit m ≡ true) where
-  pub film : limitAdmitted limit ≡ true
+  pub ends : (wholeAdmitted a && wholeAdmitted b) ≡ true
   unfolding hasRuler
-  film = both-true (limitAdmitted limit) (not (noStep a b m)) (both-true (wholeAdmitted a && wholeAdmitted b) (limitAdmitted limit && not (noStep a b m)) h .1) .0
+  ends = both-true (wholeAdmitted a && wholeAdmitted b) (limitAdmitted limit && not (noStep a b m)) h .0
+
+  others : (limitAdmitted limit ≡ true) × (not (noStep a b m) ≡ true)
+  unfolding hasRuler
+  others = both-true (limitAdmitted limit) (not (noStep a b m)) (both-true (wholeAdmitted a && wholeAdmitted b) (limitAdmitted limit && not (noStep a b m)) h .1)
+
+  pub film : limitAdmitted limit ≡ true
+  film = others .0
+
+  pub served : noStep a b m ≡ false
+  served = not-true (noStep a b m) (others .1)
 
   plan : wholePlan a b m ≡ given (planOf a b m)
-  unfolding hasRuler wholePlan
-  plan = go (wholeAdmitted a && wholeAdmitted b) (limitAdmitted limit) (noStep a b m) h
-    where
-      go : (t u v : Bool) → (t && (u && not v)) ≡ true → lowest (1 when not t ∷ 3 when v ∷ []) (given (planOf a b m)) ≡ given (planOf a b m)
-      go true true false h = refl
-      go true true true h = absurd (subst T (sym h) tt)
-      go true false v h = absurd (subst T (sym h) tt)
-      go false u v h = absurd (subst T (sym h) tt)
+  unfolding wholePlan
+  plan = rw (ends, served) refl
 
   pub every-placed : (k : ℕ) → k < length (marks a b m) → wholePlace a b (getD (marks a b m) k (pos 0)) limit ≡ given (placeOf a b limit (getD (marks a b m) k (pos 0)))
   unfolding placeOf

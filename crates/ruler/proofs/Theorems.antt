@@ -6,19 +6,17 @@ use mathlib.Core.Logic.{_⊎_, inl, inr}
 use Prim.Native.Nat.{ℕ, _+_, _*_, _^_, _≤_, _<_}
 use native.Mathlib.Decide.{decLt}
 use native.Mathlib.Omega.{arith}
-use lib.IntN.{ℤ, pos, natAbs}
+use lib.IntN.{ℤ, pos}
 use lib.ListN.{length, take, drop, drop-of-length-le}
 use lib.Seq.{take-at, take-length}
 use mathlib.Core.List.{append-nil}
 use mir.Syntax.{w32}
 use mir.Val.{SFits}
-use borrow.Author.Tests.{leb-true}
 use Rattle.ranged1d.specs.Answer.{Answer, given, none, refused}
-use Rattle.ranged1d.specs.Admitted.{pixelAdmitted, limitAdmitted}
+use Rattle.ranged1d.specs.Admitted.{limitAdmitted}
 use Rattle.ranged1d.specs.declared.Limit.{Limit}
 use Rattle.ranged1d.proofs.Answers.{not-both, not-none}
-use Rattle.ranged1d.proofs.Bools.{both-true}
-use Rattle.ranged1d.proofs.Whole.{fits32}
+use Rattle.ranged1d.proofs.Whole.{fits32, both-near}
 use Rattle.numeric.specs.declared.KeyPoints.{KeyPoints}
 use Rattle.numeric.specs.Marks.{stepOf, marks}
 use Rattle.numeric.specs.Calls.{planOf}
@@ -37,8 +35,8 @@ use Rattle.ruler.proofs.Reader.{bytesOf, Known, ruler-in, read-known, r
 -- ---- the numbers in a ruler are its own
 limit-fits : (limit : Limit) → limitAdmitted limit ≡ true → SFits w32 (limit .0) × SFits w32 (limit .1)
 limit-fits limit h =
-    let both = both-true (pixelAdmitted (limit .0)) (pixelAdmitted (limit .1)) h in
-    (fits32 (limit .0) (omega (arith, leb-true (natAbs (limit .0)) 1000000 (both .0))), fits32 (limit .1) (omega (arith, leb-true (natAbs (limit .1)) 1000000 (both .1))))
+    let near = both-near 1000000 (limit .0) (limit .1) h in
+    (fits32 (limit .0) (omega (arith, near .0)), fits32 (limit .1) (omega (arith, near .1)))
 
 abbrev drawnFor : ℤ → ℤ → Limit → ℕ → Draft
 drawnFor a b limit m = record { a = a; b = b; limit = limit; m = m }

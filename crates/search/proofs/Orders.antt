@@ -1,5 +1,5 @@
 -- What the proofs on searches ask of an order and its equality, in either direction. Assumes nothing.
-use mathlib.Core.Path.{_≡_, _∙_}
+use mathlib.Core.Path.{_≡_, refl, _∙_}
 use mathlib.Core.Bool.{Bool, true, false}
 use Rattle.search.specs.Steps.{toward}
 
@@ -14,6 +14,14 @@ pub record Order (A : Type 0) (lt eq : A → A → Bool) : Type 0 where
   pub left : (x y : A) → lt x y ≡ true → eq x x ≡ true
   pub right : (x y : A) → lt x y ≡ true → eq y y ≡ true
   pub total : (x y : A) → eq x x ≡ true → eq y y ≡ true → lt x y ≡ false → eq x y ≡ false → lt y x ≡ true
+
+-- nothing comes before itself
+pub not-itself : {A : Type 0} {lt eq : A → A → Bool} → Order A lt eq → (x : A) → lt x x ≡ false
+not-itself {lt = lt} o x = go (lt x x) refl
+  where
+    go : (t : Bool) → lt x x ≡ t → lt x x ≡ false
+    go true e = o .asym x x e
+    go false e = e
 
 -- the same order downward
 pub turned : {A : Type 0} {lt eq : A → A → Bool} → Order A lt eq → Order A (λ x y. lt y x) eq

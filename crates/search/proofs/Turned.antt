@@ -12,7 +12,7 @@ use Rattle.ranged1d.specs.Answer.{Answer, given, none}
 use Rattle.ranged1d.specs.Numbers.{every}
 use Rattle.search.specs.Search.{Numbers, further, unlessBetter, best, exact, up, down, nearer, between, indexOf, search}
 use Rattle.search.specs.Lists.{goesOn, ascends, searchable, isExact}
-use Rattle.search.specs.Mirror.{turned}
+use Rattle.search.specs.Mirror.{turned, Each, end, more}
 use Rattle.search.specs.declared.RoundingMethod.{RoundingMethod}
 use Rattle.search.specs.declared.RoundingMethod.the-variants.{Exact, Ceil, Floor, Round}
 
@@ -23,15 +23,14 @@ pub record Turns {A : Type 0} (num : Numbers A) (R : A → A → Type 0) : Type 
   pub apart-turns : {x x' y y' z z' w w' : A} → R x x' → R y y' → R z z' → R w w'
       → num .less (num .minus x y) (num .minus z w) ≡ num .less (num .minus y' x') (num .minus w' z')
 
--- entry for entry
-pub data Each {A : Type 0} (R : A → A → Type 0) : List A → List A → Type 0 where
-  end : Each R [] []
-  more : {x y : A} {xs ys : List A} → R x y → Each R xs ys → Each R (x ∷ xs) (y ∷ ys)
-
 -- the same index and a mirrored entry, or both none
 pub data Both {A : Type 0} (R : A → A → Type 0) : Answer (ℕ × A) → Answer (ℕ × A) → Type 0 where
   givens : {k : ℕ} {x y : A} → R x y → Both R (given (k, x)) (given (k, y))
   nones : Both R none none
+
+pub each-map : {A : Type 0} {R S : A → A → Type 0} → ((x y : A) → R x y → S x y) → (l l' : List A) → Each R l l' → Each S l l'
+each-map f [] [] end = end
+each-map f (x ∷ xs) (y ∷ ys) (more r e) = more (f x y r) (each-map f xs ys e)
 
 pub each-length : {A : Type 0} {R : A → A → Type 0} (l l' : List A) → Each R l l' → length l ≡ length l'
 each-length [] [] end = refl

@@ -11,12 +11,9 @@ use mir.Val.{SFits, toZ, ofZ}
 use lib.Signed.{ltZ, leZ, <ℤ-≤ℤ-trans, clashℤ}
 use Rattle.real.proofs.Cases.{between-far}
 use Rattle.ranged1d.specs.Numbers.{same}
-use Rattle.ranged1d.proofs.Whole.{not-lt, lt-not, other-way, same-yes, same-no, same-is}
+use Rattle.ranged1d.proofs.Whole.{not-lt, lt-not, same-yes, same-no, same-is, less-not-above}
 use Rattle.numeric.proofs.Signs.{yes-le, yes-lt, lt-yes}
 use Rattle.search.proofs.Orders.{Order, Between}
-
-less-not-above : (x y : ℤ) → ltZ x y ≡ true → leZ x y ≡ true
-less-not-above x y p = other-way y x (lt-not x y p)
 
 no-less : (x y : ℤ) → ltZ x y ≡ true → ltZ y x ≡ false
 no-less x y p = go (ltZ y x) refl

@@ -1,7 +1,7 @@
 -- 01 "Mirroring, real reading, stepped axes": what the mirror theorem says of the searches of lent lists. It is stated over the rules
 -- that the calls promise. `mirror` of proofs/Mirror proves `Mirrored`. Assumes nothing.
 use mathlib.Core.Path.{_≡_}
-use mathlib.Core.List.{List, map}
+use mathlib.Core.List.{List, [], _∷_, map}
 use lib.IntN.{ℤ, negℤ}
 use lib.Ieee.{Float, neg}
 use Rattle.search.specs.Lists.{wholeSearch, realSearch}
@@ -14,6 +14,11 @@ turned Exact = Exact
 turned Ceil = Floor
 turned Floor = Ceil
 turned Round = Round
+
+-- two lists that correspond entry for entry, in the same order
+pub data Each {A : Type 0} (R : A → A → Type 0) : List A → List A → Type 0 where
+  end : Each R [] []
+  more : {x y : A} {xs ys : List A} → R x y → Each R xs ys → Each R (x ∷ xs) (y ∷ ys)
 
 -- ---- the statement: with every entry and the target negated, the entries in the same order, and up and down exchanged, the index is the
 -- same, or both are none, or both are refused with one number; for every list and target

@@ -1,14 +1,15 @@
 -- 01 "Mirroring, real reading, stepped axes": the four searches of a list for a target. They are the same for whole and for real
 -- entries, given how two entries compare and what lies between them. Assumes nothing.
 use Prim.Native.Nat.{ℕ, suc}
-use mathlib.Core.Bool.{Bool, false, cond, _&&_, _||_}
+use mathlib.Core.Bool.{Bool, false, cond, _||_}
 use mathlib.Core.List.{List, [], _∷_}
 use lib.Dec.{ltb}
 use lib.IntN.{ℤ, _-ℤ_}
-use lib.Signed.{ltZ, leZ}
+use lib.Signed.{ltZ}
 use lib.Ieee as Ieee
 use lib.Ieee.{Float, binary64}
 use Rattle.ranged1d.specs.Answer.{Answer, given, none, refused, andThen}
+use Rattle.ranged1d.specs.Numbers.{same}
 use Rattle.search.specs.declared.RoundingMethod.{RoundingMethod}
 use Rattle.search.specs.declared.RoundingMethod.the-variants.{Exact, Ceil, Floor, Round}
 
@@ -19,7 +20,7 @@ pub record Numbers (A : Type 0) : Type 0 where
   pub minus : A → A → A
 
 abbrev pub wholes : Numbers ℤ
-wholes = record { less = ltZ; equal = λ x y. leZ x y && leZ y x; minus = _-ℤ_ }
+wholes = record { less = ltZ; equal = same; minus = _-ℤ_ }
 
 -- Comparisons are IEEE 754's: a NaN is neither less than nor equal to anything, and −0.0 equals 0.0. A difference is rounded.
 abbrev pub reals : Numbers Float

@@ -5,10 +5,10 @@ ghost use mathlib.Core.Bool.{true, _&&_};
 ghost use lib.Dec.{ltb};
 ghost use lib.ListN.{length, getD};
 ghost use lib.IntN.{pos};
-ghost use lib.Signed.{ltZ, leZ};
+ghost use lib.Signed.{ltZ};
 ghost use Rattle.numeric.specs.Whole.{tellIndex};
 ghost use Rattle.ranged1d.specs.Admitted.{wholeAdmitted};
-ghost use Rattle.ranged1d.specs.Numbers.{every};
+ghost use Rattle.ranged1d.specs.Numbers.{every, same};
 ghost use Rattle.search.specs.Lists.{ascends, searchable, wholeSearch};
 ghost use Rattle.search.specs.Search.{wholes, search};
 ghost use Rattle.search.specs.Settled.{closer, settled};
@@ -121,7 +121,7 @@ fn ends_admitted(list: &[i32]) -> bool
 
 // Whether the entry behind the first i is the target.
 fn hits(n: usize, i: usize, y: i32, t: i32) -> bool
-    ensures { λ r. ⌜ r ≡ (ltb i n && (leZ y t && leZ t y)) ⌝ }
+    ensures { λ r. ⌜ r ≡ (ltb i n && same y t) ⌝ }
 {
     if i < n {
         return y == t;

@@ -20,9 +20,9 @@ use Rattle.real.specs.Mirror.{mirrored, negated}
 use Rattle.real.proofs.Mirror.{half-neg, real-spot, whole-spot}
 use Rattle.real.proofs.Readings.{limit-neg, length-neg}
 use Rattle.search.specs.Search as rule
-use Rattle.search.specs.Mirror.{turned}
+use Rattle.search.specs.Mirror.{turned, Each, end, more}
 use Rattle.search.specs.declared.RoundingMethod.{RoundingMethod}
-use Rattle.search.proofs.Turned.{Each, end, more, each-length, search-turned, exact-stays}
+use Rattle.search.proofs.Turned.{each-length, search-turned, exact-stays}
 use Rattle.search.proofs.Mirror.{Opposite, Across, turned-twice}
 use Rattle.linspace.specs.List.{Kind, whole, real, stepped, against, axisAdmitted}
 use Rattle.linspace.specs.Calls.{nth, stepSpot}

@@ -6,7 +6,7 @@ use Prim.Native.Nat.{ℕ, suc, _+_, _-_, _≤_, _<_}
 use native.Mathlib.Decide.{decLt}
 use native.Mathlib.Numerals.{add-one}
 use native.Mathlib.Omega.{arith}
-use borrow.Author.Tests.{eq-eqb, ne-eqb, ltb-false, lt-ltb, le-ltb, le-leb, leb-true}
+use borrow.Author.Tests.{eq-eqb, ne-eqb, ltb-false, lt-ltb, le-ltb, le-leb}
 use lib.Dec.{T, ltb, eqb}
 use lib.IntN.{ℤ, pos, negsuc, natAbs, _+ℤ_, _-ℤ_, +ℤ-comm, +ℤ-assoc, -ℤ-+ℤ-cancel}
 use lib.ListN.{length}
@@ -15,9 +15,8 @@ use Rattle.ranged1d.specs.Answer.{Answer, given, none, refused, _when_, lowest,
 use Rattle.ranged1d.specs.Admitted.{wholeAdmitted, limitAdmitted}
 use Rattle.ranged1d.specs.declared.Limit.{Limit}
 use Rattle.ranged1d.proofs.Answers.{given-is, not-both, not-none, one-refusal}
-use Rattle.ranged1d.proofs.Bools.{both-true}
 use Rattle.real.specs.Place.{wholePlace, spotAnswer}
-use Rattle.ranged1d.proofs.Whole.{ordered, not-lt}
+use Rattle.ranged1d.proofs.Whole.{ordered, not-lt, both-near}
 use Rattle.numeric.specs.declared.KeyPoints.{KeyPoints}
 use Rattle.numeric.specs.Marks.{marks, stepOf, noStep}
 use Rattle.numeric.specs.Calls.{planOf, wholePlan, wholeKeyPoints}
@@ -129,7 +128,7 @@ module _ (a b : ℤ) where
     far-end = +ℤ-comm a (pos (natAbs (b -ℤ a))) ∙ ap (λ z. z +ℤ a) (not-negative-is (b -ℤ a) (ordered a b (not-lt b a rises))) ∙ -ℤ-+ℤ-cancel b a
 
     pub near-ends : (natAbs a ≤ 1_000_000_000) × (natAbs b ≤ 1_000_000_000)
-    near-ends = (leb-true (natAbs a) 1_000_000_000 (both-true (wholeAdmitted a) (wholeAdmitted b) (s .admitted) .0), leb-true (natAbs b) 1_000_000_000 (both-true (wholeAdmitted a) (wholeAdmitted b) (s .admitted) .1))
+    near-ends = both-near 1_000_000_000 a b (s .admitted)
 
     pub value-near : (k : ℕ) → k < n → natAbs (a +ℤ pos k) ≤ 1_000_000_000
     value-near k l =
