@@ -24,35 +24,24 @@ positive : (x y : ℕ) → 0 < x * y → 0 < x
 positive zero y h = absurd (omega (arith, h, zero-mul y))
 positive (suc x) y h = omega arith
 
+cleared : (a c p q r : ℕ) → a * q * r < c * q * p → a * r < c * p
+cleared a c p q r h = lt-of-mul-lt-mul-right q (omega (arith, h, mul-right-comm a q r, mul-right-comm c q p))
+
 less-across : (a b c p q r : ℕ) → 0 < p → 0 < r → a * q < b * p → b * r < c * q → a * r < c * p
 less-across a b c p q r P R h k =
     let u : a * q * r < b * p * r = mul-lt-mul-of-pos-right h R in
     let v : b * r * p < c * q * p = mul-lt-mul-of-pos-right k P in
-    let x : a * q * r ≡ a * r * q = mul-right-comm _ _ _ in
-    let y : b * p * r ≡ b * r * p = mul-right-comm _ _ _ in
-    let z : c * q * p ≡ c * p * q = mul-right-comm _ _ _ in
-    let w : a * r * q < c * p * q = omega (arith, u, v, x, y, z) in
-    lt-of-mul-lt-mul-right q w
+    cleared a c p q r (omega (arith, u, v, mul-right-comm b p r))
 
 same-across : (a b c p q r : ℕ) → 0 < p → a * q ≡ b * p → b * r < c * q → a * r < c * p
 same-across a b c p q r P h k =
     let v : b * r * p < c * q * p = mul-lt-mul-of-pos-right k P in
-    let u : a * q * r ≡ b * p * r = ap (λ (z : ℕ). z * r) h in
-    let x : a * q * r ≡ a * r * q = mul-right-comm _ _ _ in
-    let y : b * p * r ≡ b * r * p = mul-right-comm _ _ _ in
-    let z : c * q * p ≡ c * p * q = mul-right-comm _ _ _ in
-    let w : a * r * q < c * p * q = omega (arith, u, v, x, y, z) in
-    lt-of-mul-lt-mul-right q w
+    cleared a c p q r (omega (arith, v, ap (λ (z : ℕ). z * r) h, mul-right-comm b p r))
 
 same-above : (a b c p q r : ℕ) → 0 < p → a * q ≡ b * p → c * q < b * r → c * p < a * r
 same-above a b c p q r P h k =
     let v : c * q * p < b * r * p = mul-lt-mul-of-pos-right k P in
-    let u : a * q * r ≡ b * p * r = ap (λ (z : ℕ). z * r) h in
-    let x : a * q * r ≡ a * r * q = mul-right-comm _ _ _ in
-    let y : b * p * r ≡ b * r * p = mul-right-comm _ _ _ in
-    let z : c * q * p ≡ c * p * q = mul-right-comm _ _ _ in
-    let w : c * p * q < a * r * q = omega (arith, u, v, x, y, z) in
-    lt-of-mul-lt-mul-right q w
+    cleared c a r q p (omega (arith, v, ap (λ (z : ℕ). z * r) h, mul-right-comm b p r))
 
 -- ---- with their signs
 below-trans : (s t u : Bool) (a b c p q r : ℕ) → 0 < p → 0 < q → 0 < r → below s (a * q) t (b * p) ≡ true → below t (b * r) u (c * q) ≡ true → below s (a * r) u (c * p) ≡ true
