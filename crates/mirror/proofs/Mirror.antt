@@ -79,12 +79,8 @@ module _ (a b : ℤ) (limit : Limit) (m : ℕ) (old old' : List ℕ) (alike : Bo
         verdicts = verdicts;
         match-exactly = λ e. rw (back-written e) (rulers-mirror.mirror a b limit m .match-exactly (ruled a b limit m old e));
         one-half = rulers-mirror.mirror a b limit m .one-half;
-        one-more-below = λ e f l.
-            let o = rulers-mirror.mirror a b limit m .one-more-below (ruled a b limit m old e) f l in
-            record { extra = o .extra; is-next = o .is-next; others-match = bytes-written a b limit m old e ∙ o .others-match };
-        one-more-above = λ e f l.
-            let o = rulers-mirror.mirror a b limit m .one-more-above (ruled a b limit m old e) f l in
-            record { extra = o .extra; is-next = o .is-next; others-match = back-written e ∙ o .others-match };
+        one-more-below = λ e f l. rw (bytes-written a b limit m old e) (rulers-mirror.mirror a b limit m .one-more-below (ruled a b limit m old e) f l);
+        one-more-above = λ e f l. rw (back-written e) (rulers-mirror.mirror a b limit m .one-more-above (ruled a b limit m old e) f l);
       }
 
 -- ---- marks
@@ -126,12 +122,9 @@ module _ (a b : ℤ) (m : ℕ) (old old' : List ℤ) (alike : BothLong (length (
       record {
         verdicts = same-step;
         match-exactly = λ e. rw (marks-back e, marks-written a b m old e) (marks-mirror.mirror a b m .match-exactly (served a b m old e));
-        one-more-below = λ e f l.
-            let o = marks-mirror.mirror a b m .one-more-below (served a b m old e) f l in
-            record { extra = o .extra; is-next = o .is-next; others-match = rw (marks-back e, marks-written a b m old e) (o .others-match) };
+        one-more-below = λ e f l. rw (marks-back e, marks-written a b m old e) (marks-mirror.mirror a b m .one-more-below (served a b m old e) f l);
         one-more-above = λ e f l.
-            let o = marks-mirror.mirror a b m .one-more-above (served a b m old e) f l in
-            record { extra = o .extra; is-next = rw (marks-mirror.mirror a b m .same-step) (o .is-next); others-match = rw (marks-back e, marks-written a b m old e) (o .others-match) };
+            rw (marks-back e, marks-written a b m old e, marks-mirror.mirror a b m .same-step) (marks-mirror.mirror a b m .one-more-above (served a b m old e) f l);
       }
 
 -- ---- stepped axes: over either kind, from what is known of its list, its marks and its calls

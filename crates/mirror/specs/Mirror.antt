@@ -2,7 +2,7 @@
 -- statement over the rules that the calls promise, so over what the calls do. All of them hold of every number, so of the admitted ones, and of
 -- every mark limit. `demand-three` of proofs/Mirror proves `DemandThree`. Assumes nothing.
 use Prim.Native.Nat.{ℕ}
-use mathlib.Core.List.{List, [], _∷_, _++_, map}
+use mathlib.Core.List.{List, [], map}
 use mathlib.Core.Logic.{_⊎_, _↔_}
 use mathlib.Core.Path.{_≡_}
 use lib.Dec.{ltb}
@@ -18,7 +18,7 @@ use Rattle.real.specs.Mirror as film
 use Rattle.real.specs.Mirror.{negated, Opposite}
 use Rattle.numeric.specs.Marks.{low, high, stepOf, marks}
 use Rattle.numeric.specs.Calls.{wholeKeyPoints}
-use Rattle.numeric.specs.Mirror.{mirrored, nearestZero, Divides, NextTowardZero, stepOnly}
+use Rattle.numeric.specs.Mirror.{mirrored, nearestZero, Divides, OneMore, stepOnly}
 use Rattle.search.specs.Lists.{wholeSearch, realSearch}
 use Rattle.search.specs.Mirror.{turned}
 use Rattle.search.specs.declared.RoundingMethod.{RoundingMethod}
@@ -29,8 +29,8 @@ use Rattle.segmented.specs.Values.{Segment}
 use Rattle.segmented.specs.Segments.{segmentIndexOf, segmentPlace, segmentKeyPoints}
 use Rattle.segmented.specs.Axes.{steppedAxis, steppedFinder}
 use Rattle.segmented.specs.Mirror.{across}
-use Rattle.ruler.specs.Bytes.{Record, joined}
-use Rattle.ruler.specs.Rule.{markAt, recordsOf, rulerBytes, rulerWrite}
+use Rattle.ruler.specs.Bytes.{joined}
+use Rattle.ruler.specs.Rule.{recordsOf, rulerBytes, rulerWrite}
 use Rattle.ruler.specs.Mirror as ruler
 use Rattle.ruler.specs.Mirror.{accepted, verdict}
 
@@ -53,12 +53,8 @@ BothLong n old n' old' = ltb (length old) n ≡ ltb (length old') n'
 -- The needle nearest zero is zero if the axis holds it, otherwise the end nearer to zero.
 
 -- The half below zero is the axis (a, b), and z its needle nearest zero: what was written has exactly one mark more than the other half's records. It
--- is the last, the next multiple of the step past z, toward zero, and is placed by this axis's own rule; all others match.
-pub record RulerMore (a b : ℤ) (limit : Limit) (m : ℕ) (z : ℤ) (bytes : List ℕ) (fewer : List Record) : Type 0 where
-  pub extra : ℤ
-  pub is-next : NextTowardZero (stepOf a b m) z extra
-  pub others-match : bytes ≡ joined (ruler.turned fewer ++ (markAt a b limit extra ∷ []))
-
+-- is the last, the next multiple of the step past z, toward zero, and is placed by this axis's own rule; all others match: `ruler.OneMore`, of
+-- ruler/specs/Mirror.
 module _ (a b : ℤ) (limit : Limit) (m : ℕ) (old old' : List ℕ) where
   -- what writing the ruler of the draft does, and that of its mirror
   abbrev pub ruling : Answer (ℕ × ℕ) × List ℕ
@@ -76,17 +72,12 @@ module _ (a b : ℤ) (limit : Limit) (m : ℕ) (old old' : List ℕ) where
     -- Otherwise the axis lies below zero or above it, and the half below zero, which is this axis or its mirror, has exactly one mark more.
     pub one-half : (Divides (stepOf a b m) (nearestZero a b) → ⊥) → (high a b <ℤ pos 0) ⊎ (pos 0 <ℤ low a b)
     pub one-more-below : verdict (ruling .0) ≡ accepted → (Divides (stepOf a b m) (nearestZero a b) → ⊥) → high a b <ℤ pos 0
-        → RulerMore a b limit m (high a b) (wrote (λ x. x .0) ruling) (recordsOf (negℤ a) (negℤ b) (film.mirrored limit) m)
+        → ruler.OneMore a b limit m (high a b) (wrote (λ x. x .0) ruling) (recordsOf (negℤ a) (negℤ b) (film.mirrored limit) m)
     pub one-more-above : verdict (ruling .0) ≡ accepted → (Divides (stepOf a b m) (nearestZero a b) → ⊥) → pos 0 <ℤ low a b
-        → RulerMore (negℤ a) (negℤ b) (film.mirrored limit) m (negℤ (low a b)) (wrote (λ x. x .0) rulingBack) (recordsOf a b limit m)
+        → ruler.OneMore (negℤ a) (negℤ b) (film.mirrored limit) m (negℤ (low a b)) (wrote (λ x. x .0) rulingBack) (recordsOf a b limit m)
 
 -- ---- 01: marks of whole axes match when negated and in reverse order (`mirrored` of numeric/specs/Mirror); the same theorem for the call that writes
--- the marks alone, which also tells the step
-pub record MarkMore (a b : ℤ) (m : ℕ) (z : ℤ) (more fewer : List ℤ) : Type 0 where
-  pub extra : ℤ
-  pub is-next : NextTowardZero (stepOf a b m) z extra
-  pub others-match : more ≡ mirrored fewer ++ (extra ∷ [])
-
+-- the marks alone, which also tells the step. `OneMore` is that of numeric/specs/Mirror.
 module _ (a b : ℤ) (m : ℕ) (old old' : List ℤ) where
   abbrev pub marking : Answer (ℤ × ℕ) × List ℤ
   marking = wholeKeyPoints a b m old
@@ -99,9 +90,9 @@ module _ (a b : ℤ) (m : ℕ) (old old' : List ℤ) where
     pub match-exactly : verdict (marking .0) ≡ accepted
         → (wrote (λ x. x .1) markingBack ≡ mirrored (wrote (λ x. x .1) marking)) ↔ Divides (stepOf a b m) (nearestZero a b)
     pub one-more-below : verdict (marking .0) ≡ accepted → (Divides (stepOf a b m) (nearestZero a b) → ⊥) → high a b <ℤ pos 0
-        → MarkMore a b m (high a b) (wrote (λ x. x .1) marking) (wrote (λ x. x .1) markingBack)
+        → OneMore (stepOf a b m) (high a b) (wrote (λ x. x .1) marking) (wrote (λ x. x .1) markingBack)
     pub one-more-above : verdict (marking .0) ≡ accepted → (Divides (stepOf a b m) (nearestZero a b) → ⊥) → pos 0 <ℤ low a b
-        → MarkMore (negℤ a) (negℤ b) m (negℤ (low a b)) (wrote (λ x. x .1) markingBack) (wrote (λ x. x .1) marking)
+        → OneMore (stepOf (negℤ a) (negℤ b) m) (negℤ (low a b)) (wrote (λ x. x .1) markingBack) (wrote (λ x. x .1) marking)
 
 -- ---- demand 3, the second half, and the rest of 01's section: what is said of stepped axes, over either kind of numbers, `opposite` negating one. A list
 -- and its mirror are negated entry for entry in the same order: `Turned old new` says so.

@@ -1,19 +1,19 @@
 -- The bytes of a ruler and of its mirror, from the mirror of the marks and that of places. Assumes nothing.
-use mathlib.Core.Path.{_≡_, refl, sym, ap, ap₂, _∙_, subst}
+use mathlib.Core.Path.{_≡_, refl, sym, ap, ap₂, _∙_}
 use mathlib.Core.Bool.{Bool, true, false, cond, not, _&&_}
 use mathlib.Core.List.{List, [], _∷_, _++_, map, reverse, reverse-cons, map-append}
 use mathlib.Core.Logic.{_⊎_, inl, inr}
 use Prim.Native.Nat.{ℕ, _+_, _*_, _%_}
 use native.Mathlib.Omega.{arith}
-use lib.Dec.{T, eqb}
+use lib.Dec.{eqb}
 use lib.IntN.{ℤ, pos, negℤ, natAbs, negℤ-negℤ}
 use lib.ListN.{length, length-append}
 use lib.Signed.{_<ℤ_}
 use borrow.Author.Tests.{eqb-true, eqb-false}
+use Rattle.ruler.proofs.Places.{served}
 use Rattle.ranged1d.specs.Answer.{Answer, given, none, refused, _when_, lowest}
 use Rattle.ranged1d.specs.Admitted.{wholeAdmitted, limitAdmitted}
 use Rattle.ranged1d.specs.declared.Limit.{Limit}
-use Rattle.ranged1d.proofs.Bools.{both-true}
 use Rattle.ranged1d.proofs.Whole.{admitted-neg}
 use Rattle.numeric.specs.Marks.{low, high, noStep, stepOf, marks}
 use Rattle.numeric.specs.Mirror.{mirrored, nearestZero, Divides}
@@ -120,29 +120,21 @@ module _ (a b : ℤ) (limit : Limit) (m : ℕ) where
 
   -- ---- where there is a ruler
   module _ (h : hasRuler a b limit m ≡ true) where
-    served : noStep a b m ≡ false
-    unfolding hasRuler
-    served = go (noStep a b m) (both-true (limitAdmitted limit) (not (noStep a b m)) (both-true (wholeAdmitted a && wholeAdmitted b) (limitAdmitted limit && not (noStep a b m)) h .1) .1)
-      where
-        go : (t : Bool) → not t ≡ true → t ≡ false
-        go true e = absurd (subst T (sym e) tt)
-        go false e = refl
-
-    more-below : (Divides (stepOf a b m) (nearestZero a b) → ⊥) → high a b <ℤ pos 0 → OneMore a b limit m (high a b) (recordsOf (negℤ a) (negℤ b) −limit m)
+    more-below : (Divides (stepOf a b m) (nearestZero a b) → ⊥) → high a b <ℤ pos 0 → OneMore a b limit m (high a b) (rulerBytes a b limit m) (recordsOf (negℤ a) (negℤ b) −limit m)
     unfolding rulerBytes
     more-below f l =
-        let o = marks.mirror a b m .one-more-below served f l in
+        let o = marks.mirror a b m .one-more-below (served a b limit m h) f l in
         record { extra = o .extra; is-next = o .is-next; others-match = ap joined (records-back a b limit m (o .extra) (o .others-match)) }
 
-    more-above : (Divides (stepOf a b m) (nearestZero a b) → ⊥) → pos 0 <ℤ low a b → OneMore (negℤ a) (negℤ b) −limit m (negℤ (low a b)) (recordsOf a b limit m)
+    more-above : (Divides (stepOf a b m) (nearestZero a b) → ⊥) → pos 0 <ℤ low a b → OneMore (negℤ a) (negℤ b) −limit m (negℤ (low a b)) (rulerBytes (negℤ a) (negℤ b) −limit m) (recordsOf a b limit m)
     unfolding rulerBytes
     more-above f l =
-        let o = marks.mirror a b m .one-more-above served f l in
+        let o = marks.mirror a b m .one-more-above (served a b limit m h) f l in
         record { extra = o .extra; is-next = rw (marks.mirror a b m .same-step) (o .is-next); others-match = ap joined (records-more a b limit m (o .extra) (o .others-match)) }
 
     matching : Divides (stepOf a b m) (nearestZero a b) → rulerBytes (negℤ a) (negℤ b) −limit m ≡ joined (turned (recordsOf a b limit m))
     unfolding rulerBytes
-    matching e = ap joined (records-turned a b limit m (marks.mirror a b m .match-exactly served .1 e))
+    matching e = ap joined (records-turned a b limit m (marks.mirror a b m .match-exactly (served a b limit m h) .1 e))
 
     -- bytes that match are as many, and with one mark more they are not
     turned-long : length (joined (turned (recordsOf a b limit m))) ≡ 25 + 20 * length (marks a b m)
@@ -158,8 +150,8 @@ module _ (a b : ℤ) (limit : Limit) (m : ℕ) where
     divided e = go (eqb (natAbs (nearestZero a b) % stepOf a b m) 0) refl
       where
         no-half : (Divides (stepOf a b m) (nearestZero a b) → ⊥) → (high a b <ℤ pos 0) ⊎ (pos 0 <ℤ low a b) → ⊥
-        no-half f (inl l) = let n = marks.one-longer (marks.mirror a b m .one-more-below served f l) in omega (arith, lengths e)
-        no-half f (inr l) = let n = marks.one-longer (marks.mirror a b m .one-more-above served f l) in omega (arith, lengths e)
+        no-half f (inl l) = let n = marks.one-longer (marks.mirror a b m .one-more-below (served a b limit m h) f l) in omega (arith, lengths e)
+        no-half f (inr l) = let n = marks.one-longer (marks.mirror a b m .one-more-above (served a b limit m h) f l) in omega (arith, lengths e)
 
         go : (t : Bool) → eqb (natAbs (nearestZero a b) % stepOf a b m) 0 ≡ t → Divides (stepOf a b m) (nearestZero a b)
         go true q = eqb-true _ _ q

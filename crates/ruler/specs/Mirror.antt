@@ -44,12 +44,13 @@ verdict (refused n) = stopped n
 abbrev pub tooShort : ℤ → ℤ → Limit → ℕ → List ℕ → Bool
 tooShort a b limit m old = ltb (length old) (length (rulerBytes a b limit m))
 
--- the ruler of (a, b, limit, m), on the half below zero with z its needle nearest zero, has one record more than the records `fewer` of
--- the other half: its last, of the next multiple of the step past z toward zero, placed by the rule of its own axis; all others match
-pub record OneMore (a b : ℤ) (limit : Limit) (m : ℕ) (z : ℤ) (fewer : List Record) : Type 0 where
+-- the bytes of the ruler of (a, b, limit, m), on the half below zero with z its needle nearest zero, have one record more than the records
+-- `fewer` of the other half: the last, of the next multiple of the step past z toward zero, placed by the rule of its own axis; all others
+-- match
+pub record OneMore (a b : ℤ) (limit : Limit) (m : ℕ) (z : ℤ) (bytes : List ℕ) (fewer : List Record) : Type 0 where
   pub extra : ℤ
   pub is-next : NextTowardZero (stepOf a b m) z extra
-  pub others-match : rulerBytes a b limit m ≡ joined (turned fewer ++ (markAt a b limit extra ∷ []))
+  pub others-match : bytes ≡ joined (turned fewer ++ (markAt a b limit extra ∷ []))
 
 -- ---- the statement, for (a, b, p, q, m) and its mirror (−a, −b, −p, −q, m)
 pub record Mirrored (a b : ℤ) (limit : Limit) (m : ℕ) : Type 0 where
@@ -62,5 +63,5 @@ pub record Mirrored (a b : ℤ) (limit : Limit) (m : ℕ) : Type 0 where
   -- otherwise the axis lies below zero or above it,
   pub one-half : (Divides (stepOf a b m) (nearestZero a b) → ⊥) → (high a b <ℤ pos 0) ⊎ (pos 0 <ℤ low a b)
   -- and the half below zero, which is this axis or its mirror, has exactly one record more
-  pub one-more-below : hasRuler a b limit m ≡ true → (Divides (stepOf a b m) (nearestZero a b) → ⊥) → high a b <ℤ pos 0 → OneMore a b limit m (high a b) (recordsOf (negℤ a) (negℤ b) (film.mirrored limit) m)
-  pub one-more-above : hasRuler a b limit m ≡ true → (Divides (stepOf a b m) (nearestZero a b) → ⊥) → pos 0 <ℤ low a b → OneMore (negℤ a) (negℤ b) (film.mirrored limit) m (negℤ (low a b)) (recordsOf a b limit m)
+  pub one-more-below : hasRuler a b limit m ≡ true → (Divides (stepOf a b m) (nearestZero a b) → ⊥) → high a b <ℤ pos 0 → OneMore a b limit m (high a b) (rulerBytes a b limit m) (recordsOf (negℤ a) (negℤ b) (film.mirrored limit) m)
+  pub one-more-above : hasRuler a b limit m ≡ true → (Divides (stepOf a b m) (nearestZero a b) → ⊥) → pos 0 <ℤ low a b → OneMore (negℤ a) (negℤ b) (film.mirrored limit) m (negℤ (low a b)) (rulerBytes (negℤ a) (negℤ b) (film.mirrored limit) m) (recordsOf a b limit m)
