@@ -1,6 +1,5 @@
 -- How a call's answer crosses the C interface. Assumes nothing.
 use lib.IntN.{ℤ, pos, negsuc}
-use Rattle.ranged1d.specs.declared.Limit.{Limit}
 use Rattle.ranged1d.specs.Answer.{Answer, given, none, refused}
 
 -- what is returned: 0 where the call answered, a refusal's number, −1 for none
@@ -18,7 +17,3 @@ outAfter f (refused n) old = old
 -- a call whose answer is one number, with one out pointer
 abbrev pub single : {A : Type 0} → Answer A → A → ℤ × A
 single x old = (code x, outAfter (λ a. a) x old)
-
--- limits come as two numbers
-abbrev pub limitOf : ℤ → ℤ → Limit
-limitOf p q = record { 0 = p; 1 = q }

@@ -2,6 +2,7 @@
 mod segments;
 
 ghost use mathlib.Core.Path.{_≡_};
+ghost use Rattle.ranged1d.specs.Admitted.{limitOf};
 ghost use Rattle.numeric.specs.Calls.{tellMarks, wholeKeyPoints, indexKeyPoints};
 ghost use Rattle.numeric.specs.Whole.{tellCount, tellIndex, tellValue, wholeSize, wholeIndexOf, wholeFromIndex, wholeReading};
 ghost use Rattle.real.specs.Place.{tellPlace, wholePlace, realPlace};
@@ -14,7 +15,7 @@ ghost use Rattle.search.specs.Lists.{wholeSearch, realSearch};
 ghost use Rattle.culvraod.specs.Search.{methodOf, byMethod};
 ghost use Rattle.ruler.specs.Rule.{rulerWrite, rulerRead, recordIn, labelIn, sideOf};
 ghost use Rattle.culvraod.specs.Ruler.{rulerOf, readC, partC, pairC};
-ghost use Rattle.culvraod.specs.Boundary.{single, limitOf};
+ghost use Rattle.culvraod.specs.Boundary.{single};
 ghost use Rattle.culvraod.specs.Numeric.{marksC, keyPointsC};
 use float::FloatPrettyPrinter;
 use float::Label;

@@ -11,6 +11,7 @@ use lib.Signed.{leZ, nonNeg}
 use borrow.Author.Tests.{leb-true, leb-false, lt-ltb, le-ltb}
 use Rattle.ranged1d.specs.Answer.{Answer, given, none, refused, _when_, lowest, written}
 use Rattle.ranged1d.specs.Admitted.{wholeAdmitted}
+use Rattle.ranged1d.proofs.Bools as tests
 use Rattle.numeric.specs.declared.KeyPoints.{KeyPoints}
 use Rattle.numeric.specs.Marks.{low, high, distance, chosen, stepAt, firstIndex, lastIndex, howMany, listOf, multiple, noStepFor, noStep, stepFor, stepOf, marksFor, marks}
 use Rattle.numeric.specs.Calls.{wholeKeyPoints, wholePlan, planOf, element, indexMarks, indexKeyPoints}
@@ -20,8 +21,7 @@ use Rattle.numeric.proofs.Bounds.{multiple-element, marks-near, count-n
 
 -- of the two ends of an admitted axis each is admitted
 pub one-near : (a b : ℤ) → natAbs a ≤ 1000000000 → natAbs b ≤ 1000000000 → (t : Bool) → natAbs (cond t a b) ≤ 1000000000
-one-near a b ha hb true = ha
-one-near a b ha hb false = hb
+one-near a b ha hb t = tests.chosen (λ (z : ℤ). natAbs z ≤ 1000000000) t ha hb
 
 -- what is known of a plan that was given
 pub record Good (a b : ℤ) (m : ℕ) (p : KeyPoints) : Type 0 where

@@ -17,5 +17,9 @@ indexAdmitted k = leb k 1_000_000_000
 abbrev pub pixelAdmitted : ℤ → Bool
 pixelAdmitted x = leb (natAbs x) 1_000_000
 
+-- limits from two numbers
+abbrev pub limitOf : ℤ → ℤ → Limit
+limitOf p q = record { 0 = p; 1 = q }
+
 abbrev pub limitAdmitted : Limit → Bool
 limitAdmitted l = pixelAdmitted (l .0) && pixelAdmitted (l .1)

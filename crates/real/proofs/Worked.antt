@@ -6,34 +6,32 @@ use lib.IntN.{ℤ, pos, negsuc}
 use lib.Ieee.{Float, nan, inf, fin, binary64, eq, sub, div, mul, add, ofInt, ofBits}
 use Rattle.ranged1d.specs.Answer.{Answer, given, none, refused}
 use Rattle.ranged1d.specs.declared.Limit.{Limit}
+use Rattle.ranged1d.specs.Admitted.{limitOf}
 use Rattle.rounding.specs.Within.{wholeOf, within}
 use Rattle.real.specs.Place.{rising, falling, along, spot, realPlace, wholePlace}
 use Rattle.real.specs.Reading.{realReading}
 
-abbrev limits : ℤ → ℤ → Limit
-limits p q = record { 0 = p; 1 = q }
-
 -- needle 7 on the axis 7..7, film 100..300
-equal-ends : wholePlace (pos 7) (pos 7) (pos 7) (limits (pos 100) (pos 300)) ≡ given (pos 100)
+equal-ends : wholePlace (pos 7) (pos 7) (pos 7) (limitOf (pos 100) (pos 300)) ≡ given (pos 100)
 unfolding wholePlace spot eq ofInt
 equal-ends = refl
 
 -- −15, −10, −5 and 0 on −15..−3, film 0..120
-below-zero : map (λ v. wholePlace (negsuc 14) (negsuc 2) v (limits (pos 0) (pos 120))) (negsuc 14 ∷ negsuc 9 ∷ negsuc 4 ∷ pos 0 ∷ [])
+below-zero : map (λ v. wholePlace (negsuc 14) (negsuc 2) v (limitOf (pos 0) (pos 120))) (negsuc 14 ∷ negsuc 9 ∷ negsuc 4 ∷ pos 0 ∷ [])
     ≡ given (pos 0) ∷ given (pos 50) ∷ given (pos 100) ∷ given (pos 150) ∷ []
 unfolding wholePlace spot along rising falling within wholeOf eq sub div mul add ofInt ofBits
 below-zero = refl
 
 -- 3, 15 and 4 on 3..15, film 120..0
-above-zero : map (λ v. wholePlace (pos 3) (pos 15) v (limits (pos 120) (pos 0))) (pos 3 ∷ pos 15 ∷ pos 4 ∷ []) ≡ given (pos 120) ∷ given (pos 0) ∷ given (pos 110) ∷ []
+above-zero : map (λ v. wholePlace (pos 3) (pos 15) v (limitOf (pos 120) (pos 0))) (pos 3 ∷ pos 15 ∷ pos 4 ∷ []) ≡ given (pos 120) ∷ given (pos 0) ∷ given (pos 110) ∷ []
 unfolding wholePlace spot along rising falling within wholeOf eq sub div mul add ofInt ofBits
 above-zero = refl
 
 -- the lowest refusal: 1 before 2, 2 before 5
 refusals :
-    wholePlace (pos 0) (pos 1) (pos 1_000_000_001) (limits (pos 0) (pos 1_000_001))
-    ∷ wholePlace (pos 0) (pos 1) (pos 1_000_000_000) (limits (pos 0) (pos 1_000_001))
-    ∷ wholePlace (pos 0) (pos 1) (pos 1_000_000_000) (limits (pos 0) (pos 2))
+    wholePlace (pos 0) (pos 1) (pos 1_000_000_001) (limitOf (pos 0) (pos 1_000_001))
+    ∷ wholePlace (pos 0) (pos 1) (pos 1_000_000_000) (limitOf (pos 0) (pos 1_000_001))
+    ∷ wholePlace (pos 0) (pos 1) (pos 1_000_000_000) (limitOf (pos 0) (pos 2))
     ∷ []
     ≡ refused 1 ∷ refused 2 ∷ refused 5 ∷ []
 unfolding wholePlace spot along rising falling within wholeOf eq sub div mul add ofInt ofBits
@@ -46,30 +44,30 @@ one = fin false 1 (pos 0)
 from-zero : (v : Float) → Limit → Answer ℤ
 from-zero v limit = realPlace (fin false 0 (pos 0)) one v limit
 
-odd-values : map (λ v. from-zero v (limits (negsuc 2) (pos 9))) (inf false ∷ inf true ∷ nan ∷ ofBits binary64 0x3FD3_3333_3333_3333 ∷ [])
+odd-values : map (λ v. from-zero v (limitOf (negsuc 2) (pos 9))) (inf false ∷ inf true ∷ nan ∷ ofBits binary64 0x3FD3_3333_3333_3333 ∷ [])
     ≡ given (pos 9) ∷ given (negsuc 2) ∷ given (negsuc 2) ∷ given (pos 0) ∷ []
 unfolding from-zero one realPlace spot along rising falling within wholeOf eq sub div mul add ofInt ofBits
 odd-values = refl
 
-farthest-place : map (λ v. from-zero v (limits (pos 0) (pos 2))) (ofInt binary64 (pos 500_000_000) ∷ fin false 1_000_000_001 (negsuc 0) ∷ [])
+farthest-place : map (λ v. from-zero v (limitOf (pos 0) (pos 2))) (ofInt binary64 (pos 500_000_000) ∷ fin false 1_000_000_001 (negsuc 0) ∷ [])
     ≡ given (pos 1_000_000_000) ∷ refused 5 ∷ []
 unfolding from-zero one realPlace spot along rising falling within wholeOf eq sub div mul add ofInt ofBits
 farthest-place = refl
 
 -- ends −0.0 and 0.0 are equal
-zero-ends : realPlace (fin true 0 (pos 0)) (fin false 0 (pos 0)) one (limits (pos 10) (pos 3)) ≡ given (negsuc 2)
+zero-ends : realPlace (fin true 0 (pos 0)) (fin false 0 (pos 0)) one (limitOf (pos 10) (pos 3)) ≡ given (negsuc 2)
 unfolding one realPlace spot eq
 zero-ends = refl
 
 -- pixel 1 of 0..49 on an axis 0..49: the number just under 1; pixels off the film; and a film without length
-just-under : realReading (fin false 0 (pos 0)) (fin false 49 (pos 0)) (pos 1) (limits (pos 0) (pos 49)) ≡ given (fin false 9_007_199_254_740_991 (negsuc 52))
+just-under : realReading (fin false 0 (pos 0)) (fin false 49 (pos 0)) (pos 1) (limitOf (pos 0) (pos 49)) ≡ given (fin false 9_007_199_254_740_991 (negsuc 52))
 unfolding realReading sub div mul add ofInt
 just-under = refl
 
-outside-both : map (λ x. realReading (fin false 0 (pos 0)) one x (limits (pos 10) (pos 0))) (pos 11 ∷ negsuc 0 ∷ []) ≡ none ∷ none ∷ []
+outside-both : map (λ x. realReading (fin false 0 (pos 0)) one x (limitOf (pos 10) (pos 0))) (pos 11 ∷ negsuc 0 ∷ []) ≡ none ∷ none ∷ []
 unfolding realReading
 outside-both = refl
 
-no-length : map (λ x. realReading (fin false 0 (pos 0)) one x (limits (pos 3) (pos 3))) (pos 3 ∷ pos 1_000_001 ∷ []) ≡ none ∷ refused 2 ∷ []
+no-length : map (λ x. realReading (fin false 0 (pos 0)) one x (limitOf (pos 3) (pos 3))) (pos 3 ∷ pos 1_000_001 ∷ []) ≡ none ∷ refused 2 ∷ []
 unfolding realReading
 no-length = refl

@@ -13,7 +13,7 @@ use mathlib.Core.List.{append-nil}
 use mir.Syntax.{w32}
 use mir.Val.{SFits}
 use Rattle.ranged1d.specs.Answer.{Answer, given, none, refused}
-use Rattle.ranged1d.specs.Admitted.{limitAdmitted}
+use Rattle.ranged1d.specs.Admitted.{limitAdmitted, limitOf}
 use Rattle.ranged1d.specs.declared.Limit.{Limit}
 use Rattle.ranged1d.proofs.Answers.{not-both, not-none}
 use Rattle.ranged1d.proofs.Whole.{fits32, both-near}
@@ -133,10 +133,10 @@ read-complete l a b limit m {k} fm w =
     ap rulerRead (sym (take-length l) ∙ ap (take (length l)) (sym (ap (λ (r : Answer (ℕ × ℕ) × List ℕ). r .1) w))) ∙ back
 
 -- ---- sound: bytes that are accepted are what the writer gives for the numbers that were read, whatever the lent list of that length held
-pub read-sound : (l : List ℕ) (r : Ruler) → rulerRead l ≡ given r → (old : List ℕ) → length old ≡ length l → rulerWrite (r .a) (r .b) (record { 0 = r .p; 1 = r .q }) (r .m) old ≡ (given (length l, r .marks), l)
+pub read-sound : (l : List ℕ) (r : Ruler) → rulerRead l ≡ given r → (old : List ℕ) → length old ≡ length l → rulerWrite (r .a) (r .b) (limitOf (r .p) (r .q)) (r .m) old ≡ (given (length l, r .marks), l)
 read-sound l r e old same = go (isRuler l) refl
   where
-    given-by : isRuler l ≡ true → rulerWrite (r .a) (r .b) (record { 0 = r .p; 1 = r .q }) (r .m) old ≡ (given (length l, r .marks), l)
+    given-by : isRuler l ≡ true → rulerWrite (r .a) (r .b) (limitOf (r .p) (r .q)) (r .m) old ≡ (given (length l, r .marks), l)
     given-by t =
         let plan = ruler-in l t .0 in
         let bytes = ruler-in l t .1 in
@@ -146,11 +146,11 @@ read-sound l r e old same = go (isRuler l) refl
         let k : Known l (draftIn l) (planOf (aIn l) (bIn l) (mIn l)) = record { ruler = t; draft = refl; plan = plan; bytes = bytes } in
         let x : _≡_ {A = Answer Ruler} (given (rulerOf (aIn l) (bIn l) (limitIn l) (mIn l) (pos (stepOf (aIn l) (bIn l) (mIn l))) (length (marks (aIn l) (bIn l) (mIn l))))) (given r) = sym (read-known k) ∙ e in
         let is : rulerOf (aIn l) (bIn l) (limitIn l) (mIn l) (pos (stepOf (aIn l) (bIn l) (mIn l))) (length (marks (aIn l) (bIn l) (mIn l))) ≡ r = cc in
-        subst (λ (r : Ruler). rulerWrite (r .a) (r .b) (record { 0 = r .p; 1 = r .q }) (r .m) old ≡ (given (length l, r .marks), l)) is
+        subst (λ (r : Ruler). rulerWrite (r .a) (r .b) (limitOf (r .p) (r .q)) (r .m) old ≡ (given (length l, r .marks), l)) is
         (write-fits (aIn l) (bIn l) (limitIn l) (mIn l) plan old enough
         ∙ rw (drop-of-length-le old nothing, append-nil (rulerBytes (aIn l) (bIn l) (limitIn l) (mIn l)), long, ← bytes))
 
-    go : (t : Bool) → isRuler l ≡ t → rulerWrite (r .a) (r .b) (record { 0 = r .p; 1 = r .q }) (r .m) old ≡ (given (length l, r .marks), l)
+    go : (t : Bool) → isRuler l ≡ t → rulerWrite (r .a) (r .b) (limitOf (r .p) (r .q)) (r .m) old ≡ (given (length l, r .marks), l)
     go true t = given-by t
     go false t = absurd (not-both (sym e ∙ read-nothing l t))
 

@@ -6,6 +6,7 @@ use Prim.Native.Nat.{ℕ}
 use lib.IntN.{pos, negsuc}
 use lib.Ieee.{ofInt, eq}
 use Rattle.ranged1d.specs.Answer.{given}
+use Rattle.ranged1d.specs.Admitted.{limitOf}
 use Rattle.numeric.specs.Marks.{stepAt, firstOf, chosen, noStepFor, stepFor, marksFor}
 use Rattle.decimal.specs.Print.{digits}
 use Rattle.decimal.specs.Read.{sameBytes}
@@ -15,7 +16,7 @@ use Rattle.ruler.specs.Bytes.{axisBody, markBody, laid}
 use Rattle.ruler.specs.Rule.{rulerBytes, rulerRead, hasRuler, isRuler, hasMark, recordIn, labelIn}
 
 abbrev bytes : List ℕ
-bytes = rulerBytes (negsuc 6) (negsuc 6) (record { 0 = negsuc 99; 1 = negsuc 299 }) 0
+bytes = rulerBytes (negsuc 6) (negsuc 6) (limitOf (negsuc 99) (negsuc 299)) 0
 
 shown : bytes
     ≡ 1 ∷ 249 ∷ 255 ∷ 255 ∷ 255 ∷ 249 ∷ 255 ∷ 255 ∷ 255 ∷ 156 ∷ 255 ∷ 255 ∷ 255 ∷ 212 ∷ 254 ∷ 255 ∷ 255 ∷ 0 ∷ 0 ∷ 0 ∷ 0 ∷ 1 ∷ 0 ∷ 0 ∷ 0

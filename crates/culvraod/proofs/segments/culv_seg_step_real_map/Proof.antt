@@ -4,10 +4,10 @@ use borrow.Author.Needs.{needs}
 use denote.Ref.{now}
 use mir.Facts.{toZ-ofZ}
 use mir.Syntax.{w32}
+use Rattle.ranged1d.specs.Admitted.{limitOf}
 use Rattle.linspace.specs.List.{real}
 use Rattle.segmented.specs.Axes.{steppedAxis, steppedFinder}
 use Rattle.segmented.specs.Segments.{segmentPlace}
-use Rattle.culvraod.specs.Boundary.{limitOf}
 use Rattle.culvraod.proofs.Crossing.{handed}
 use Rattle.culvraod.proofs.SegmentCrossing.{chosen}
 use Rattle.culvraod.proofs.segments.culv_seg_step_real_map.Statement.{statement}

@@ -6,10 +6,10 @@ use mir.Facts.{toZ-ofZ}
 use mir.Syntax.{w32}
 use Rattle.segmented.specs.Axes.{wholeAxis, wholeFinder}
 use Rattle.ranged1d.specs.Answer.{Answer, andThen}
+use Rattle.ranged1d.specs.Admitted.{limitOf}
 use lib.IntN.{ℤ}
 use Rattle.segmented.specs.Values.{Segment}
 use Rattle.segmented.specs.Segments.{segmentPlace}
-use Rattle.culvraod.specs.Boundary.{limitOf}
 use Rattle.culvraod.proofs.Crossing.{handed}
 use Rattle.culvraod.proofs.segments.culv_seg_whole_map.Statement.{statement}
 use Rattle.culvraod.proofs.segments.culv_seg_whole_map.Tie as tie
