@@ -1,18 +1,18 @@
 -- A real stepped axis: when its step leads away, which way its list runs, and what each call answers, return by return. Assumes nothing.
 use mathlib.Core.Path.{_≡_, refl, sym, ap, _∙_}
-use mathlib.Core.Bool.{Bool, true, false, cond, true≢false, _||_, or-false}
+use mathlib.Core.Bool.{Bool, true, false, true≢false}
 use mathlib.Core.List.{List, [], _∷_}
 use Prim.Native.Nat.{ℕ, _+_, _-_, _≤_, _<_}
 use native.Mathlib.Omega.{arith}
 use borrow.Author.Tests.{lt-ltb, le-ltb}
 use lib.ListN.{length}
-use lib.Ieee.{Float, lt, le, eq}
-use Rattle.linspace.proofs.Entries.{run-some, some-if}
+use lib.Ieee.{Float, lt, le}
 use Rattle.ranged1d.specs.Answer.{Answer, given, refused}
 use Rattle.search.proofs.RealOrder.{real-order}
 use Rattle.linspace.specs.List.{real, entries, toward, run, stepped, against}
 use Rattle.linspace.specs.Calls.{hasEntries, stepSize}
 use Rattle.linspace.specs.RealSteps.{plusStep, Walked}
+use Rattle.linspace.proofs.Ways as ways
 use Rattle.linspace.proofs.Walks.{entries-few}
 
 -- the same axis told twice
@@ -22,47 +22,21 @@ same-axis f e = rw (e .0, e .1, e .2) refl
 module _ (a b d : Float) where
   -- ---- 6
   pub against-up : lt a b ≡ true → le d (real .nil) ≡ against real a b d
-  unfolding against le
-  against-up h = rw (h, real-order .asym a b h) (sym (or-false (lt d (real .nil) || eq d (real .nil))))
+  unfolding le
+  against-up h = ways.against-up real real-order a b d h
 
   pub against-down : lt a b ≡ false → lt b a ≡ true → le (real .nil) d ≡ against real a b d
-  unfolding against le
-  against-down h k = rw (h, k) refl
-
-  pub against-none : lt a b ≡ false → lt b a ≡ false → against real a b d ≡ false
-  unfolding against
-  against-none h k = rw (h, k) refl
-
-  -- ---- which way the list runs
-  stepped-up : lt a b ≡ true → stepped real a b d ≡ cond (lt (plusStep d a) b) (run real a b d true) []
-  unfolding stepped
-  stepped-up h = rw (h, real-order .asym a b h) refl
-
-  stepped-down : lt a b ≡ false → lt b a ≡ true → stepped real a b d ≡ cond (lt b (plusStep d a)) (run real a b d false) []
-  unfolding stepped
-  stepped-down h k = rw (h, k) refl
-
-  pub stepped-none : lt a b ≡ false → lt b a ≡ false → stepped real a b d ≡ []
-  unfolding stepped
-  stepped-none h k = rw (h, k) refl
-
-  pub has-up : lt a b ≡ true → lt (plusStep d a) b ≡ hasEntries (stepped real a b d)
-  has-up h = some-if (lt (plusStep d a) b) (run real a b d true) (run-some real a b d true h) ∙ sym (ap hasEntries (stepped-up h))
-
-  pub has-down : lt a b ≡ false → lt b a ≡ true → lt b (plusStep d a) ≡ hasEntries (stepped real a b d)
-  has-down h k = some-if (lt b (plusStep d a)) (run real a b d false) (run-some real a b d false k) ∙ sym (ap hasEntries (stepped-down h k))
-
-  pub has-none : lt a b ≡ false → lt b a ≡ false → hasEntries (stepped real a b d) ≡ false
-  has-none h k = ap hasEntries (stepped-none h k)
+  unfolding le
+  against-down h k = ways.against-down real real-order a b d h k
 
   -- ---- the list, where it has entries and where it has none
   pub stepped-run : hasEntries (stepped real a b d) ≡ true → stepped real a b d ≡ run real a b d (lt a b)
   stepped-run s = go (lt a b) refl (lt b a) refl
     where
       go : (t : Bool) → lt a b ≡ t → (u : Bool) → lt b a ≡ u → stepped real a b d ≡ run real a b d t
-      go true h u k = stepped-up h ∙ rw (has-up h ∙ s) refl
-      go false h true k = stepped-down h k ∙ rw (has-down h k ∙ s) refl
-      go false h false k = absurd (true≢false (sym s ∙ has-none h k))
+      go true h u k = ways.stepped-up real real-order a b d h ∙ rw (ways.has-up real real-order a b d h ∙ s) refl
+      go false h true k = ways.stepped-down real real-order a b d h k ∙ rw (ways.has-down real real-order a b d h k ∙ s) refl
+      go false h false k = absurd (true≢false (sym (ways.has-level real real-order a b d h k ∙ s)))
 
   pub stepped-empty : hasEntries (stepped real a b d) ≡ false → stepped real a b d ≡ []
   stepped-empty s = go (stepped real a b d) s

@@ -9,6 +9,7 @@ use lib.Dec.{T}
 use lib.IntN.{ℤ}
 use lib.ListN.{length, getD}
 use lib.Ieee.{Float, nan, inf, fin, binary64, fits, isNan, add, lt, le, eq}
+use Rattle.linspace.proofs.Ways.{has-up, has-down, has-level}
 use Rattle.ranged1d.specs.Answer.{Answer, refused, _when_, lowest}
 use Rattle.ranged1d.specs.Numbers.{every}
 use Rattle.ranged1d.proofs.Bools.{both-false, or-right}
@@ -32,7 +33,7 @@ use Rattle.linspace.specs.List.{real, entries, toward, stepped, against}
 use Rattle.linspace.specs.Calls.{hasEntries, stepIndexOf}
 use Rattle.linspace.specs.RealSteps.{plusStep, after, Parted}
 use Rattle.linspace.proofs.Walks.{entries-on, entries-off, entry-is, entry-passes, entries-none}
-use Rattle.linspace.proofs.Axis.{against-up, against-down, has-up, has-down, has-none, stepped-run, stepped-empty, stepped-total}
+use Rattle.linspace.proofs.Axis.{against-up, against-down, stepped-run, stepped-empty, stepped-total}
 use Rattle.linspace.proofs.RealList.{run-ascends}
 
 -- ---- a step that does not lead away, on a list with entries, leads on
@@ -68,11 +69,11 @@ module _ (a b d : Float) where
       go : (t : Bool) → lt a b ≡ t → (u : Bool) → lt b a ≡ u → search-steps.toward t lt (zeroOf false) d ≡ true
       go true h u k =
           let n = neither d (zeroOf false) (against-up a b d h ∙ e) in
-          real-order .total d (zeroOf false) (summand a d (real-order .left (plusStep d a) b (has-up a b d h ∙ s))) (zeros-equal false false) (n .0) (n .1)
+          real-order .total d (zeroOf false) (summand a d (real-order .left (plusStep d a) b (has-up real real-order a b d h ∙ s))) (zeros-equal false false) (n .0) (n .1)
       go false h true k =
           let n = neither (zeroOf false) d (against-down a b d h k ∙ e) in
-          real-order .total (zeroOf false) d (zeros-equal false false) (summand a d (real-order .right b (plusStep d a) (has-down a b d h k ∙ s))) (n .0) (n .1)
-      go false h false k = absurd (true≢false (sym s ∙ has-none a b d h k))
+          real-order .total (zeroOf false) d (zeros-equal false false) (summand a d (real-order .right b (plusStep d a) (has-down real real-order a b d h k ∙ s))) (n .0) (n .1)
+      go false h false k = absurd (true≢false (sym (has-level real real-order a b d h k ∙ s)))
 
 -- ---- every entry passes the test of the walk
 every-entry : {A : Type 0} (passes : A → Bool) (next : A → A) (q : A → Bool) → ((x : A) → passes x ≡ true → q x ≡ true) → (n : ℕ) (x : A) → every q (entries passes next n x) ≡ true

@@ -1,4 +1,5 @@
 pub mod Entries
+pub mod Ways
 pub mod Rules
 pub mod Marks
 pub mod WholeList

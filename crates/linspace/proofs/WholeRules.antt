@@ -1,11 +1,11 @@
 -- The steps of the calls on whole stepped axes, by the tests that lead to each answer. Assumes nothing.
 use mathlib.Core.Path.{_≡_, refl, sym, ap, subst, _∙_}
-use mathlib.Core.Bool.{true, false, true≢false, or-false}
+use mathlib.Core.Bool.{true, false, true≢false}
 use Prim.Native.Nat.{ℕ, _+_, _-_, _/_, _≤_, _<_}
 use native.Mathlib.Decide.{decLt}
 use native.Mathlib.Omega.{arith}
 use borrow.Author.Tests.{le-leb, lt-leb, ltb-false}
-use lib.IntN.{ℤ, pos, natAbs, _+ℤ_, _-ℤ_, +ℤ-invr}
+use lib.IntN.{ℤ, pos, natAbs, _-ℤ_, +ℤ-invr}
 use lib.ListN.{length}
 use lib.Signed.{ltZ, leZ}
 use Rattle.ranged1d.specs.Answer.{Answer, given, refused}
@@ -13,41 +13,19 @@ use Rattle.ranged1d.specs.declared.Limit.{Limit}
 use Rattle.ranged1d.proofs.Whole.{less-or-same}
 use Rattle.real.specs.Place.{wholePlace}
 use Rattle.search.proofs.WholeOrder.{whole-order}
-use Rattle.linspace.specs.List.{whole, most, run, stepped, against, axisAdmitted}
-use Rattle.linspace.specs.Calls.{hasEntries}
+use Rattle.linspace.specs.List.{whole, most, stepped, against, axisAdmitted}
 use Rattle.linspace.specs.WholeSteps.{wholeCount, Known}
-use Rattle.linspace.proofs.Entries.{run-some, some-if}
+use Rattle.linspace.proofs.Ways as ways
 use Rattle.linspace.proofs.Rules.{counts, Counted, counted, endsPlace}
 use Rattle.linspace.proofs.WholeList.{sloped, too-long, not-long, length-is, admitted-near}
 
 -- ---- 6
 module _ (a b d : ℤ) where
   pub against-up : ltZ a b ≡ true → leZ d (pos 0) ≡ against whole a b d
-  unfolding against
-  against-up e = rw (e, whole-order .asym a b e) (less-or-same d (pos 0) ∙ sym (or-false _))
+  against-up e = less-or-same d (pos 0) ∙ ways.against-up whole whole-order a b d e
 
-  module _ (n : ltZ a b ≡ false) where
-    pub against-down : ltZ b a ≡ true → leZ (pos 0) d ≡ against whole a b d
-    unfolding against
-    against-down e = rw (n, e) (less-or-same (pos 0) d)
-
-    pub against-level : ltZ b a ≡ false → false ≡ against whole a b d
-    unfolding against
-    against-level e = rw (n, e) refl
-
-  -- ---- whether there is an entry: the first two come before b
-  pub entries-up : ltZ a b ≡ true → ltZ (a +ℤ d) b ≡ hasEntries (stepped whole a b d)
-  unfolding stepped
-  entries-up e = rw (e, whole-order .asym a b e) (some-if (ltZ (a +ℤ d) b) (run whole a b d true) (run-some whole a b d true e))
-
-  module _ (n : ltZ a b ≡ false) where
-    pub entries-down : ltZ b a ≡ true → ltZ b (a +ℤ d) ≡ hasEntries (stepped whole a b d)
-    unfolding stepped
-    entries-down e = rw (n, e) (some-if (ltZ b (a +ℤ d)) (run whole a b d false) (run-some whole a b d false e))
-
-    pub entries-level : ltZ b a ≡ false → false ≡ hasEntries (stepped whole a b d)
-    unfolding stepped
-    entries-level e = rw (n, e) refl
+  pub against-down : ltZ a b ≡ false → ltZ b a ≡ true → leZ (pos 0) d ≡ against whole a b d
+  against-down n e = less-or-same (pos 0) d ∙ ways.against-down whole whole-order a b d n e
 
   -- ---- the count
   module _ (p s : ℕ) (span : p ≡ natAbs (b -ℤ a)) (size : s ≡ natAbs d) where

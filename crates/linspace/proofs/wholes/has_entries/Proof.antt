@@ -5,9 +5,11 @@ use lib.IntN.{_+ℤ_}
 use mir.Facts.{toZ-ofZ}
 use mir.Syntax.{w32}
 use mir.Val.{SFits, toZ, ofZ}
+use Rattle.search.proofs.WholeOrder.{whole-order}
+use Rattle.linspace.specs.List.{whole}
 use Rattle.ranged1d.proofs.Whole.{fits32, add-far}
 use Rattle.linspace.proofs.WholeList.{admitted-near}
-use Rattle.linspace.proofs.WholeRules.{entries-up, entries-down, entries-level}
+use Rattle.linspace.proofs.Ways.{has-up, has-down, has-level}
 use Rattle.linspace.proofs.wholes.has_entries.Statement.{statement}
 use Rattle.linspace.proofs.wholes.has_entries.Tie as tie
 
@@ -35,17 +37,17 @@ add-c c = rw (a-is (at c), d-is (at c)) (sum-fits (at c))
 returns : tie.Need-returns
 returns c =
     let s = at (c .before) in
-    rw (a-is s, d-is s, b-is s, toZ-ofZ (sum-fits s)) (entries-up (s .args .s .a) (s .args .s .b) (s .args .s .d) (rw (a-is s, b-is s) at (c .if1 .taken)))
+    rw (a-is s, d-is s, b-is s, toZ-ofZ (sum-fits s)) (has-up whole whole-order (s .args .s .a) (s .args .s .b) (s .args .s .d) (rw (a-is s, b-is s) at (c .if1 .taken)))
 
 returns-2 : tie.Need-returns-2
 returns-2 c =
     let s = at (c .before .before) in
-    rw (a-is s, d-is s, b-is s, toZ-ofZ (sum-fits s)) (entries-down (s .args .s .a) (s .args .s .b) (s .args .s .d) (rw (a-is s, b-is s) at (c .before .if1 .left)) (rw (b-is s, a-is s) at (c .if2 .taken)))
+    rw (a-is s, d-is s, b-is s, toZ-ofZ (sum-fits s)) (has-down whole whole-order (s .args .s .a) (s .args .s .b) (s .args .s .d) (rw (a-is s, b-is s) at (c .before .if1 .left)) (rw (b-is s, a-is s) at (c .if2 .taken)))
 
 returns-3 : tie.Need-returns-3
 returns-3 c =
     let s = at (c .before .before) in
-    entries-level (s .args .s .a) (s .args .s .b) (s .args .s .d) (rw (a-is s, b-is s) at (c .before .if1 .left)) (rw (b-is s, a-is s) at (c .if2 .left))
+    has-level whole whole-order (s .args .s .a) (s .args .s .b) (s .args .s .d) (rw (a-is s, b-is s) at (c .before .if1 .left)) (rw (b-is s, a-is s) at (c .if2 .left))
 
 pub has-entries-spec : {M : Type 1} → statement M
 has-entries-spec = tie.close (tie.spec add-c returns returns-2 returns-3)

@@ -3,7 +3,10 @@ use mathlib.Core.Path.{_≡_}
 use mir.Facts.{toZ-ofZ}
 use mir.Syntax.{w32}
 use mir.Val.{toZ, ofZ}
-use Rattle.linspace.proofs.WholeRules.{against-up, against-down, against-level}
+use Rattle.search.proofs.WholeOrder.{whole-order}
+use Rattle.linspace.specs.List.{whole}
+use Rattle.linspace.proofs.Ways.{against-level}
+use Rattle.linspace.proofs.WholeRules.{against-up, against-down}
 use Rattle.linspace.proofs.wholes.leads_away.Statement.{statement}
 use Rattle.linspace.proofs.wholes.leads_away.Tie as tie
 
@@ -35,7 +38,7 @@ returns-3 : tie.Need-returns-3
 returns-3 c =
     let told = c .before .before in
     let s = at told in
-    against-level (s .args .s .a) (s .args .s .b) (s .args .s .d) (rw (a-is told, b-is told) at (c .before .if1 .left)) (rw (b-is told, a-is told) at (c .if2 .left))
+    against-level whole whole-order (s .args .s .a) (s .args .s .b) (s .args .s .d) (rw (a-is told, b-is told) at (c .before .if1 .left)) (rw (b-is told, a-is told) at (c .if2 .left))
 
 pub leads-away-spec : {M : Type 1} → statement M
 leads-away-spec = tie.close (tie.spec returns returns-2 returns-3)
