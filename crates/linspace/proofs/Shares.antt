@@ -12,7 +12,8 @@ use lib.ListN.{length}
 use lib.Signed.{ltZ}
 use lib.Ieee.{Float}
 use Rattle.ranged1d.specs.Answer.{none}
-use Rattle.discrete.specs.Index.{floorDiv, raised, isZero, noIndex, indexBy, indexFor}
+use Rattle.ranged1d.specs.Numbers.{raised}
+use Rattle.discrete.specs.Index.{floorDiv, isZero, noIndex, indexBy, indexFor}
 use Rattle.discrete.proofs.Index.{at-limits, past-limits}
 use Rattle.linspace.specs.Calls.{nth, nthOf}
 use Rattle.linspace.specs.RealSteps.{all, Part, Shares}
