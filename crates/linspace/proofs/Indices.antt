@@ -75,6 +75,15 @@ module _ (a b d : Float) where
           real-order .total (zeroOf false) d (zeros-equal false false) (summand a d (real-order .right b (plusStep d a) (has-down real real-order a b d h k ∙ s))) (n .0) (n .1)
       go false h false k = absurd (true≢false (sym (has-level real real-order a b d h k ∙ s)))
 
+  -- where there is an entry, b is a number
+  pub end-number : hasEntries (stepped real a b d) ≡ true → eq b b ≡ true
+  end-number s = go (lt a b) refl (lt b a) refl
+    where
+      go : (t : Bool) → lt a b ≡ t → (u : Bool) → lt b a ≡ u → eq b b ≡ true
+      go true h u k = real-order .right a b h
+      go false h true k = real-order .left b a k
+      go false h false k = absurd (true≢false (sym (has-level real real-order a b d h k ∙ s)))
+
 -- ---- every entry passes the test of the walk
 every-entry : {A : Type 0} (passes : A → Bool) (next : A → A) (q : A → Bool) → ((x : A) → passes x ≡ true → q x ≡ true) → (n : ℕ) (x : A) → every q (entries passes next n x) ≡ true
 every-entry passes next q f zero x = ap (every q) (entries-none passes next 0 x refl)

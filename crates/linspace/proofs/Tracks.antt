@@ -1,16 +1,18 @@
 -- A track along a real stepped axis: its one comparison is the test of the list, in either direction, and a step of it is a step of the list. A second
 -- sum behind it. Assumes nothing.
 use mathlib.Core.Path.{_≡_, refl, sym, ap, ap₂, subst, _∙_}
-use mathlib.Core.Bool.{Bool, true, false, cond}
+use mathlib.Core.Bool.{Bool, true, false, cond, true≢false}
 use mathlib.Core.List.{[], _∷_}
 use Prim.Native.Nat.{ℕ, zero, suc, _+_, _≤_, _<_}
 use native.Mathlib.Omega.{arith}
 use lib.Dec.{T}
-use lib.Ieee.{Float, nan, binary64, fits, add, lt}
+use lib.Ieee.{Float, nan, binary64, fits, add, lt, eq}
 use lib.ListN.{getD}
 use Rattle.real.proofs.Signs.{zeroOf}
+use Rattle.search.proofs.Orders.{way}
+use Rattle.search.proofs.RealOrder.{real-order}
 use Rattle.linspace.specs.List.{real, toward}
-use Rattle.linspace.specs.RealSteps.{plusStep, after, Walked}
+use Rattle.linspace.specs.RealSteps.{plusStep, after, Walked, nearest}
 use Rattle.linspace.specs.Walks.{Tracked, Stepped, headOf}
 use Rattle.linspace.specs.declared.reals.Track.{Track}
 use Rattle.linspace.proofs.Walks.{walk-starts, walk-on}
@@ -79,6 +81,32 @@ module _ (rises : Bool) (t₀ : Track) where
       let k = i a b d w in
       let q : toward real rises b (headOf rises t) ≡ true = sym (runs-test t (k .0)) ∙ p in
       (runs-on t r (k .0) g, subst (λ (y : Float). Walked (toward real rises b) (plusStep d) 65537 a (n + 1) y) (sym (head-on t r (k .0) g)) (walk-on (toward real rises b) (plusStep d) 65537 a n (headOf rises t) (k .1) h q))
+
+-- ---- what comes before the nearer of two comes before both, and what does not comes not before both
+module _ (rises : Bool) (b t : Float) (number : eq b b ≡ true) (self : eq t t ≡ true) where
+  abbrev before : Float → Float → Bool
+  before y x = toward real rises y x
+
+  behind-first : before b t ≡ false → (x : Float) → before b x ≡ true → before t x ≡ true
+  behind-first e x h = go (eq t b) refl
+    where
+      go : (u : Bool) → eq t b ≡ u → before t x ≡ true
+      go true f = way real-order rises .lead x b t h (way real-order rises .even b t ∙ f)
+      go false f = way real-order rises .trans x b t h (way real-order rises .total t b self number e f)
+
+  pub before-both : (x : Float) → before (nearest rises b t) x ≡ true → (before b x ≡ true) × (before t x ≡ true)
+  before-both x h = go (before b t) refl h
+    where
+      go : (u : Bool) → before b t ≡ u → before (cond u t b) x ≡ true → (before b x ≡ true) × (before t x ≡ true)
+      go true e h = (way real-order rises .trans x t b h e, h)
+      go false e h = (h, behind-first e x h)
+
+  pub not-both-before : (x : Float) → before (nearest rises b t) x ≡ false → before b x ≡ true → before t x ≡ false
+  not-both-before x h p = go (before b t) h
+    where
+      go : (u : Bool) → before (cond u t b) x ≡ false → before t x ≡ false
+      go true h = h
+      go false h = absurd (true≢false (sym p ∙ h))
 
 -- ---- the second sum: it stands still, or takes a step
 pub trail-sum : (d x : Float) → T (fits binary64 x) → (i : ℕ) → i ≤ 1 → add binary64 x (getD (zeroOf true ∷ d ∷ []) i nan) ≡ after (plusStep d) i x

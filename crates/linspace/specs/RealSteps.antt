@@ -1,7 +1,7 @@
 -- What the walks along a real stepped axis find, for the promises of private functions. Assumes nothing.
 use Prim.Native.Nat.{ℕ, zero, suc, _+_, _-_, _*_, _/_, _≤_, _<_}
 use mathlib.Core.Path.{_≡_}
-use mathlib.Core.Bool.{Bool, true, false}
+use mathlib.Core.Bool.{Bool, true, false, cond}
 use mathlib.Core.List.{List, _++_}
 use lib.ListN.{length}
 use Rattle.numeric.specs.Marks.{listOf}
@@ -9,12 +9,16 @@ use lib.Ieee as Ieee
 use lib.Ieee.{Float, binary64}
 use lib.IntN.{ℤ}
 use Rattle.discrete.specs.Index.{indexFor}
-use Rattle.linspace.specs.List.{entries}
+use Rattle.linspace.specs.List.{real, entries, toward}
 use Rattle.linspace.specs.Calls.{nth, nthOf}
 
 -- the sum behind x
 abbrev pub plusStep : Float → Float → Float
 plusStep d x = Ieee.add binary64 x d
+
+-- t or b, whichever comes first on the way
+abbrev pub nearest : Bool → Float → Float → Float
+nearest rises b t = cond (toward real rises b t) t b
 
 -- x after k steps
 unfoldable pub after : {A : Type 0} → (A → A) → ℕ → A → A

@@ -5,6 +5,7 @@ ghost use lib.Dec.{eqb, ltb};
 ghost use Prim.Native.Nat.{_+_, _-_, _/_, _≤_, _<_};
 ghost use lib.IntN.{natAbs};
 ghost use lib.ListN.{length};
+ghost use lib.Ieee.{nan, eq};
 ghost use Rattle.ranged1d.specs.Answer.{given, none, refused};
 ghost use Rattle.ranged1d.specs.Admitted.{pixelAdmitted, limitAdmitted};
 ghost use Rattle.numeric.specs.Whole.{tellCount, tellIndex};
@@ -12,7 +13,7 @@ ghost use Rattle.real.specs.Place.{tellPlace};
 ghost use Rattle.real.specs.Reading.{tellReading};
 ghost use Rattle.linspace.specs.List.{real, entries, stepped, against, toward};
 ghost use Rattle.linspace.specs.Calls.{tellListed, hasEntries, stepValues, stepSize, stepFromIndex, stepIndexOf, stepPlace, stepReading, stepKeyPoints};
-ghost use Rattle.linspace.specs.RealSteps.{plusStep, after, Passed, Parted, Reached, Behind, Part, Shares};
+ghost use Rattle.linspace.specs.RealSteps.{plusStep, after, Passed, Parted, Reached, Behind, Part, Shares, nearest};
 ghost use Rattle.linspace.specs.Walks.{tellWalk, PassedBy, Tracked, Stepped, headOf, Trails};
 use crate::Linspacef64;
 use crate::Listed;
@@ -207,27 +208,44 @@ fn reach(rises: bool, s: Steps, k: u64) -> Spot
     }
 }
 
+// t or b, whichever comes first: what comes before it comes before both.
+fn nearer(rises: bool, t: f64, b: f64) -> f64
+    ensures { λ r. ⌜ r ≡ nearest rises b t ⌝ }
+{
+    if precedes(rises, t, b) { t } else { b }
+}
+
 // Walks to the first entry that does not come before t.
 fn approach(rises: bool, s: Steps, t: f64) -> Sides
+    requires { ⌜ eq (s .b) (s .b) ≡ true ⌝ }
+    requires { ⌜ eq t t ≡ true ⌝ }
     ensures { λ r. ⌜ Parted (toward real rises (s .b)) (plusStep (s .d)) 65537 (s .a) (toward real rises t) (r .n) (r .left) (r .right) ⌝ }
 {
-    let b = s.b;
-    let d = s.d;
+    let goal = Steps {
+        a: s.a,
+        b: nearer(rises, t, s.b),
+        d: s.d,
+    };
     let mut n = 0;
     let mut left = t;
-    let mut right = s.a;
+    let mut y = track_at(rises, goal, s.a);
     while n < 65537 {
-        if !precedes(rises, right, b) {
-            return Sides { n, left, right };
+        if !(y.low < y.high) {
+            return Sides {
+                n,
+                left,
+                right: head(rises, y),
+            };
         }
-        if !precedes(rises, right, t) {
-            return Sides { n, left, right };
-        }
-        left = right;
-        right = right + d;
+        left = head(rises, y);
+        y = step_on(y);
         n += 1;
     }
-    Sides { n, left, right }
+    Sides {
+        n,
+        left,
+        right: head(rises, y),
+    }
 }
 
 // The sum after k further steps.
@@ -313,20 +331,34 @@ fn counted(s: Steps) -> Count
     }
 }
 
+// The index that a search answers for a NaN with.
+fn index_of_nan(s: Steps, v: f64, method: RoundingMethod) -> Index
+    requires { ⌜ against real (s .a) (s .b) (s .d) ≡ false ⌝ }
+    requires { ⌜ hasEntries (stepped real (s .a) (s .b) (s .d)) ≡ true ⌝ }
+    requires { ⌜ v ≡ nan ⌝ }
+    ensures { λ r. ⌜ tellIndex r ≡ stepIndexOf real (s .a) (s .b) (s .d) v method ⌝ }
+{
+    let n = count_on(s.a < s.b, s, s.a, 0);
+    if 65536 < n {
+        return Index::Refused(Refusal::ListTooLong);
+    }
+    search::settle_nan(method, n)
+}
+
 // The index of v, the list being walked once.
 fn index_along(s: Steps, v: f64, method: RoundingMethod) -> Index
     requires { ⌜ against real (s .a) (s .b) (s .d) ≡ false ⌝ }
     requires { ⌜ hasEntries (stepped real (s .a) (s .b) (s .d)) ≡ true ⌝ }
     ensures { λ r. ⌜ tellIndex r ≡ stepIndexOf real (s .a) (s .b) (s .d) v method ⌝ }
 {
+    if v != v {
+        return index_of_nan(s, v, method);
+    }
     let rises = s.a < s.b;
     let w = approach(rises, s, v);
     let n = count_on(rises, s, w.right, w.n);
     if 65536 < n {
         return Index::Refused(Refusal::ListTooLong);
-    }
-    if v != v {
-        return search::settle_nan(method, n);
     }
     search::settle_real(method, rises, n, w.n, w.left, v, w.right)
 }
