@@ -64,7 +64,8 @@ struct Track {
     lower: f64,
 }
 
-// A second sum behind the first: how far the film is gone at the first, in 2^40ths of an entry, and the sum after k steps, k being the whole entries of it.
+// A second sum, behind the first: the share of the entries that the first has passed, in 2^40ths of an entry, how many whole entries that is, and the
+// sum after so many steps.
 struct Trail {
     gone: u64,
     k: u64,
@@ -480,7 +481,7 @@ fn share(d: i32, w: i32) -> u64
     0
 }
 
-// The second sum, once the first has taken a step: it takes one where a whole entry more is gone.
+// The second sum, once the first has taken a step: it takes one where a whole entry more is gone. At most 65,536 shares, 2^56 parts, were gone before.
 fn trail_on(y: Trail, d: f64, share: u64) -> Trail
     requires { ⌜ share ≤ 1099511627776 ⌝ }
     requires { ⌜ y .gone ≤ 72057594037927936 ⌝ }
