@@ -79,7 +79,7 @@ pub fn report_written<I: Copy, N: Copy + Default, T: Default, P>(
     input: I,
     len: usize,
     ours: impl Fn(I, &mut [N], &mut T) -> i32,
-    plotters: impl Fn(I) -> P,
+    mut plotters: impl FnMut(I) -> P,
 ) {
     let out = &mut vec![N::default(); len];
     let mut last_code = |n| {

@@ -1,6 +1,7 @@
 //! Times of calls on stepped axes.
 
 use plotters::coord::ranged1d::DiscreteRanged;
+use std::hint::black_box;
 
 use super::calls::{FromIndex, IndexOf, Map, Size, Unmap};
 use super::library::Library;
@@ -13,9 +14,14 @@ use crate::timing::report_written;
 const ENTRIES: [u64; 4] = [10, 100, 1_000, 65_536];
 
 /// Times a call beside what plotters makes of the same.
-fn time<N: Library, T>(call: &str, listing: Listing<N>, made: fn(Listing<N>) -> T) {
+fn time<N: Library, T>(
+    call: &str,
+    beside: &str,
+    listing: Listing<N>,
+    made: impl FnMut(Listing<N>) -> T,
+) {
     let count = rule::count(listing.axis).unwrap_or(0);
-    let title = format!("{call} of {count} entries");
+    let title = format!("{call} of {count} entries{beside}");
     let ours = |listing: Listing<N>, out: &mut [N], told: &mut usize| {
         // SAFETY: `out` is a list of that length, and `told` is one number.
         unsafe { listing.function(out.as_mut_ptr(), out.len(), told) }
@@ -23,14 +29,21 @@ fn time<N: Library, T>(call: &str, listing: Listing<N>, made: fn(Listing<N>) -> 
     report_written(&title, listing, count, ours, made);
 }
 
-/// The last entry of plotters' list: it has been made, but need not be handed over.
-fn last<A: DiscreteRanged>(axis: A) -> Option<A::ValueType> {
-    axis.from_index(axis.size() - 1)
-}
-
-/// Every entry of plotters' list, in a list of the caller's, as ours gives them.
-fn every<A: DiscreteRanged>(axis: A) -> Vec<A::ValueType> {
-    axis.values().collect()
+/// Times the list, beside plotters' list as its `values` gives it, written to a list that is made
+/// once, as for ours; and beside the making of plotters' list alone, of which only the last entry
+/// is asked.
+fn time_list<N: Library>(list: Listing<N>) {
+    let held = &mut vec![N::ZERO; rule::count(list.axis).unwrap_or(0)];
+    time(N::NAMES.values, ", all read", list, |list| {
+        for (place, value) in held.iter_mut().zip(N::plotters(list.axis).values()) {
+            *place = value;
+        }
+        black_box(&held);
+    });
+    time(N::NAMES.values, ", made and not read", list, |list| {
+        let axis = N::plotters(list.axis);
+        axis.from_index(axis.size() - 1)
+    });
 }
 
 fn kind<N: Library>(step: N) {
@@ -46,10 +59,8 @@ fn kind<N: Library>(step: N) {
             d: step,
         };
         let (list, marks) = (Listing { axis, m: None }, Listing { axis, m: Some(10) });
-        let handed = format!("{}, handed over,", N::NAMES.values);
-        time(N::NAMES.values, list, |list| last(N::plotters(list.axis)));
-        time(&handed, list, |list| every(N::plotters(list.axis)));
-        time(N::NAMES.key_points, marks, Listing::plotters);
+        time_list(list);
+        time(N::NAMES.key_points, "", marks, Listing::plotters);
     }
 }
 
