@@ -6,11 +6,12 @@ use native.Mathlib.Omega.{arith}
 use lib.Dec.{eqb}
 use lib.IntN.{ℤ, pos}
 use lib.Ieee.{Float, nan, inf, fin, up, down, binary64, lt, eq, neg, div, isNan}
-use lib.Ieee.Fits.{up-pos, down-pos}
+use lib.Ieee.Fits.{up-pos}
 use borrow.Author.Tests.{ltb-true, ltb-false, lt-ltb, le-ltb, eqb-true, eq-eqb}
 use Rattle.ranged1d.proofs.Bools.{both-true}
 use Rattle.rounding.proofs.Order.{eq-zero}
 use Rattle.rounding.proofs.Signs.{zeroF}
+use Rattle.rounding.proofs.Sizes.{AtLeast}
 use Rattle.rounding.proofs.Steps.{oneF}
 use Rattle.float.specs.Text.{signOf, sizeOf}
 use Rattle.float.specs.Calls.{printable}
@@ -84,24 +85,8 @@ admit-yes (fin false m e) h l =
     let q : m * up e * 1 < 9007199254740992 * down e = ltb-true (m * up e * 1) (9007199254740992 * down e) h in
     sym (lt-ltb (m * up e) (2 ^ 53 * down e) (omega arith))
 
-pub admit-low : (n : Float) → lt low n ≡ false → false ≡ printable n
-unfolding lt printable
-admit-low nan l = refl
-admit-low (inf s) l = refl
-admit-low (fin true m e) l =
-    let q : 9007199254740992 * down e ≤ m * up e * 1 = ltb-false (m * up e * 1) (9007199254740992 * down e) l in
-    sym (le-ltb (m * up e) (2 ^ 53 * down e) (omega arith))
-admit-low (fin false m e) l =
-    let q : 9007199254740992 * down e + m * up e * 1 ≤ 0 = ltb-false 0 (9007199254740992 * down e + m * up e * 1) l in
-    absurd (omega (arith, down-pos e))
-
-pub admit-high : (n : Float) → lt n high ≡ false → false ≡ printable n
-unfolding lt printable
-admit-high nan l = refl
-admit-high (inf s) l = refl
-admit-high (fin false m e) l =
-    let q : 9007199254740992 * down e ≤ m * up e * 1 = ltb-false (m * up e * 1) (9007199254740992 * down e) l in
-    sym (le-ltb (m * up e) (2 ^ 53 * down e) (omega arith))
-admit-high (fin true m e) l =
-    let q : m * up e * 1 + 9007199254740992 * down e ≤ 0 = ltb-false 0 (m * up e * 1 + 9007199254740992 * down e) l in
-    absurd (omega (arith, down-pos e))
+pub admit-no : (n : Float) → AtLeast (2 ^ 53) n → false ≡ printable n
+unfolding printable
+admit-no nan h = refl
+admit-no (inf s) h = refl
+admit-no (fin s m e) h = sym (le-ltb (m * up e) (2 ^ 53 * down e) h)

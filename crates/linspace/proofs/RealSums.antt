@@ -18,9 +18,9 @@ use lib.Ieee.Exact.{HasValue, round-exact}
 use lib.Ieee.Fits.{up-pos, down-pos, and-l, and-r, neg-fits, add-fits}
 use lib.Ieee.Order.{round-mono, le-of-values}
 use Rattle.rounding.proofs.Order.{eq-zero}
-use Rattle.rounding.proofs.Signs.{round-neg}
+use Rattle.rounding.proofs.Signs.{round-neg, lt-neg}
 use Rattle.real.proofs.Signs.{zeroOf, Alike, neg-zero, same-through, turns-alike, add-turns}
-use Rattle.search.proofs.RealOrder.{never, real-order, lt-neg}
+use Rattle.search.proofs.RealOrder.{never, real-order}
 use Rattle.search.proofs.Mirror.{lt-zero}
 
 -- ---- numbers that fit are written in one way

@@ -17,3 +17,8 @@ or-right x y h = rw h (or-true x)
 pub chosen : {A : Type 0} (P : A → Type 0) (b : Bool) {x y : A} → P x → P y → P (cond b x y)
 chosen P true p q = p
 chosen P false p q = q
+
+-- where both are the same, either is
+pub cond-same : {A : Type 0} (c : Bool) {x y : A} → x ≡ y → cond c x y ≡ y
+cond-same true e = e
+cond-same false e = refl

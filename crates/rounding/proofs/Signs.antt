@@ -6,6 +6,7 @@ use lib.Dec.{ltb, leb}
 use lib.IntN.{ℤ, pos, negℤ, negℤ-negℤ, natAbs}
 use lib.Ieee.{Float, nan, inf, fin, Format, prec, emax, low, up, down, odd, units, round, neg, lt}
 use borrow.Author.Tests.{ltb-true, le-ltb}
+use native.Mathlib.Nat.{add-comm}
 use native.Mathlib.Omega.{arith}
 use Rattle.ranged1d.proofs.Whole.{neg-far}
 use Rattle.rounding.specs.Integral.{Way, floors, ceils, halves, integral, isWhole, sized}
@@ -31,6 +32,27 @@ neg-neg (inf true) = refl
 neg-neg (inf false) = refl
 neg-neg (fin true m e) = refl
 neg-neg (fin false m e) = refl
+
+-- negation turns the order round
+pub lt-neg : (x y : Float) → lt (neg x) (neg y) ≡ lt y x
+unfolding lt neg
+lt-neg nan nan = refl
+lt-neg nan (inf t) = refl
+lt-neg nan (fin t b d) = refl
+lt-neg (inf s) nan = refl
+lt-neg (inf true) (inf true) = refl
+lt-neg (inf true) (inf false) = refl
+lt-neg (inf false) (inf true) = refl
+lt-neg (inf false) (inf false) = refl
+lt-neg (inf true) (fin t b d) = refl
+lt-neg (inf false) (fin t b d) = refl
+lt-neg (fin s a e) nan = refl
+lt-neg (fin s a e) (inf true) = refl
+lt-neg (fin s a e) (inf false) = refl
+lt-neg (fin false a e) (fin false b d) = refl
+lt-neg (fin false a e) (fin true b d) = ap (ltb 0) (add-comm (a * up e * down d) (b * up d * down e))
+lt-neg (fin true a e) (fin false b d) = refl
+lt-neg (fin true a e) (fin true b d) = refl
 
 -- ---- rounding to a format is odd
 odd-neg : (d : ℕ) (s : Bool) (q k l : ℕ) → odd d (not s) q k l ≡ neg (odd d s q k l)

@@ -2,12 +2,12 @@
 use mathlib.Core.Path.{_≡_, refl, sym, ap, _∙_, subst}
 use mathlib.Core.Bool.{Bool, true, false, _&&_, true≢false}
 use Prim.Native.Nat.{ℕ, zero, suc, _+_, _-_, _*_, _/_, _%_, _^_, _≤_, _<_}
-use native.Mathlib.Nat.{mul-one, mul-left-comm, mul-assoc, mul-comm, add-mul, one-mul, suc-mul, zero-mul, add-zero, mod-one, mul-mod-left, div-add-mod', pow-suc, pow-succ', zero-lt-suc, lt-of-lt-of-le, lt-of-mul-lt-mul-right, mul-le-mul-left}
+use native.Mathlib.Nat.{mul-one, mul-left-comm, mul-assoc, mul-comm, add-mul, one-mul, suc-mul, zero-mul, add-zero, mod-one, mul-mod-left, div-add-mod', pow-suc, pow-succ', zero-lt-suc, lt-of-lt-of-le, lt-of-mul-lt-mul-right, mul-le-mul-left, mul-pos}
 use native.Mathlib.Omega.{arith}
 use lib.Dec.{T, ltb, eqb, leb, ltb→lt, lt→ltb, le→leb, lit≤}
 use lib.IntN.{ℤ, pos, negsuc, natAbs}
 use lib.Pow.{pow-pos, pow-mono, shl-lt}
-use lib.Ieee.{Float, nan, inf, fin, Format, binary32, binary64, prec, emax, low, up, down, lt, ne, ofInt, round, add, sum, fits, toSigned, inFloat, inSigned}
+use lib.Ieee.{Float, nan, inf, fin, Format, binary32, binary64, prec, emax, low, up, down, lt, ne, ofInt, round, add, sum, neg, fits, toSigned, inFloat, inSigned}
 use lib.Ieee.Fits.{down-pos, and-l, and-r}
 use lib.Ieee.Exact.{HasValue, round-exact}
 use lib.Ieee.Scale.{round-same}
@@ -17,11 +17,11 @@ use borrow.Author.Tests.{ltb-false, eq-eqb, ne-eqb, lt-leb}
 use Rattle.rounding.specs.Integral.{Way, floors, halves, integral, sized, upper}
 use Rattle.rounding.specs.Within.{signed, wholeOf, kept, within}
 use Rattle.rounding.specs.declared.Whole.the-variants.{Number, Beyond}
-use Rattle.rounding.proofs.Compare.{Says, Tells, compared, own, under, over}
+use Rattle.rounding.proofs.Compare.{Says, Tells, compared, own, under}
 use Rattle.rounding.proofs.Quotients.{Is, sized-of, sized-next, sized-whole, sized-le, sized-is}
-use Rattle.rounding.proofs.Signs.{zeroF}
+use Rattle.rounding.proofs.Signs.{zeroF, neg-neg, lt-neg}
 use Rattle.rounding.proofs.Sums.{whole-sum}
-use Rattle.rounding.proofs.Steps.{big, Small, before, signed-abs, of-signed, not-below}
+use Rattle.rounding.proofs.Steps.{Small, before, signed-abs, of-signed, not-below}
 
 abbrev pub half : Float
 half = fin false 1 (negsuc 0)
@@ -66,29 +66,36 @@ big-whole f s (suc m) (negsuc k) t h = absurd (no (2 ^ (prec f - 1)) (2 ^ k) (po
     no : (a q : ℕ) → 0 < q → a * (2 * q) ≤ suc m * 1 → suc m < 2 * a → ⊥
     no a q b c d = let l : a * 2 ≤ a * (2 * q) = mul-le-mul-left a (omega arith) in omega arith
 
--- x is not finite, or 2 ^ 52 or more in size
+-- x is not finite, or C or more in size
+abbrev pub AtLeast : ℕ → Float → Type 0
+AtLeast C nan = Unit {0}
+AtLeast C (inf s) = Unit {0}
+AtLeast C (fin s m e) = C * down e ≤ m * up e
+
 abbrev pub Large : Float → Type 0
-Large nan = Unit {0}
-Large (inf s) = Unit {0}
-Large (fin s m e) = 4503599627370496 * down e ≤ m * up e
+Large x = AtLeast 4503599627370496 x
 
-pub large-low : (x : Float) → lt (big true) x ≡ false → Large x
+-- what is not below 2 ^ k, or not above −2 ^ k
+pub least-high : (k : ℕ) (x : Float) → lt x (fin false 1 (pos k)) ≡ false → AtLeast (2 ^ k) x
 unfolding lt
-large-low nan h = tt
-large-low (inf s) h = tt
-large-low (fin true m e) h = over true false m e (big true) 4503599627370496 (refl, refl) h
-large-low (fin false m e) h =
-    let l : 4503599627370496 * down e + m * up e * 1 ≤ 0 = ltb-false 0 (4503599627370496 * down e + m * up e * 1) h in
-    absurd (omega (arith, down-pos e))
+least-high k nan h = tt
+least-high k (inf s) h = tt
+least-high k (fin false m e) h = under false false m e (fin false 1 (pos k)) (2 ^ k) (refl, ap (λ (n : ℕ). n * 1) (one-mul (2 ^ k))) h
+least-high k (fin true m e) h =
+    let l : m * up e * 1 + 1 * 2 ^ k * down e ≤ 0 = ltb-false 0 (m * up e * 1 + 1 * 2 ^ k * down e) h in
+    let p : 0 < 1 * 2 ^ k * down e = rw (one-mul (2 ^ k)) (mul-pos (pow-pos k) (down-pos e)) in
+    absurd (omega (arith, l, p))
 
-pub large-high : (x : Float) → lt x (big false) ≡ false → Large x
-unfolding lt
-large-high nan h = tt
-large-high (inf s) h = tt
-large-high (fin false m e) h = under false false m e (big false) 4503599627370496 (refl, refl) h
-large-high (fin true m e) h =
-    let l : m * up e * 1 + 4503599627370496 * down e ≤ 0 = ltb-false 0 (m * up e * 1 + 4503599627370496 * down e) h in
-    absurd (omega (arith, down-pos e))
+least-neg : (C : ℕ) (x : Float) → AtLeast C (neg x) → AtLeast C x
+unfolding neg
+least-neg C nan h = tt
+least-neg C (inf s) h = tt
+least-neg C (fin true m e) h = h
+least-neg C (fin false m e) h = h
+
+pub least-low : (k : ℕ) (x : Float) → lt (fin true 1 (pos k)) x ≡ false → AtLeast (2 ^ k) x
+unfolding neg
+least-low k x h = least-neg (2 ^ k) x (least-high k (neg x) (sym (lt-neg (fin false 1 (pos k)) (neg x)) ∙ ap (lt (fin true 1 (pos k))) (neg-neg x) ∙ h))
 
 pub stays-large : (w : Way) (x : Float) → fits binary64 x ≡ true → Large x → integral binary64 w x ≡ x
 unfolding integral

@@ -15,14 +15,13 @@ use lib.Ieee.{Float, nan, inf, fin, binary64, up, down, below, round, neg, sum, 
 use Rattle.ranged1d.specs.Admitted.{wholeAdmitted}
 use Rattle.ranged1d.specs.Numbers.{every}
 use Rattle.ranged1d.proofs.Whole.{neg-le, neg-lt, admitted-neg}
-use Rattle.rounding.proofs.Signs.{neg-neg}
+use Rattle.rounding.proofs.Signs.{neg-neg, lt-neg}
 use Rattle.real.proofs.Signs.{Alike, zeroOf, eq-neg, eq-alike, alike-on, alike-through, same-through, add-left}
 use Rattle.search.specs.Search.{wholes, reals, search}
 use Rattle.search.specs.Lists.{wholeSearch, realSearch}
 use Rattle.search.specs.Mirror.{turned, Mirrored, Each, end, more}
 use Rattle.search.specs.declared.RoundingMethod.{RoundingMethod}
 use Rattle.search.specs.declared.RoundingMethod.the-variants.{Exact, Ceil, Floor, Round}
-use Rattle.search.proofs.RealOrder.{lt-neg}
 use Rattle.search.proofs.Turned.{Turns, each-length, search-turned, searchable-turned, exact-stays}
 
 -- ---- whole numbers: each is the negation of the other

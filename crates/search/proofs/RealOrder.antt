@@ -2,7 +2,7 @@
 use mathlib.Core.Path.{_≡_, refl, sym, ap, subst, _∙_}
 use mathlib.Core.Bool.{Bool, true, false, true≢false, _&&_, _||_, not, Bool·beq}
 use Prim.Native.Nat.{ℕ, zero, suc, _+_, _*_, _≤_, _<_}
-use native.Mathlib.Nat.{add-comm, mul-right-comm, zero-mul, mul-pos, lt-of-mul-lt-mul-right, mul-lt-mul-of-pos-right}
+use native.Mathlib.Nat.{mul-right-comm, zero-mul, mul-pos, lt-of-mul-lt-mul-right, mul-lt-mul-of-pos-right}
 use native.Mathlib.Omega.{arith}
 use native.Mathlib.Decide.{decLt}
 use borrow.Author.Tests.{lt-ltb, le-ltb, eq-eqb, ne-eqb, ltb-true, ltb-false, eqb-true, eqb-false}
@@ -12,6 +12,7 @@ use lib.Ieee.{Float, nan, inf, fin, up, down, below, level, lt, eq, neg}
 use lib.Ieee.Fits.{down-pos}
 use Rattle.ranged1d.proofs.Bools.{both-true}
 use Rattle.rounding.proofs.Order.{eq-zero}
+use Rattle.rounding.proofs.Signs.{lt-neg}
 use Rattle.real.proofs.Signs.{eq-neg}
 use Rattle.real.proofs.Exact.{eq-self}
 use Rattle.search.proofs.Orders.{Order}
@@ -247,27 +248,6 @@ lt-follow (fin s a e) (inf t) z h k = never h
 lt-follow (fin s a e) (fin t b d) nan h k = never k
 lt-follow (fin s a e) (fin t b d) (inf u) h k = k
 lt-follow (fin s a e) (fin t b d) (fin u c g) h k = level-follow s t u (a * up e) (b * up d) (c * up g) (down e) (down d) (down g) (down-pos e) (down-pos d) (down-pos g) h k
-
--- negation turns the order round
-pub lt-neg : (x y : Float) → lt (neg x) (neg y) ≡ lt y x
-unfolding lt neg
-lt-neg nan nan = refl
-lt-neg nan (inf t) = refl
-lt-neg nan (fin t b d) = refl
-lt-neg (inf s) nan = refl
-lt-neg (inf true) (inf true) = refl
-lt-neg (inf true) (inf false) = refl
-lt-neg (inf false) (inf true) = refl
-lt-neg (inf false) (inf false) = refl
-lt-neg (inf true) (fin t b d) = refl
-lt-neg (inf false) (fin t b d) = refl
-lt-neg (fin s a e) nan = refl
-lt-neg (fin s a e) (inf true) = refl
-lt-neg (fin s a e) (inf false) = refl
-lt-neg (fin false a e) (fin false b d) = refl
-lt-neg (fin false a e) (fin true b d) = ap (ltb 0) (add-comm (a * up e * down d) (b * up d * down e))
-lt-neg (fin true a e) (fin false b d) = refl
-lt-neg (fin true a e) (fin true b d) = refl
 
 lt-lead : (x y z : Float) → lt x y ≡ true → eq y z ≡ true → lt x z ≡ true
 lt-lead x y z h k = sym (lt-neg z x) ∙ lt-follow (neg z) (neg y) (neg x) (eq-neg z y ∙ eq-even z y ∙ k) (lt-neg y x ∙ h)

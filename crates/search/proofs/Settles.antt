@@ -9,7 +9,7 @@ use borrow.Author.Tests.{lt-ltb, le-ltb}
 use lib.Dec.{ltb}
 use lib.ListN.{length, getD}
 use Rattle.ranged1d.specs.Answer.{Answer, given, none}
-use Rattle.ranged1d.proofs.Bools.{or-right}
+use Rattle.ranged1d.proofs.Bools.{or-right, cond-same}
 use Rattle.search.specs.Search.{Numbers, best, exact, up, down, between, indexOf, search}
 use Rattle.search.specs.Settled.{closer, unequal, settled}
 use Rattle.search.specs.Steps.{toward, PlaceOf}
@@ -147,17 +147,13 @@ module _ {A : Type 0} (num : Numbers A) (t : A) where
   search-from rises Round l e a b p q r = ap (λ (z : Answer (ℕ × A)). between num t z (up num t l)) r ∙ ap (between num t (cond rises b a)) q
 
   -- which of two equal answers is chosen does not matter
-  either : {B : Type 0} (c : Bool) (z : B) → cond c z z ≡ z
-  either true z = refl
-  either false z = refl
-
   from-hit : (rises : Bool) (method : RoundingMethod) (n i : ℕ) (x y : A) → i < n → num .equal y t ≡ true
       → from rises method (given (i, y)) (given (i, y)) (given (i, y)) ≡ settled num method rises n i x t y
   unfolding settled
   from-hit rises method n i x y h q = go rises method ∙ rw (lt-ltb _ _ h, q) refl
     where
       tie : (c u v : Bool) → cond c (cond u i i) (cond v i i) ≡ i
-      tie c u v = ap (λ (z : ℕ). cond c z (cond v i i)) (either u i) ∙ ap (cond c i) (either v i) ∙ either c i
+      tie c u v = ap (λ (z : ℕ). cond c z (cond v i i)) (cond-same u refl) ∙ ap (cond c i) (cond-same v refl) ∙ cond-same c refl
 
       go : (rises : Bool) (method : RoundingMethod) → from rises method (given (i, y)) (given (i, y)) (given (i, y)) ≡ given i
       go rises Exact = refl

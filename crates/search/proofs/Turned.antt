@@ -8,6 +8,7 @@ use native.Mathlib.Decide.{decLt}
 use borrow.Author.Tests.{lt-ltb, le-ltb}
 use lib.Dec.{ltb}
 use lib.ListN.{length}
+use Rattle.ranged1d.proofs.Bools.{cond-same}
 use Rattle.ranged1d.specs.Answer.{Answer, given, none}
 use Rattle.ranged1d.specs.Numbers.{every}
 use Rattle.search.specs.Search.{Numbers, further, unlessBetter, best, exact, up, down, nearer, between, indexOf, search}
@@ -87,16 +88,12 @@ module _ {A : Type 0} (num : Numbers A) (R : A → A → Type 0) (T : Turns num 
     nearer-turned : nearer num t' (j, y') (i, x') ≡ nearer num t (i, x) (j, y)
     nearer-turned = rw (under, over) (go (decLt i j) (decLt j i) (num .less (num .minus t x) (num .minus y t)) (num .less (num .minus y t) (num .minus t x)))
       where
-        same : (c : Bool) (m n : ℕ) → m ≡ n → cond c m n ≡ n
-        same true m n e = e
-        same false m n e = refl
-
         go : Dec (i < j) → Dec (j < i) → (u v : Bool) → cond (ltb j i) (cond v j i) (cond u i j) ≡ cond (ltb i j) (cond u i j) (cond v j i)
         go (yes h) k u v = let n : j ≤ j = omega arith in rw (lt-ltb i j h, le-ltb j i (omega (arith, h))) refl
         go (no h) (yes k) u v = rw (lt-ltb j i k, le-ltb i j (omega (arith, h))) refl
         go (no h) (no k) u v =
             let e : i ≡ j = omega (arith, h, k) in
-            rw (le-ltb j i (omega (arith, k)), le-ltb i j (omega (arith, h))) (same u i j e ∙ sym (same v j i (sym e) ∙ e))
+            rw (le-ltb j i (omega (arith, k)), le-ltb i j (omega (arith, h))) (cond-same u e ∙ sym (cond-same v (sym e) ∙ e))
 
   between-turned : (f f' g g' : Answer (ℕ × A)) → Both R f f' → Both R g g' → between num t' g' f' ≡ between num t f g
   between-turned (given (i, x)) (given (i', x')) (given (j, y)) (given (j', y')) (givens r) (givens s) = ap given (nearer-turned i j x x' y y' r s)

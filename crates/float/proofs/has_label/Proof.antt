@@ -1,6 +1,7 @@
 -- `float::has_label` meets its contract. Assumes nothing.
 use lib.Ieee.{ofBits, neg}
-use Rattle.float.proofs.Signs.{admit-yes, admit-low, admit-high}
+use Rattle.rounding.proofs.Sizes.{least-low, least-high}
+use Rattle.float.proofs.Signs.{admit-yes, admit-no}
 use Rattle.float.proofs.has_label.Statement.{statement}
 use Rattle.float.proofs.has_label.Tie as tie
 
@@ -10,11 +11,11 @@ returns c = admit-yes (c .before .before .args .n) (c .before .if1 .taken) (c .i
 
 returns-2 : tie.Need-returns-2
 unfolding ofBits neg
-returns-2 c = admit-low (c .before .before .args .n) (c .if2 .left)
+returns-2 c = let n = c .before .before .args .n in admit-no n (least-low 53 n (c .if2 .left))
 
 returns-3 : tie.Need-returns-3
 unfolding ofBits
-returns-3 c = admit-high (c .before .args .n) (c .if1 .left)
+returns-3 c = let n = c .before .args .n in admit-no n (least-high 53 n (c .if1 .left))
 
 pub has-label-spec : {M : Type 1} → statement M
 has-label-spec = tie.close (tie.spec returns returns-2 returns-3)

@@ -3,7 +3,7 @@ use mathlib.Core.Path.{sym, _∙_}
 use lib.Ieee.{ofBits, neg}
 use Rattle.rounding.specs.Integral.{floors}
 use Rattle.rounding.proofs.Steps.{Small, small}
-use Rattle.rounding.proofs.Sizes.{floor-cut, stays-floor, stays-large, large-low, large-high}
+use Rattle.rounding.proofs.Sizes.{floor-cut, stays-floor, stays-large, least-low, least-high}
 use Rattle.rounding.proofs.floor.Statement.{statement}
 use Rattle.rounding.proofs.floor.Tie as tie
 
@@ -28,11 +28,11 @@ returns-2 c =
 
 returns-3 : tie.Need-returns-3
 unfolding ofBits neg
-returns-3 c = let s = c .before .before in sym (stays-large floors (s .args .x) (s .good .0 .1) (large-high (s .args .x) (c .if2 .left)))
+returns-3 c = let s = c .before .before in sym (stays-large floors (s .args .x) (s .good .0 .1) (least-high 52 (s .args .x) (c .if2 .left)))
 
 returns-4 : tie.Need-returns-4
 unfolding ofBits neg
-returns-4 c = let s = c .before in sym (stays-large floors (s .args .x) (s .good .0 .1) (large-low (s .args .x) (c .if1 .left)))
+returns-4 c = let s = c .before in sym (stays-large floors (s .args .x) (s .good .0 .1) (least-low 52 (s .args .x) (c .if1 .left)))
 
 pub floor-spec : {M : Type 1} → statement M
 floor-spec = tie.close (tie.spec floor-small-requires returns returns-2 returns-3 returns-4)

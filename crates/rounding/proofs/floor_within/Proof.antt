@@ -14,7 +14,7 @@ use Rattle.ranged1d.proofs.Whole.{fits-abs}
 use Rattle.rounding.specs.Integral.{floors}
 use Rattle.rounding.specs.Within.{kept, wholeOf}
 use Rattle.rounding.proofs.Steps.{Small, small}
-use Rattle.rounding.proofs.Sizes.{cast-back, Large, large-low, large-high, whole-small, within-small, within-nan, within-large}
+use Rattle.rounding.proofs.Sizes.{cast-back, Large, least-low, least-high, whole-small, within-small, within-nan, within-large}
 use Rattle.rounding.proofs.floor_within.Statement.{statement}
 use Rattle.rounding.proofs.floor_within.Tie as tie
 
@@ -57,7 +57,7 @@ returns-2 c = let s = c .before .before in sym (within-nan floors (s .args .boun
 
 far : (c : tie.Joined1) → Large (c .before .args .x)
 unfolding ofBits neg
-far c = let x = c .before .args .x in ⊎-elim (λ w. large-high x (w .1 .left)) (λ w. large-low x (w .left)) (c .if1 .came)
+far c = let x = c .before .args .x in ⊎-elim (λ w. least-high 52 x (w .1 .left)) (λ w. least-low 52 x (w .left)) (c .if1 .came)
 
 returns-3 : tie.Need-returns-3
 returns-3 c = let s = c .before .before in sym (within-large floors (s .args .bound) (s .args .x) (omega arith) (c .if3 .left) (far (c .before)))

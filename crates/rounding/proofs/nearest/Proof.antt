@@ -6,7 +6,7 @@ use lib.IntN.{pos}
 use lib.Ieee.{binary64, add, lt, ofBits, ofInt}
 use Rattle.rounding.specs.Integral.{halves, roundOf}
 use Rattle.rounding.proofs.Steps.{Small, small, above-big}
-use Rattle.rounding.proofs.Sizes.{half, step, round-step, stays-floor, stays-large, large-high}
+use Rattle.rounding.proofs.Sizes.{half, step, round-step, stays-floor, stays-large, least-high}
 use Rattle.rounding.proofs.nearest.Statement.{statement}
 use Rattle.rounding.proofs.nearest.Tie as tie
 
@@ -44,7 +44,7 @@ returns-2 c =
 
 returns-3 : tie.Need-returns-3
 unfolding ofBits
-returns-3 c = let s = c .before in sym (stays-large halves (s .args .x) (s .good .0 .1) (large-high (s .args .x) (c .if1 .left)))
+returns-3 c = let s = c .before in sym (stays-large halves (s .args .x) (s .good .0 .1) (least-high 52 (s .args .x) (c .if1 .left)))
 
 pub nearest-spec : {M : Type 1} → statement M
 nearest-spec = tie.close (tie.spec floor-small-requires returns returns-2 returns-3)

@@ -1,11 +1,11 @@
 -- `linspace::reals::reach` meets its contract. Assumes nothing.
 use mathlib.Core.Path.{_≡_, sym, subst, _∙_}
 use mathlib.Core.Bool.{Bool, false}
-use Prim.Native.Nat.{ℕ, _≤_, _<_, _-_}
+use Prim.Native.Nat.{_≤_, _<_, _-_}
 use native.Mathlib.Omega.{arith}
 use borrow.Author.Needs.{needs}
 use borrow.Author.Tests.{not-true, not-false}
-use lib.Ieee.{Float, lt}
+use lib.Ieee.{Float}
 use Rattle.linspace.specs.List.{real, toward}
 use Rattle.linspace.specs.RealSteps.{plusStep, Walked, Reached}
 use Rattle.linspace.specs.Walks.{headOf}

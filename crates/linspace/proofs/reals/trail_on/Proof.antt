@@ -1,9 +1,9 @@
 -- `linspace::reals::trail_on` meets its contract. Assumes nothing.
-use mathlib.Core.Path.{_≡_, refl, sym, subst}
+use mathlib.Core.Path.{refl, sym, subst}
 use Prim.Native.Nat.{_+_, _-_, _/_, _≤_}
 use native.Mathlib.Omega.{arith}
 use lib.Dec.{T}
-use lib.Ieee.{binary64, fits, neg, ofBits}
+use lib.Ieee.{neg, ofBits}
 use borrow.Author.Needs.{needs}
 use Rattle.linspace.proofs.Tracks.{trail-sum}
 use Rattle.linspace.proofs.reals.trail_on.Statement.{statement}
