@@ -20,10 +20,10 @@ use Rattle.search.proofs.WholeOrder.{whole-order}
 use Rattle.search.proofs.RealOrder.{real-order}
 use Rattle.search.proofs.Mirror.{Opposite, Across, whole-turns, real-turns, add-alike, turned-twice}
 use Rattle.search.proofs.Turned.{each-map}
-use Rattle.linspace.specs.List.{whole, real, stepped, against, tooLong}
+use Rattle.linspace.specs.List.{Kind, whole, real, stepped, against, tooLong}
 use Rattle.linspace.specs.Calls.{stepMarks, stepIndexOf, stepPlace}
 use Rattle.linspace.specs.Mirror as mirror
-use Rattle.linspace.specs.Mirror.{WholeMirrored, RealMirrored}
+use Rattle.linspace.specs.Mirror.{Mirrored, WholeMirrored, RealMirrored}
 use Rattle.linspace.proofs.Turned.{KindTurns, stepped-turned, marks-turned, sizes-turned, values-turned, key-points-turned, searches-turned, against-turned, long-turned}
 
 -- ---- whole numbers
@@ -100,62 +100,42 @@ whole-place a b d v limit = go (wholeAdmitted a) (wholeAdmitted b) (wholeAdmitte
     go false y true w l f = refl
     go false y false w l f = refl
 
--- ---- whole stepped axes
-module _ (a b d : ℤ) where
-  whole-searches : (v : ℤ) (method : RoundingMethod) → stepIndexOf whole (negℤ a) (negℤ b) (negℤ d) (negℤ v) (turned method) ≡ stepIndexOf whole a b d v method
-  whole-searches v method =
-      sym (searches-turned whole Opposite whole-kind (negℤ a) (negℤ b) (negℤ d) a b d refl refl refl (negℤ v) v refl (turned method))
-      ∙ ap (stepIndexOf whole a b d v) (turned-twice method)
+-- ---- stepped axes of either kind of numbers, by their places
+module _ {A : Type 0} (kind : Kind A) (R : A → A → Type 0) (K : KindTurns kind R) (opposite : A → A) (opp : (x : A) → R (opposite x) x)
+    (Turned : List A → List A → Type 0) (turns : (l l' : List A) → Each R l l' → Turned l l')
+    (place : A → A → A → Limit → Answer ℤ)
+    (place-is : (a b d v : A) (limit : Limit) → stepPlace kind a b d v limit ≡ cond (kind .admitted d) (onward (against kind a b d) (tooLong kind a b d) (place a b v limit)) (refused 1))
+    (place-turns : (a b v : A) (limit : Limit) → place (opposite a) (opposite b) (opposite v) (mirrored limit) ≡ negated (place a b v limit)) (a b d : A) where
+  searches : (v : A) (method : RoundingMethod) → stepIndexOf kind (opposite a) (opposite b) (opposite d) (opposite v) (turned method) ≡ stepIndexOf kind a b d v method
+  searches v method =
+      sym (searches-turned kind R K (opposite a) (opposite b) (opposite d) a b d (opp a) (opp b) (opp d) (opposite v) v (opp v) (turned method))
+      ∙ ap (stepIndexOf kind a b d v) (turned-twice method)
 
-  whole-places : (v : ℤ) (limit : Limit) → stepPlace whole (negℤ a) (negℤ b) (negℤ d) (negℤ v) (mirrored limit) ≡ negated (stepPlace whole a b d v limit)
-  whole-places v limit =
-      whole-place (negℤ a) (negℤ b) (negℤ d) (negℤ v) (mirrored limit)
-      ∙ rw (whole-kind .admitted-turns {x = negℤ d} {x' = d} refl, against-turned whole Opposite whole-kind (negℤ a) (negℤ b) (negℤ d) a b d refl refl refl, long-turned whole Opposite whole-kind (negℤ a) (negℤ b) (negℤ d) a b d refl refl refl, places.mirror limit .whole-places a b v)
-      (go (wholeAdmitted d) (wholePlace a b v limit))
-      ∙ ap negated (sym (whole-place a b d v limit))
+  place-mirrored : (v : A) (limit : Limit) → stepPlace kind (opposite a) (opposite b) (opposite d) (opposite v) (mirrored limit) ≡ negated (stepPlace kind a b d v limit)
+  place-mirrored v limit =
+      place-is (opposite a) (opposite b) (opposite d) (opposite v) (mirrored limit)
+      ∙ rw (K .admitted-turns (opp d), against-turned kind R K (opposite a) (opposite b) (opposite d) a b d (opp a) (opp b) (opp d), long-turned kind R K (opposite a) (opposite b) (opposite d) a b d (opp a) (opp b) (opp d), place-turns a b v limit)
+      (go (kind .admitted d) (place a b v limit))
+      ∙ ap negated (sym (place-is a b d v limit))
     where
-      go : (t : Bool) (r : Answer ℤ) → cond t (onward (against whole a b d) (tooLong whole a b d) (negated r)) (refused 1) ≡ negated (cond t (onward (against whole a b d) (tooLong whole a b d) r) (refused 1))
-      go true r = onward-neg (against whole a b d) (tooLong whole a b d) r
+      go : (t : Bool) (r : Answer ℤ) → cond t (onward (against kind a b d) (tooLong kind a b d) (negated r)) (refused 1) ≡ negated (cond t (onward (against kind a b d) (tooLong kind a b d) r) (refused 1))
+      go true r = onward-neg (against kind a b d) (tooLong kind a b d) r
       go false r = refl
 
-  pub whole-mirror : WholeMirrored a b d
-  whole-mirror = record {
-    lists = opposite (stepped whole (negℤ a) (negℤ b) (negℤ d)) (stepped whole a b d) (stepped-turned whole Opposite whole-kind (negℤ a) (negℤ b) (negℤ d) a b d refl refl refl);
-    marks = λ m. opposite (stepMarks whole (negℤ a) (negℤ b) (negℤ d) m) (stepMarks whole a b d m) (marks-turned whole Opposite whole-kind (negℤ a) (negℤ b) (negℤ d) a b d refl refl refl m);
-    values = λ old old' h. values-turned whole Opposite whole-kind (negℤ a) (negℤ b) (negℤ d) a b d refl refl refl old' old h;
-    key-points = λ m old old' h. key-points-turned whole Opposite whole-kind (negℤ a) (negℤ b) (negℤ d) a b d refl refl refl m old' old h;
-    sizes = sizes-turned whole Opposite whole-kind (negℤ a) (negℤ b) (negℤ d) a b d refl refl refl;
-    searches = whole-searches;
-    places = whole-places;
+  mirrored-axis : Mirrored kind opposite Turned a b d
+  mirrored-axis = record {
+    lists = turns (stepped kind (opposite a) (opposite b) (opposite d)) (stepped kind a b d) (stepped-turned kind R K (opposite a) (opposite b) (opposite d) a b d (opp a) (opp b) (opp d));
+    marks = λ m. turns (stepMarks kind (opposite a) (opposite b) (opposite d) m) (stepMarks kind a b d m) (marks-turned kind R K (opposite a) (opposite b) (opposite d) a b d (opp a) (opp b) (opp d) m);
+    values = λ old old' h. values-turned kind R K (opposite a) (opposite b) (opposite d) a b d (opp a) (opp b) (opp d) old' old h;
+    key-points = λ m old old' h. key-points-turned kind R K (opposite a) (opposite b) (opposite d) a b d (opp a) (opp b) (opp d) m old' old h;
+    sizes = sizes-turned kind R K (opposite a) (opposite b) (opposite d) a b d (opp a) (opp b) (opp d);
+    searches = searches;
+    places = place-mirrored;
   }
 
--- ---- real stepped axes
-negated-list : (l l' : List Float) → Each Across l l' → mirror.Negated l l'
-negated-list = each-map (λ x y r. alike-same r)
+-- ---- the theorem
+pub whole-mirror : (a b d : ℤ) → WholeMirrored a b d
+whole-mirror = mirrored-axis whole Opposite whole-kind negℤ (λ x. refl) (λ new old. new ≡ map negℤ old) opposite wholePlace whole-place (λ a b v limit. places.mirror limit .whole-places a b v)
 
-module _ (a b d : Float) where
-  self : (x : Float) → Across (neg x) x
-  self x = inl refl
-
-  real-searches : (v : Float) (method : RoundingMethod) → stepIndexOf real (neg a) (neg b) (neg d) (neg v) (turned method) ≡ stepIndexOf real a b d v method
-  real-searches v method =
-      sym (searches-turned real Across real-kind (neg a) (neg b) (neg d) a b d (self a) (self b) (self d) (neg v) v (self v) (turned method))
-      ∙ ap (stepIndexOf real a b d v) (turned-twice method)
-
-  real-places : (v : Float) (limit : Limit) → stepPlace real (neg a) (neg b) (neg d) (neg v) (mirrored limit) ≡ negated (stepPlace real a b d v limit)
-  real-places v limit =
-      real-place (neg a) (neg b) (neg d) (neg v) (mirrored limit)
-      ∙ rw (against-turned real Across real-kind (neg a) (neg b) (neg d) a b d (self a) (self b) (self d), long-turned real Across real-kind (neg a) (neg b) (neg d) a b d (self a) (self b) (self d), places.mirror limit .real-places a b v)
-      (onward-neg (against real a b d) (tooLong real a b d) (realPlace a b v limit))
-      ∙ ap negated (sym (real-place a b d v limit))
-
-  pub real-mirror : RealMirrored a b d
-  real-mirror = record {
-    lists = negated-list (stepped real (neg a) (neg b) (neg d)) (stepped real a b d) (stepped-turned real Across real-kind (neg a) (neg b) (neg d) a b d (self a) (self b) (self d));
-    marks = λ m. negated-list (stepMarks real (neg a) (neg b) (neg d) m) (stepMarks real a b d m) (marks-turned real Across real-kind (neg a) (neg b) (neg d) a b d (self a) (self b) (self d) m);
-    values = λ old old' h. values-turned real Across real-kind (neg a) (neg b) (neg d) a b d (self a) (self b) (self d) old' old h;
-    key-points = λ m old old' h. key-points-turned real Across real-kind (neg a) (neg b) (neg d) a b d (self a) (self b) (self d) m old' old h;
-    sizes = sizes-turned real Across real-kind (neg a) (neg b) (neg d) a b d (self a) (self b) (self d);
-    searches = real-searches;
-    places = real-places;
-  }
+pub real-mirror : (a b d : Float) → RealMirrored a b d
+real-mirror = mirrored-axis real Across real-kind neg (λ x. inl refl) mirror.Negated (each-map (λ x y r. alike-same r)) realPlace real-place (λ a b v limit. places.mirror limit .real-places a b v)

@@ -5,6 +5,7 @@ use mathlib.Core.List.{List, [], _∷_, map}
 use Prim.Native.Nat.{ℕ, zero, suc, _-_}
 use lib.Dec.{ltb}
 use lib.ListN.{length, getD}
+use Rattle.ranged1d.specs.Answer.{BothLong}
 use Rattle.ranged1d.proofs.Bools.{both-true}
 use Rattle.numeric.specs.Calls.{indexMarks}
 use Rattle.search.specs.Search as rule
@@ -13,7 +14,6 @@ use Rattle.search.specs.declared.RoundingMethod.{RoundingMethod}
 use Rattle.search.proofs.Turned.{Turns, each-length, search-turned, exact-stays}
 use Rattle.linspace.specs.List.{Kind, entries, most, toward, upward, downward, run, stepped, against, tooLong, axisAdmitted}
 use Rattle.linspace.specs.Calls.{hasEntries, marksOf, stepMarks, stepValues, stepSize, stepIndexOf, stepKeyPoints}
-use Rattle.linspace.specs.Mirror.{AlikeLong}
 
 -- y mirrors x
 pub record KindTurns {A : Type 0} (kind : Kind A) (R : A → A → Type 0) : Type 0 where
@@ -112,13 +112,13 @@ module _ {A : Type 0} (kind : Kind A) (R : A → A → Type 0) (K : KindTurns ki
   unfolding stepSize
   sizes-turned = rw (admitted-turned, against-turned, same-length) refl
 
-  pub values-turned : (old old' : List A) → AlikeLong (length (stepped kind a' b' d')) old' old → stepValues kind a b d old .0 ≡ stepValues kind a' b' d' old' .0
+  pub values-turned : (old old' : List A) → BothLong (length (stepped kind a' b' d')) old' (length (stepped kind a b d)) old → stepValues kind a b d old .0 ≡ stepValues kind a' b' d' old' .0
   unfolding stepValues
-  values-turned old old' h = rw (admitted-turned, against-turned, same-length, h) refl
+  values-turned old old' h = rw (admitted-turned, against-turned, ← h, same-length) refl
 
-  pub key-points-turned : (m : ℕ) (old old' : List A) → AlikeLong (length (stepMarks kind a' b' d' m)) old' old → stepKeyPoints kind a b d m old .0 ≡ stepKeyPoints kind a' b' d' m old' .0
+  pub key-points-turned : (m : ℕ) (old old' : List A) → BothLong (length (stepMarks kind a' b' d' m)) old' (length (stepMarks kind a b d m)) old → stepKeyPoints kind a b d m old .0 ≡ stepKeyPoints kind a' b' d' m old' .0
   unfolding stepKeyPoints
-  key-points-turned m old old' h = rw (admitted-turned, against-turned, marks-same m, same-length, h) refl
+  key-points-turned m old old' h = rw (admitted-turned, against-turned, ← h, marks-same m, same-length) refl
 
   pub searches-turned : (v v' : A) → R v v' → (method : RoundingMethod) → stepIndexOf kind a' b' d' v' (turned method) ≡ stepIndexOf kind a b d v method
   unfolding stepIndexOf

@@ -1,20 +1,20 @@
 -- The list of a whole stepped axis: entry k is a + k · d, and their number is the distance of the ends over the step's size, rounded up.
 -- Assumes nothing.
 use mathlib.Core.Path.{_≡_, refl, sym, ap, subst, _∙_}
-use mathlib.Core.Bool.{Bool, true, false, cond, true≢false, _&&_, _||_}
+use mathlib.Core.Bool.{Bool, true, false, cond, _&&_, _||_}
 use mathlib.Core.List.{[]}
 use Prim.Native.Nat.{ℕ, zero, suc, _+_, _-_, _*_, _/_, _≤_, _<_, min, max}
 use native.Mathlib.Nat.{le-div-iff-mul-le, add-zero, mul-zero, zero-mul, one-mul, min-zero, min-eq-left, min-eq-right}
 use native.Mathlib.Omega.{arith}
 use borrow.Author.Tests.{lt-ltb, le-ltb, le-leb, lt-leb, leb-true, ltb-true, ltb-false}
 use lib.Dec.{leb, ltb}
-use lib.IntN.{ℤ, ℤ-discrete, pos, negsuc, negℤ, natAbs, subℕ, _+ℤ_, _-ℤ_, _*ℤ_, +ℤ-comm, +ℤ-assoc, +ℤ-idr, +ℤ-invr, +ℤ-negℤ-cancel, -ℤ-+ℤ-cancel, negℤ-+ℤ, negℤ-negℤ, zero-*ℤ, sucℤ-*ℤ}
+use lib.IntN.{ℤ, ℤ-discrete, pos, negsuc, negℤ, natAbs, subℕ, _+ℤ_, _-ℤ_, _*ℤ_, +ℤ-comm, +ℤ-assoc, +ℤ-idl, +ℤ-idr, +ℤ-invr, +ℤ-negℤ-cancel, -ℤ-+ℤ-cancel, negℤ-+ℤ, negℤ-negℤ, zero-*ℤ, sucℤ-*ℤ}
 use lib.ListN.{length}
 use lib.Signed.{ltZ, pos-natAbs}
 use Rattle.ranged1d.specs.Admitted.{wholeAdmitted}
 use Rattle.ranged1d.specs.Numbers.{same}
 use Rattle.ranged1d.proofs.Bools.{both-false, both-true}
-use Rattle.ranged1d.proofs.Whole.{sub-cases, minus-far, turned-far, minus-shift, ordered, not-lt, both-ways, neg-far, neg-lt, both-near}
+use Rattle.ranged1d.proofs.Whole.{sub-cases, minus-far, turned-far, minus-shift, ordered, not-lt, both-ways, neg-far, neg-lt, both-near, same-yes}
 use Rattle.numeric.specs.Marks.{listOf}
 use Rattle.numeric.specs.Calls.{element}
 use Rattle.numeric.proofs.Lists.{length-of}
@@ -24,6 +24,7 @@ use Rattle.search.proofs.Orders.{not-itself}
 use Rattle.linspace.specs.List.{whole, most, entries, run, stepped, against, tooLong, axisAdmitted}
 use Rattle.linspace.specs.WholeSteps.{wholeCount, Known, Lies}
 use Rattle.linspace.proofs.Entries.{entries-list}
+use Rattle.linspace.proofs.Ways.{against-up, against-down}
 
 -- ---- order and sums
 -- one number is below another where their difference is below zero
@@ -144,15 +145,16 @@ apart-some x y h =
     let p = natAbs (y -ℤ x) in
     ltb-true 0 p (sym (lt-shift x (pos 0) (pos p)) ∙ ap (λ (z : ℤ). ltZ z (x +ℤ pos p)) (+ℤ-idr x) ∙ ap (λ (z : ℤ). ltZ x z) (sym (after x y h)) ∙ h)
 
-step-up : (d : ℤ) → (ltZ d (pos 0) || same d (pos 0)) ≡ false → (d ≡ pos (natAbs d)) × (0 < natAbs d)
-step-up (pos zero) h = absurd (true≢false h)
-step-up (pos (suc n)) h = (refl, omega arith)
-step-up (negsuc n) h = absurd (true≢false h)
+-- y lies so far from x, on the way
+led : (rises : Bool) (x y : ℤ) → toward rises ltZ x y ≡ true → (y ≡ x +ℤ way rises (pos (natAbs (y -ℤ x)))) × (0 < natAbs (y -ℤ x))
+led true x y h = (after x y h, apart-some x y h)
+led false x y h =
+    let p = natAbs (x -ℤ y) in
+    (rw (turned-far y x) (sym (+ℤ-negℤ-cancel y (pos p)) ∙ ap (λ (z : ℤ). z +ℤ negℤ (pos p)) (sym (after y x h))), rw (turned-far y x) (apart-some y x h))
 
-step-down : (d : ℤ) → (ltZ (pos 0) d || same (pos 0) d) ≡ false → (d ≡ negℤ (pos (natAbs d))) × (0 < natAbs d)
-step-down (pos zero) h = absurd (true≢false h)
-step-down (pos (suc n)) h = absurd (true≢false (sym (rw (lt-ltb 0 (suc n) (omega arith)) refl) ∙ h))
-step-down (negsuc n) h = (refl, omega arith)
+-- of two numbers, the one that is neither below the other nor the same lies above it
+above : (x y : ℤ) → (ltZ x y || same x y) ≡ false → ltZ y x ≡ true
+above x y h = let n = both-false (ltZ x y) (same x y) h in whole-order .total x y (same-yes x x refl) (same-yes y y refl) (n .0) (n .1)
 
 -- equal ends
 level-count : (a d : ℤ) → wholeCount a a d ≡ 0
@@ -169,32 +171,22 @@ level a b d e =
     (level-list a d ∙ ap (λ (n : ℕ). listOf (element a d) n) (sym (min-zero (suc most))) ∙ ap (λ (n : ℕ). listOf (element a d) (min (suc most) n)) (sym (level-count a d)))
 
 module _ (a b d : ℤ) (h : against whole a b d ≡ false) where
-  abbrev wrong : Bool
-  wrong = ltZ d (pos 0) || same d (pos 0)
+  leading : (rises : Bool) → toward rises ltZ a b ≡ true → toward rises ltZ (pos 0) d ≡ true
+  leading true e = above d (pos 0) (against-up whole whole-order a b d e ∙ h)
+  leading false e = above (pos 0) d (against-down whole whole-order a b d (whole-order .asym b a e) e ∙ h)
 
-  abbrev other : Bool
-  other = ltZ (pos 0) d || same (pos 0) d
-
-  up-of : ltZ a b ≡ true → Sloped true a b d (natAbs (b -ℤ a)) (natAbs d)
-  unfolding against
-  up-of e =
-      let u = step-up d (subst (λ (t : Bool). (t && wrong) ≡ false) e (both-false (ltZ a b && wrong) (ltZ b a && other) h .0)) in
-      record { end = after a b e; step = u .0; apart = apart-some a b e; moves = u .1 }
-
-  down-of : ltZ b a ≡ true → Sloped false a b d (natAbs (b -ℤ a)) (natAbs d)
-  unfolding against
-  down-of e =
-      let u = step-down d (subst (λ (t : Bool). (t && other) ≡ false) e (both-false (ltZ a b && wrong) (ltZ b a && other) h .1)) in
-      let p = natAbs (a -ℤ b) in
-      let far : b ≡ a +ℤ negℤ (pos p) = sym (+ℤ-negℤ-cancel b (pos p)) ∙ ap (λ (z : ℤ). z +ℤ negℤ (pos p)) (sym (after b a e)) in
-      record { end = rw (turned-far b a) far; step = u .0; apart = rw (turned-far b a) (apart-some b a e); moves = u .1 }
+  slope : (rises : Bool) → toward rises ltZ a b ≡ true → Sloped rises a b d (natAbs (b -ℤ a)) (natAbs d)
+  slope rises e =
+      let u = led rises a b e in
+      let v : (d ≡ pos 0 +ℤ way rises (pos (natAbs d))) × (0 < natAbs d) = rw (+ℤ-idr d) at (led rises (pos 0) d (leading rises e)) in
+      record { end = u .0; step = v .0 ∙ +ℤ-idl (way rises (pos (natAbs d))); apart = u .1; moves = v .1 }
 
   pub sloped : (a ≡ b → ⊥) → Sloped (ltZ a b) a b d (natAbs (b -ℤ a)) (natAbs d)
   sloped n = go (ltZ a b) refl (ltZ b a) refl
     where
       go : (t : Bool) → ltZ a b ≡ t → (u : Bool) → ltZ b a ≡ u → Sloped t a b d (natAbs (b -ℤ a)) (natAbs d)
-      go true e u f = up-of e
-      go false e true f = down-of f
+      go true e u f = slope true e
+      go false e true f = slope false f
       go false e false f = absurd (n (both-ways a b (not-lt b a f) (not-lt a b e)))
 
   -- the list, for every axis that is not refused with 6

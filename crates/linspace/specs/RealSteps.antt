@@ -68,11 +68,6 @@ pub record Behind {A : Type 0} (passes : A → Bool) (next : A → A) (a : A) (s
   pub shared : k ≡ n * share / all
   pub at : x ≡ after next k a
 
--- the entry at far / whole of a list's length is the one at the share r of it, for every list, or there is neither
-pub record Part (far whole r : ℕ) : Type 0 where
-  pub within : r ≤ all
-  pub same : (l : List Float) → length l ≤ 65_537 → nth l (far * length l / whole) ≡ nth l (length l * r / all)
-
 -- a pixel d past the first limit, with the second w past it, is read as the entry at the share r of the list's length, or as none
 pub record Shares (d w : ℤ) (r : ℕ) : Type 0 where
   pub within : r ≤ all

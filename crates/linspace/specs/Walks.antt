@@ -6,7 +6,7 @@ use lib.Dec.{T}
 use lib.IntN.{pos}
 use Rattle.ranged1d.specs.Answer.{Answer, given, refused}
 use Rattle.ranged1d.specs.Refusals.{numberOf}
-use Rattle.linspace.specs.RealSteps.{Passed, plusStep, after}
+use Rattle.linspace.specs.RealSteps.{Passed, plusStep, after, all}
 use Rattle.linspace.specs.declared.reals.Track.{Track}
 use Rattle.linspace.specs.declared.reals.Trail.{Trail}
 use Rattle.linspace.specs.declared.reals.Walk.{Walk}
@@ -44,5 +44,5 @@ pub record Stepped (t r : Track) : Type 0 where
 -- ---- the second sum r is y after one more step of the first
 pub record Trails (d : Float) (share : ℕ) (y r : Trail) : Type 0 where
   pub gone-on : r .gone ≡ y .gone + share
-  pub whole : r .k ≡ r .gone / 1_099_511_627_776
+  pub whole : r .k ≡ r .gone / all
   pub sum : r .x ≡ after (plusStep d) (r .k - y .k) (y .x)

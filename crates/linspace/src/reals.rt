@@ -3,7 +3,7 @@ ghost use mathlib.Core.Path.{_≡_};
 ghost use mathlib.Core.Bool.{true, false, cond, _&&_};
 ghost use lib.Dec.{eqb, ltb};
 ghost use Prim.Native.Nat.{_+_, _-_, _/_, _≤_, _<_};
-ghost use lib.IntN.{natAbs};
+ghost use lib.IntN.{pos, natAbs};
 ghost use lib.ListN.{length};
 ghost use lib.Ieee.{nan, eq};
 ghost use Rattle.ranged1d.specs.Answer.{given, none, refused};
@@ -13,7 +13,7 @@ ghost use Rattle.real.specs.Place.{tellPlace};
 ghost use Rattle.real.specs.Reading.{tellReading};
 ghost use Rattle.linspace.specs.List.{real, entries, stepped, against, toward};
 ghost use Rattle.linspace.specs.Calls.{tellListed, hasEntries, stepValues, stepSize, stepFromIndex, stepIndexOf, stepPlace, stepReading, stepKeyPoints};
-ghost use Rattle.linspace.specs.RealSteps.{plusStep, after, Passed, Parted, Reached, Behind, Part, Shares, nearest};
+ghost use Rattle.linspace.specs.RealSteps.{plusStep, after, Passed, Parted, Reached, Behind, Shares, nearest};
 ghost use Rattle.linspace.specs.Walks.{tellWalk, PassedBy, Tracked, Stepped, headOf, Trails};
 use crate::Linspacef64;
 use crate::Listed;
@@ -441,14 +441,17 @@ fn entry_along(s: Steps, k: u64) -> RealReading
     told(count_on(rises, s, w.x, w.n), k, w.x)
 }
 
-// far / whole in 2^40ths, rounded up, and at most all of them. As n entries are so few that n · whole is below 2^40, the share of n, cut, is
-// n · far / whole, cut.
+// How far along the film a pixel lies that is `far` past the first limit, with the second `whole` past it, in 2^40ths, rounded up, and at most all of
+// them. As n entries are so few that n · whole is below 2^40, the share of n, cut, is n · far / whole, cut. Where the limits meet, a pixel past them is
+// past every entry.
 fn part_of(far: u32, whole: u32) -> u64
     requires { ⌜ far ≤ 2000000 ⌝ }
     requires { ⌜ whole ≤ 2000000 ⌝ }
-    requires { ⌜ 0 < whole ⌝ }
-    ensures { λ r. ⌜ Part far whole r ⌝ }
+    ensures { λ r. ⌜ Shares (pos far) (pos whole) r ⌝ }
 {
+    if far == 0 {
+        return 0;
+    }
     if whole <= far {
         return 1099511627776;
     }
@@ -456,29 +459,16 @@ fn part_of(far: u32, whole: u32) -> u64
     ((far as u64) * 1099511627776 + (parts - 1)) / parts
 }
 
-// How far along the film a pixel lies that is d past the first limit, with the second w past it. A pixel behind the first limit counts as on it. Where
-// the limits meet, one past them is past every entry.
+// The same by signed distances, d and w. A pixel behind the first limit counts as on it.
 fn share(d: i32, w: i32) -> u64
     requires { ⌜ natAbs d ≤ 2000000 ⌝ }
     requires { ⌜ natAbs w ≤ 2000000 ⌝ }
     ensures { λ r. ⌜ Shares d w r ⌝ }
 {
-    if 0 < w {
-        if d < 0 {
-            return 0;
-        }
-        return part_of(ranged1d::unsigned_abs(d), ranged1d::unsigned_abs(w));
+    if (d < 0) != (w < 0) {
+        return 0;
     }
-    if w < 0 {
-        if 0 < d {
-            return 0;
-        }
-        return part_of(ranged1d::unsigned_abs(d), ranged1d::unsigned_abs(w));
-    }
-    if 0 < d {
-        return 1099511627776;
-    }
-    0
+    part_of(ranged1d::unsigned_abs(d), ranged1d::unsigned_abs(w))
 }
 
 // The second sum, once the first has taken a step: it takes one where a whole entry more is gone. At most 65,536 shares, 2^56 parts, were gone before.

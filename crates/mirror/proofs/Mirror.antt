@@ -5,26 +5,24 @@ use mathlib.Core.List.{List, [], _∷_, map}
 use Prim.Native.Nat.{ℕ}
 use lib.Dec.{ltb, eqb}
 use lib.IntN.{ℤ, pos, negℤ}
-use lib.ListN.{length, length-map}
+use lib.ListN.{length}
 use lib.Ieee.{Float, neg}
 use borrow.Author.Tests.{not-false}
-use Rattle.ranged1d.specs.Answer.{Answer, given, none, refused, Reason, lowest, _when_}
+use Rattle.ranged1d.specs.Answer.{Answer, given, none, refused, Reason, lowest, _when_, BothLong}
 use Rattle.ranged1d.specs.Admitted.{wholeAdmitted, limitAdmitted}
 use Rattle.ranged1d.specs.declared.Limit.{Limit}
 use Rattle.real.specs.Mirror as film
-use Rattle.real.specs.Mirror.{negated}
 use Rattle.real.proofs.Mirror as places
 use Rattle.numeric.specs.Marks.{noStep, stepOf, marks}
 use Rattle.numeric.specs.Calls.{wholeKeyPoints}
 use Rattle.numeric.specs.Mirror.{stepOnly}
 use Rattle.numeric.proofs.Mirror as marks-mirror
-use Rattle.search.specs.Mirror.{turned, end}
-use Rattle.search.specs.declared.RoundingMethod.{RoundingMethod}
+use Rattle.search.specs.Mirror.{end}
 use Rattle.search.proofs.Mirror as searches
-use Rattle.search.proofs.Turned.{each-length}
 use Rattle.linspace.specs.List.{Kind, whole, real, stepped, against, tooLong, axisAdmitted}
-use Rattle.linspace.specs.Calls.{hasEntries, stepValues, stepIndexOf, stepPlace, stepMarks, stepKeyPoints}
-use Rattle.linspace.specs.Mirror.{AlikeLong, Negated}
+use Rattle.linspace.specs.Calls.{hasEntries, stepValues, stepMarks, stepKeyPoints}
+use Rattle.linspace.specs.Mirror as step
+use Rattle.linspace.specs.Mirror.{Negated}
 use Rattle.linspace.proofs.Mirror as steps
 use Rattle.segmented.specs.Segments.{noSegments, segmentKeyPoints}
 use Rattle.segmented.specs.Axes.{steppedAxis}
@@ -33,7 +31,7 @@ use Rattle.segmented.proofs.Mirror as segments
 use Rattle.ruler.specs.Rule.{rulerBytes, rulerWrite, hasRuler}
 use Rattle.ruler.specs.Mirror.{accepted, verdict}
 use Rattle.ruler.proofs.Mirror as rulers-mirror
-use Rattle.mirror.specs.Mirror.{wrote, BothLong, ruling, rulingBack, Rulers, marking, markingBack, Marks, Stepped, DemandThree}
+use Rattle.mirror.specs.Mirror.{wrote, ruling, rulingBack, Rulers, marking, markingBack, Marks, Stepped, DemandThree}
 use Rattle.mirror.proofs.Written.{first-reason, accepted-is, wrote-is, turned-wrote}
 
 -- ---- rulers
@@ -180,76 +178,24 @@ module _ {A : Type 0} (kind : Kind A) (opposite : A → A) (Turned : List A → 
   segment-entries m old old' t e =
       turned-wrote Turned nothing (segment-reasons a b d m old) (segment-reasons (opposite a) (opposite b) (opposite d) m old') (stepMarks kind a b d m) (stepMarks kind (opposite a) (opposite b) (opposite d) m) old old' t e
 
--- memory that is long enough on both sides or on neither, for lists of one length
-alike-long : {A : Type 0} (n n' : ℕ) (old old' : List A) → n' ≡ n → BothLong n old n' old' → AlikeLong n old old'
-alike-long n n' old old' e h = ap (λ k. ltb (length old') k) (sym e) ∙ sym h
-
--- what is known of whole and of real stepped axes, in one form
-record Known {A : Type 0} (kind : Kind A) (opposite : A → A) (Turned : List A → List A → Type 0) (a b d : A) : Type 0 where
-  nothing : Turned [] []
-  long : (l l' : List A) → Turned l' l → length l' ≡ length l
-  lists : Turned (stepped kind (opposite a) (opposite b) (opposite d)) (stepped kind a b d)
-  marks : (m : ℕ) → Turned (stepMarks kind (opposite a) (opposite b) (opposite d) m) (stepMarks kind a b d m)
-  values : (old old' : List A) → AlikeLong (length (stepped kind a b d)) old old' → stepValues kind (opposite a) (opposite b) (opposite d) old' .0 ≡ stepValues kind a b d old .0
-  key-points : (m : ℕ) (old old' : List A) → AlikeLong (length (stepMarks kind a b d m)) old old'
-      → stepKeyPoints kind (opposite a) (opposite b) (opposite d) m old' .0 ≡ stepKeyPoints kind a b d m old .0
-  searches : (v : A) (method : RoundingMethod) → stepIndexOf kind (opposite a) (opposite b) (opposite d) (opposite v) (turned method) ≡ stepIndexOf kind a b d v method
-  places : (v : A) (limit : Limit) → stepPlace kind (opposite a) (opposite b) (opposite d) (opposite v) (film.mirrored limit) ≡ negated (stepPlace kind a b d v limit)
-  segments : segment.Mirrored kind opposite a b d
-
-stepped-axis : {A : Type 0} (kind : Kind A) (opposite : A → A) (Turned : List A → List A → Type 0) (a b d : A) → Known kind opposite Turned a b d → Stepped kind opposite Turned a b d
-stepped-axis {A = A} kind opposite Turned a b d k =
+-- from what is known of stepped axes, and of segments over them, of either kind of numbers
+stepped-axis : {A : Type 0} (kind : Kind A) (opposite : A → A) (Turned : List A → List A → Type 0) → Turned [] [] → (a b d : A) → step.Mirrored kind opposite Turned a b d → segment.Mirrored kind opposite a b d Turned → Stepped kind opposite Turned a b d
+stepped-axis kind opposite Turned nothing a b d k s =
     record {
-      lists = λ old old' h.
-          let v = k .values old old' (alike-long _ _ old old' (k .long _ _ (k .lists)) h) in
-          record { verdicts = v; entries = list-entries kind opposite Turned (k .nothing) a b d old old' (k .lists) v };
-      step-marks = λ m old old' h.
-          let v = k .key-points m old old' (alike m old old' h) in
-          record { verdicts = v; entries = mark-entries kind opposite Turned (k .nothing) a b d m old old' (k .marks m) v };
+      lists = λ old old' h. let v = k .values old old' h in record { verdicts = v; entries = list-entries kind opposite Turned nothing a b d old old' (k .lists) v };
+      step-marks = λ m old old' h. let v = k .key-points m old old' h in record { verdicts = v; entries = mark-entries kind opposite Turned nothing a b d m old old' (k .marks m) v };
       places = k .places;
       searches = k .searches;
-      segment-indices = k .segments .indices;
-      segment-places = k .segments .places;
-      segment-marks = λ m old old' h.
-          let v = k .segments .key-points m old old' (alike m old old' h) in
-          record { verdicts = v; entries = segment-entries kind opposite Turned (k .nothing) a b d m old old' (k .marks m) v };
+      segment-indices = s .indices;
+      segment-places = s .places;
+      segment-marks = λ m old old' h. let v = s .key-points m old old' h in record { verdicts = v; entries = segment-entries kind opposite Turned nothing a b d m old old' (s .marks m) v };
     }
-  where
-    alike : (m : ℕ) (old old' : List A) → BothLong (length (stepMarks kind a b d m)) old (length (stepMarks kind (opposite a) (opposite b) (opposite d) m)) old'
-        → AlikeLong (length (stepMarks kind a b d m)) old old'
-    alike m old old' h = alike-long _ _ old old' (k .long _ _ (k .marks m)) h
 
 whole-steps : (a b d : ℤ) → Stepped whole negℤ (λ new old. new ≡ map negℤ old) a b d
-whole-steps a b d =
-    let w = steps.whole-mirror a b d in
-    stepped-axis whole negℤ (λ new old. new ≡ map negℤ old) a b d
-    (record {
-      nothing = refl;
-      long = λ l l' e. ap length e ∙ length-map l negℤ;
-      lists = w .lists;
-      marks = w .marks;
-      values = w .values;
-      key-points = w .key-points;
-      searches = w .searches;
-      places = w .places;
-      segments = segments.whole-mirror a b d .segments;
-    })
+whole-steps a b d = stepped-axis whole negℤ (λ new old. new ≡ map negℤ old) refl a b d (steps.whole-mirror a b d) (segments.whole-mirror a b d)
 
 real-steps : (a b d : Float) → Stepped real neg Negated a b d
-real-steps a b d =
-    let r = steps.real-mirror a b d in
-    stepped-axis real neg Negated a b d
-    (record {
-      nothing = end;
-      long = λ l l' t. each-length l' l t;
-      lists = r .lists;
-      marks = r .marks;
-      values = r .values;
-      key-points = r .key-points;
-      searches = r .searches;
-      places = r .places;
-      segments = segments.real-mirror a b d .segments;
-    })
+real-steps a b d = stepped-axis real neg Negated end a b d (steps.real-mirror a b d) (segments.real-mirror a b d)
 
 -- ---- the theorem
 pub demand-three : DemandThree

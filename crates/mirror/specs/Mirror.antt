@@ -5,12 +5,11 @@ use Prim.Native.Nat.{ℕ}
 use mathlib.Core.List.{List, [], map}
 use mathlib.Core.Logic.{_⊎_, _↔_}
 use mathlib.Core.Path.{_≡_}
-use lib.Dec.{ltb}
 use lib.IntN.{ℤ, pos, negℤ}
 use lib.ListN.{length, take}
 use lib.Signed.{_<ℤ_}
 use lib.Ieee.{Float, neg}
-use Rattle.ranged1d.specs.Answer.{Answer, given, none, refused}
+use Rattle.ranged1d.specs.Answer.{Answer, given, none, refused, BothLong}
 use Rattle.ranged1d.specs.declared.Limit.{Limit}
 use Rattle.real.specs.Place.{wholePlace, realPlace}
 use Rattle.real.specs.Reading.{realReading}
@@ -43,10 +42,6 @@ firstOf many (refused n) held = []
 
 abbrev pub wrote : {A B : Type 0} → (A → ℕ) → Answer A × List B → List B
 wrote many done = firstOf many (done .0) (done .1)
-
--- lent memory is long enough on both sides, where n numbers are to be written on this side and n' on the other, or on neither
-abbrev pub BothLong : {B : Type 0} → ℕ → List B → ℕ → List B → Type 0
-BothLong n old n' old' = ltb (length old) n ≡ ltb (length old') n'
 
 -- ---- demand 3, the first half: rulers. 01: rulers match when the axis's record has ends and limits negated and the same mark limit and step, and
 -- the marks' records stand in reverse order, each with needle and place negated and the label of the negated needle (`turned` of ruler/specs/Mirror).

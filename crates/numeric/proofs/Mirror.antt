@@ -8,16 +8,16 @@ use native.Mathlib.Nat.{zero-mod, zero-div, suc-mul, div-add-mod', div-mul-le-se
 use native.Mathlib.Omega.{arith}
 use borrow.Author.Tests.{leb-true, leb-false, ltb-true, eqb-true, eqb-false, lt-ltb}
 use lib.Arith.{digits-div}
-use lib.Dec.{T, leb, eqb}
+use lib.Dec.{T, leb, ltb, eqb}
 use lib.IntN.{ℤ, pos, negsuc, negℤ, natAbs, _+ℤ_, _*ℤ_, +ℤ-comm, negℤ-negℤ}
 use lib.ListN.{length, length-append, length-map, length-reverse}
 use lib.Signed.{leZ, ltZ, quotZ, _<ℤ_}
-use Rattle.ranged1d.specs.Answer.{Answer, given, _when_, lowest}
+use Rattle.ranged1d.specs.Answer.{Answer, given, _when_, lowest, BothLong}
 use Rattle.ranged1d.specs.Admitted.{wholeAdmitted}
 use Rattle.ranged1d.proofs.Whole.{neg-far, other-way, both-ways, neg-le, neg-lt, neg-times}
 use Rattle.numeric.specs.Marks.{low, high, distance, stepAt, chosen, ceilDiv, firstIndex, lastIndex, multiple, multiples, noStepFor, stepFor, marksFor, noStep, stepOf, marks}
 use Rattle.numeric.specs.Calls.{wholeKeyPoints}
-use Rattle.numeric.specs.Mirror.{mirrored, nearest, Divides, NextTowardZero, OneMore, stepOnly, tooShort, Mirrored}
+use Rattle.numeric.specs.Mirror.{mirrored, nearest, Divides, NextTowardZero, OneMore, stepOnly, Mirrored}
 use Rattle.numeric.proofs.Signs.{yes-le, yes-lt, lt-yes, above-neg, neg-order, below-all}
 use Rattle.numeric.proofs.Steps.{step-pos}
 use Rattle.numeric.proofs.Reflect.{reflect, one-more, mirrored-cons}
@@ -217,14 +217,14 @@ module _ (a b : ℤ) (m : ℕ) where
   unfolding lo hi s marksFor
   marks-neg = ap₂ (λ (x y : ℤ). marksBy x y (stepOf (negℤ a) (negℤ b) m)) (low-neg a b) (high-neg a b) ∙ ap (λ (n : ℕ). marksBy (negℤ hi) (negℤ lo) n) step-neg
 
-  verdict : (old old′ : List ℤ) → tooShort a b m old ≡ tooShort (negℤ a) (negℤ b) m old′ → stepOnly (wholeKeyPoints (negℤ a) (negℤ b) m old′ .0) ≡ stepOnly (wholeKeyPoints a b m old .0)
+  verdict : (old old′ : List ℤ) → BothLong (length (marks a b m)) old (length (marks (negℤ a) (negℤ b) m)) old′ → stepOnly (wholeKeyPoints (negℤ a) (negℤ b) m old′ .0) ≡ stepOnly (wholeKeyPoints a b m old .0)
   unfolding wholeKeyPoints
   verdict old old′ e =
-      strip (not (wholeAdmitted (negℤ a) && wholeAdmitted (negℤ b))) (noStep (negℤ a) (negℤ b) m) (tooShort (negℤ a) (negℤ b) m old′) (pos (stepOf (negℤ a) (negℤ b) m)) _
-      ∙ ap₂ (λ (x y : ℕ). by (not (leb x 1_000_000_000 && leb y 1_000_000_000)) (noStep (negℤ a) (negℤ b) m) (tooShort (negℤ a) (negℤ b) m old′) (stepOf (negℤ a) (negℤ b) m)) (neg-far a) (neg-far b)
-      ∙ ap₂ (λ (u : Bool) (n : ℕ). by (not (wholeAdmitted a && wholeAdmitted b)) u (tooShort (negℤ a) (negℤ b) m old′) n) no-step-neg step-neg
+      strip (not (wholeAdmitted (negℤ a) && wholeAdmitted (negℤ b))) (noStep (negℤ a) (negℤ b) m) (ltb (length old′) (length (marks (negℤ a) (negℤ b) m))) (pos (stepOf (negℤ a) (negℤ b) m)) _
+      ∙ ap₂ (λ (x y : ℕ). by (not (leb x 1_000_000_000 && leb y 1_000_000_000)) (noStep (negℤ a) (negℤ b) m) (ltb (length old′) (length (marks (negℤ a) (negℤ b) m))) (stepOf (negℤ a) (negℤ b) m)) (neg-far a) (neg-far b)
+      ∙ ap₂ (λ (u : Bool) (n : ℕ). by (not (wholeAdmitted a && wholeAdmitted b)) u (ltb (length old′) (length (marks (negℤ a) (negℤ b) m))) n) no-step-neg step-neg
       ∙ ap (λ (v : Bool). by (not (wholeAdmitted a && wholeAdmitted b)) (noStep a b m) v (stepOf a b m)) (sym e)
-      ∙ sym (strip (not (wholeAdmitted a && wholeAdmitted b)) (noStep a b m) (tooShort a b m old) (pos (stepOf a b m)) _)
+      ∙ sym (strip (not (wholeAdmitted a && wholeAdmitted b)) (noStep a b m) (ltb (length old) (length (marks a b m))) (pos (stepOf a b m)) _)
     where
       by : Bool → Bool → Bool → ℕ → Answer ℤ
       by t u v n = lowest (1 when t ∷ 3 when u ∷ 13 when v ∷ []) (given (pos n))

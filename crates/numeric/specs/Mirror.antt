@@ -1,15 +1,14 @@
 -- The mirror theorem for the marks of a whole axis: demand 3, and 01 "Mirroring, real reading, stepped axes". It is stated over the
 -- rules that the calls promise. `mirror` of proofs/Mirror proves `Mirrored a b m` of all a, b and m. Assumes nothing.
 use Prim.Native.Nat.{ℕ, _%_}
-use mathlib.Core.Bool.{Bool, false, cond}
+use mathlib.Core.Bool.{false, cond}
 use mathlib.Core.List.{List, [], _∷_, _++_, map, reverse}
 use mathlib.Core.Logic.{_⊎_, _↔_}
 use mathlib.Core.Path.{_≡_}
-use lib.Dec.{ltb}
 use lib.IntN.{ℤ, pos, negℤ, natAbs, _*ℤ_}
 use lib.ListN.{length}
 use lib.Signed.{ltZ, _≤ℤ_, _<ℤ_}
-use Rattle.ranged1d.specs.Answer.{Answer, given, andThen}
+use Rattle.ranged1d.specs.Answer.{Answer, given, andThen, BothLong}
 use Rattle.numeric.specs.Marks.{low, high, noStep, stepOf, marks}
 use Rattle.numeric.specs.Calls.{wholeKeyPoints}
 
@@ -47,15 +46,11 @@ pub record OneMore (s : ℕ) (z : ℤ) (more fewer : List ℤ) : Type 0 where
 abbrev pub stepOnly : Answer (ℤ × ℕ) → Answer ℤ
 stepOnly r = andThen r (λ x. given (x .0))
 
--- the lent list is too short for the marks
-abbrev pub tooShort : ℤ → ℤ → ℕ → List ℤ → Bool
-tooShort a b m old = ltb (length old) (length (marks a b m))
-
 -- ---- the statement, for the axis (a, b) and its mirror (−a, −b) under the same mark limit
 pub record Mirrored (a b : ℤ) (m : ℕ) : Type 0 where
   -- with lists lent that are long enough on both sides or too short on both: refused on both sides with the same number, or accepted
   -- on both, with the same step
-  pub same-verdict : (old old′ : List ℤ) → tooShort a b m old ≡ tooShort (negℤ a) (negℤ b) m old′ → stepOnly (wholeKeyPoints (negℤ a) (negℤ b) m old′ .0) ≡ stepOnly (wholeKeyPoints a b m old .0)
+  pub same-verdict : (old old′ : List ℤ) → BothLong (length (marks a b m)) old (length (marks (negℤ a) (negℤ b) m)) old′ → stepOnly (wholeKeyPoints (negℤ a) (negℤ b) m old′ .0) ≡ stepOnly (wholeKeyPoints a b m old .0)
   -- no step serves on both sides or on neither, and the step is the same
   pub same-refusal : noStep (negℤ a) (negℤ b) m ≡ noStep a b m
   pub same-step : stepOf (negℤ a) (negℤ b) m ≡ stepOf a b m

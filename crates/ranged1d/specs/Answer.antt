@@ -1,6 +1,7 @@
 -- The vocabulary of every rule: what a call answers, which refusal it meets first, and what lent memory holds afterwards.
 -- Assumes nothing.
 use Prim.Native.Nat.{ℕ}
+use mathlib.Core.Path.{_≡_}
 use mathlib.Core.Bool.{Bool, cond}
 use mathlib.Core.List.{List, [], _∷_, _++_}
 use lib.Dec.{ltb}
@@ -47,3 +48,7 @@ andThen (refused n) f = refused n
 -- A list that is put into lent memory, 13 where that is too short for it; else how many entries it has.
 abbrev pub listWritten : {A : Type 0} → List A → List A → Answer ℕ × List A
 listWritten l old = written (lowest (13 when ltb (length old) (length l) ∷ []) (given (length l))) l old
+
+-- Lent memory is long enough for n numbers on one side and for n' on the other, or on neither.
+abbrev pub BothLong : {A : Type 0} → ℕ → List A → ℕ → List A → Type 0
+BothLong n old n' old' = ltb (length old) n ≡ ltb (length old') n'

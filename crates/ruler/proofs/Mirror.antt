@@ -5,13 +5,13 @@ use mathlib.Core.List.{List, [], _∷_, _++_, map, reverse, reverse-cons, map-ap
 use mathlib.Core.Logic.{_⊎_, inl, inr}
 use Prim.Native.Nat.{ℕ, _+_, _*_, _%_}
 use native.Mathlib.Omega.{arith}
-use lib.Dec.{eqb}
+use lib.Dec.{ltb, eqb}
 use lib.IntN.{ℤ, pos, negℤ, natAbs, negℤ-negℤ}
 use lib.ListN.{length, length-append}
 use lib.Signed.{_<ℤ_}
 use borrow.Author.Tests.{eqb-true, eqb-false}
 use Rattle.ruler.proofs.Places.{served}
-use Rattle.ranged1d.specs.Answer.{Answer, given, none, refused, _when_, lowest}
+use Rattle.ranged1d.specs.Answer.{Answer, given, none, refused, _when_, lowest, BothLong}
 use Rattle.ranged1d.specs.Admitted.{wholeAdmitted, limitAdmitted}
 use Rattle.ranged1d.specs.declared.Limit.{Limit}
 use Rattle.ranged1d.proofs.Whole.{admitted-neg}
@@ -25,7 +25,7 @@ use Rattle.real.proofs.Readings.{limit-neg}
 use Rattle.ruler.specs.Bytes.{Record, axis, mark, laid, joined}
 use Rattle.ruler.specs.Place.{placeIn, placeOf}
 use Rattle.ruler.specs.Rule.{markAt, recordsOf, rulerBytes, rulerWrite, hasRuler}
-use Rattle.ruler.specs.Mirror.{negated, turned, Verdict, verdict, accepted, stopped, tooShort, OneMore, Mirrored}
+use Rattle.ruler.specs.Mirror.{negated, turned, Verdict, verdict, accepted, stopped, OneMore, Mirrored}
 use Rattle.ruler.proofs.Records.{mark-long, axis-long}
 use Rattle.ruler.proofs.Drawn.{has-plan, ruler-long}
 
@@ -110,13 +110,13 @@ module _ (a b : ℤ) (limit : Limit) (m : ℕ) where
   by-tests false false false true n k = refl
   by-tests false false false false n k = refl
 
-  verdict-same : (old old′ : List ℕ) → tooShort a b limit m old ≡ tooShort (negℤ a) (negℤ b) −limit m old′ → verdict (rulerWrite (negℤ a) (negℤ b) −limit m old′ .0) ≡ verdict (rulerWrite a b limit m old .0)
+  verdict-same : (old old′ : List ℕ) → BothLong (length (rulerBytes a b limit m)) old (length (rulerBytes (negℤ a) (negℤ b) −limit m)) old′ → verdict (rulerWrite (negℤ a) (negℤ b) −limit m old′ .0) ≡ verdict (rulerWrite a b limit m old .0)
   unfolding rulerWrite
   verdict-same old old′ e =
-      by-tests (not (wholeAdmitted (negℤ a) && wholeAdmitted (negℤ b))) (not (limitAdmitted −limit)) (noStep (negℤ a) (negℤ b) m) (tooShort (negℤ a) (negℤ b) −limit m old′) _ _
-      ∙ ap₂ (λ (x y : Bool). by (not x) (not y) (noStep (negℤ a) (negℤ b) m) (tooShort (negℤ a) (negℤ b) −limit m old′)) ends-same (limit-neg limit)
+      by-tests (not (wholeAdmitted (negℤ a) && wholeAdmitted (negℤ b))) (not (limitAdmitted −limit)) (noStep (negℤ a) (negℤ b) m) (ltb (length old′) (length (rulerBytes (negℤ a) (negℤ b) −limit m))) _ _
+      ∙ ap₂ (λ (x y : Bool). by (not x) (not y) (noStep (negℤ a) (negℤ b) m) (ltb (length old′) (length (rulerBytes (negℤ a) (negℤ b) −limit m)))) ends-same (limit-neg limit)
       ∙ ap₂ (λ (x y : Bool). by (not (wholeAdmitted a && wholeAdmitted b)) (not (limitAdmitted limit)) x y) (marks.mirror a b m .same-refusal) (sym e)
-      ∙ sym (by-tests (not (wholeAdmitted a && wholeAdmitted b)) (not (limitAdmitted limit)) (noStep a b m) (tooShort a b limit m old) _ _)
+      ∙ sym (by-tests (not (wholeAdmitted a && wholeAdmitted b)) (not (limitAdmitted limit)) (noStep a b m) (ltb (length old) (length (rulerBytes a b limit m))) _ _)
 
   -- ---- where there is a ruler
   module _ (h : hasRuler a b limit m ≡ true) where

@@ -1,15 +1,14 @@
 -- The mirror theorem for rulers: demand 3, and 01 "Mirroring, real reading, stepped axes". It is stated over the rules that the calls
 -- promise. `mirror` of proofs/Mirror proves `Mirrored a b limit m` of all a, b, limit and m. Assumes nothing.
 use Prim.Native.Nat.{ℕ}
-use mathlib.Core.Bool.{Bool, true}
+use mathlib.Core.Bool.{true}
 use mathlib.Core.List.{List, [], _∷_, _++_, map, reverse}
 use mathlib.Core.Logic.{_⊎_, _↔_}
 use mathlib.Core.Path.{_≡_}
-use lib.Dec.{ltb}
 use lib.IntN.{ℤ, pos, negℤ}
 use lib.ListN.{length}
 use lib.Signed.{_<ℤ_}
-use Rattle.ranged1d.specs.Answer.{Answer, given, none, refused}
+use Rattle.ranged1d.specs.Answer.{Answer, given, none, refused, BothLong}
 use Rattle.ranged1d.specs.declared.Limit.{Limit}
 use Rattle.numeric.specs.Marks.{low, high, stepOf}
 use Rattle.numeric.specs.Mirror.{nearestZero, Divides, NextTowardZero}
@@ -40,10 +39,6 @@ verdict (given x) = accepted
 verdict none = empty
 verdict (refused n) = stopped n
 
--- the lent bytes are too few for the ruler
-abbrev pub tooShort : ℤ → ℤ → Limit → ℕ → List ℕ → Bool
-tooShort a b limit m old = ltb (length old) (length (rulerBytes a b limit m))
-
 -- the bytes of the ruler of (a, b, limit, m), on the half below zero with z its needle nearest zero, have one record more than the records
 -- `fewer` of the other half: the last, of the next multiple of the step past z toward zero, placed by the rule of its own axis; all others
 -- match
@@ -55,7 +50,7 @@ pub record OneMore (a b : ℤ) (limit : Limit) (m : ℕ) (z : ℤ) (bytes : List
 -- ---- the statement, for (a, b, p, q, m) and its mirror (−a, −b, −p, −q, m)
 pub record Mirrored (a b : ℤ) (limit : Limit) (m : ℕ) : Type 0 where
   -- with bytes lent that are long enough on both sides or too short on both: refused on both with the same number, or accepted on both
-  pub same-verdict : (old old′ : List ℕ) → tooShort a b limit m old ≡ tooShort (negℤ a) (negℤ b) (film.mirrored limit) m old′ → verdict (rulerWrite (negℤ a) (negℤ b) (film.mirrored limit) m old′ .0) ≡ verdict (rulerWrite a b limit m old .0)
+  pub same-verdict : (old old′ : List ℕ) → BothLong (length (rulerBytes a b limit m)) old (length (rulerBytes (negℤ a) (negℤ b) (film.mirrored limit) m)) old′ → verdict (rulerWrite (negℤ a) (negℤ b) (film.mirrored limit) m old′ .0) ≡ verdict (rulerWrite a b limit m old .0)
   -- there is a ruler on both sides or on neither
   pub same-ruler : hasRuler (negℤ a) (negℤ b) (film.mirrored limit) m ≡ hasRuler a b limit m
   -- where there is one: the bytes are those of the turned records exactly when the step divides the needle nearest zero

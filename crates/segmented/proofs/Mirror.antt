@@ -7,7 +7,7 @@ use Prim.Native.Nat.{ℕ, zero, suc}
 use lib.IntN.{ℤ, negℤ, _+ℤ_, _-ℤ_, negℤ-+ℤ}
 use lib.ListN.{length}
 use lib.Ieee.{Float, neg}
-use Rattle.ranged1d.specs.Answer.{Answer, given, none, refused, _when_, lowest}
+use Rattle.ranged1d.specs.Answer.{Answer, given, none, refused, _when_, lowest, BothLong}
 use Rattle.ranged1d.specs.Admitted.{wholeAdmitted, limitAdmitted}
 use Rattle.ranged1d.specs.declared.Limit.{Limit}
 use Rattle.ranged1d.proofs.Answers.{not-none, not-both}
@@ -26,7 +26,7 @@ use Rattle.search.proofs.Turned.{each-length, search-turned, exact-stays}
 use Rattle.search.proofs.Mirror.{Opposite, Across, turned-twice}
 use Rattle.linspace.specs.List.{Kind, whole, real, stepped, against, axisAdmitted}
 use Rattle.linspace.specs.Calls.{nth, stepSpot}
-use Rattle.linspace.specs.Mirror.{AlikeLong}
+use Rattle.linspace.specs.Mirror as steps
 use Rattle.linspace.proofs.Turned.{KindTurns, stepped-turned, admitted-turned, against-turned, marks-turned}
 use Rattle.linspace.proofs.Mirror as lists
 use Rattle.segmented.specs.Values.{Segment, exact, centerOf, last}
@@ -133,9 +133,9 @@ module _ {A : Type 0} (kind : Kind A) (R : A → A → Type 0) (K : KindTurns ki
   marks-same : (m : ℕ) → length (M .marks m) ≡ length (H .marks m)
   marks-same m = each-length (M .marks m) (H .marks m) (marks-turned kind R K (opposite a) (opposite b) (opposite d) a b d (opp a) (opp b) (opp d) m)
 
-  key-points : (m : ℕ) (old old' : List A) → AlikeLong (length (H .marks m)) old old' → segmentKeyPoints M (length (M .marks m)) m old' .0 ≡ segmentKeyPoints H (length (H .marks m)) m old .0
+  key-points : (m : ℕ) (old old' : List A) → BothLong (length (H .marks m)) old (length (M .marks m)) old' → segmentKeyPoints M (length (M .marks m)) m old' .0 ≡ segmentKeyPoints H (length (H .marks m)) m old .0
   unfolding segmentKeyPoints
-  key-points m old old' h = rw (admits, leads, marks-same m, lengths, h) refl
+  key-points m old old' h = rw (admits, leads, ← h, marks-same m, lengths) refl
 
   -- ---- places, from those of values and their mirrors
   module _ (spots : axisAdmitted kind a b d ≡ true → (v w : A) → R w v → kind .admitted v ≡ true → (limit : Limit)
@@ -249,15 +249,12 @@ module _ {A : Type 0} (kind : Kind A) (R : A → A → Type 0) (K : KindTurns ki
               (place-unlimited H (findHere kind opposite a b d method) x limit f l)
           go true f true l = listed f l (counted-or-stopped H)
 
-    mirrored-segments : Mirrored kind opposite a b d
-    mirrored-segments = record { sizes = sizes; indices = indices; places = places; key-points = key-points }
+    mirrored-segments : {Turned : List A → List A → Type 0} → steps.Mirrored kind opposite Turned a b d → Mirrored kind opposite a b d Turned
+    mirrored-segments s = record { sizes = sizes; indices = indices; places = places; key-points = key-points; marks = s .marks }
 
 -- ---- whole numbers
 pub whole-mirror : (a b d : ℤ) → WholeMirrored a b d
-whole-mirror a b d = record {
-  segments = mirrored-segments whole Opposite lists.whole-kind negℤ (λ x. refl) a b d spots (λ n s k w e. entry-admitted a b d s k e);
-  marks = lists.whole-mirror a b d .marks;
-}
+whole-mirror a b d = mirrored-segments whole Opposite lists.whole-kind negℤ (λ x. refl) a b d spots (λ n s k w e. entry-admitted a b d s k e) (lists.whole-mirror a b d)
   where
     spots : axisAdmitted whole a b d ≡ true → (v w : ℤ) → w ≡ negℤ v → wholeAdmitted v ≡ true → (limit : Limit)
         → stepSpot whole (negℤ a) (negℤ b) (negℤ d) w (mirrored limit) ≡ place.negated (stepSpot whole a b d v limit)
@@ -268,7 +265,4 @@ whole-mirror a b d = record {
 
 -- ---- reals
 pub real-mirror : (a b d : Float) → RealMirrored a b d
-real-mirror a b d = record {
-  segments = mirrored-segments real Across lists.real-kind neg (λ x. inl refl) a b d (λ h v w r f limit. real-spot limit a b v w r) (λ n s k w e. refl);
-  marks = lists.real-mirror a b d .marks;
-}
+real-mirror a b d = mirrored-segments real Across lists.real-kind neg (λ x. inl refl) a b d (λ h v w r f limit. real-spot limit a b v w r) (λ n s k w e. refl) (lists.real-mirror a b d)

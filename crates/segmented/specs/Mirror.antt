@@ -7,12 +7,13 @@ use mathlib.Core.List.{List, map}
 use lib.IntN.{ℤ, negℤ}
 use lib.ListN.{length}
 use lib.Ieee.{Float, neg}
+use Rattle.ranged1d.specs.Answer.{BothLong}
 use Rattle.ranged1d.specs.declared.Limit.{Limit}
 use Rattle.real.specs.Mirror.{mirrored, negated}
 use Rattle.search.specs.Mirror.{turned}
 use Rattle.search.specs.declared.RoundingMethod.{RoundingMethod}
 use Rattle.linspace.specs.List.{Kind, whole, real}
-use Rattle.linspace.specs.Mirror.{AlikeLong, Negated}
+use Rattle.linspace.specs.Mirror.{Negated}
 use Rattle.segmented.specs.Values.{Segment, exact, centerOf, last}
 use Rattle.segmented.specs.Segments.{Axis, Finder, segmentPlace, segmentSize, segmentIndexOf, segmentKeyPoints}
 use Rattle.segmented.specs.Axes.{steppedAxis, steppedFinder}
@@ -38,7 +39,8 @@ module _ {A : Type 0} (kind : Kind A) (opposite : A → A) (a b d : A) where
   abbrev pub findThere : RoundingMethod → Finder A
   findThere method = steppedFinder kind (opposite a) (opposite b) (opposite d) (turned method)
 
-  pub record Mirrored : Type 0 where
+  -- `Turned` says that a list is the mirror of another
+  pub record Mirrored (Turned : List A → List A → Type 0) : Type 0 where
     pub sizes : segmentSize there ≡ segmentSize here
     -- The index is the same, or both are none, or both are refused alike.
     pub indices : (method : RoundingMethod) (s : Segment A) → segmentIndexOf there (findThere method) (across opposite s) ≡ segmentIndexOf here (findHere method) s
@@ -46,14 +48,14 @@ module _ {A : Type 0} (kind : Kind A) (opposite : A → A) (a b d : A) where
     pub places : (method : RoundingMethod) (s : Segment A) (limit : Limit)
         → segmentPlace there (findThere method) (across opposite s) (mirrored limit) ≡ negated (segmentPlace here (findHere method) s limit)
     -- The call that writes the marks answers alike or is refused alike, if the memory is long enough on both sides or on neither.
-    pub key-points : (m : ℕ) (old old' : List A) → AlikeLong (length (here .marks m)) old old'
+    pub key-points : (m : ℕ) (old old' : List A) → BothLong (length (here .marks m)) old (length (there .marks m)) old'
         → segmentKeyPoints there (length (there .marks m)) m old' .0 ≡ segmentKeyPoints here (length (here .marks m)) m old .0
+    -- The marks are negated entry for entry in the same order.
+    pub marks : (m : ℕ) → Turned (there .marks m) (here .marks m)
 
--- ---- the statements, with the marks, which are negated entry for entry in the same order
-pub record WholeMirrored (a b d : ℤ) : Type 0 where
-  pub segments : Mirrored whole negℤ a b d
-  pub marks : (m : ℕ) → there whole negℤ a b d .marks m ≡ map negℤ (here whole negℤ a b d .marks m)
+-- ---- the statements
+abbrev pub WholeMirrored : ℤ → ℤ → ℤ → Type 0
+WholeMirrored a b d = Mirrored whole negℤ a b d (λ new old. new ≡ map negℤ old)
 
-pub record RealMirrored (a b d : Float) : Type 0 where
-  pub segments : Mirrored real neg a b d
-  pub marks : (m : ℕ) → Negated (there real neg a b d .marks m) (here real neg a b d .marks m)
+abbrev pub RealMirrored : Float → Float → Float → Type 0
+RealMirrored a b d = Mirrored real neg a b d Negated

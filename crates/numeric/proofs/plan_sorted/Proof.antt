@@ -5,7 +5,7 @@ use Prim.Native.Nat.{ℕ, _≤_, _<_}
 use native.Mathlib.Omega.{arith}
 use borrow.Author.Needs.{needs}
 use borrow.Author.Tests.{le-leb, lt-leb}
-use lib.IntN.{ℤ, pos, natAbs, _*ℤ_}
+use lib.IntN.{pos, natAbs, _*ℤ_}
 use lib.ListN.{length}
 use mir.Facts.{toZ-ofZ, toZ-pos}
 use mir.Syntax.{w32}

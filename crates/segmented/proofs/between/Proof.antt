@@ -1,7 +1,7 @@
 -- `segmented::between` meets its contract. Assumes nothing.
 use mathlib.Core.Path.{_≡_}
 use lib.Dec.{lit<}
-use lib.IntN.{ℤ, _+ℤ_}
+use lib.IntN.{_+ℤ_}
 use mir.Syntax.{w32}
 use mir.Val.{SFits, toZ, ofZ}
 use mir.Facts.{toZ-ofZ}
