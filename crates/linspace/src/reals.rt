@@ -262,7 +262,18 @@ pub(crate) fn advance(x: f64, d: f64, k: usize) -> f64
     y
 }
 
-// A quarter of the number of entries, by a division that may be a few entries off; 0 of a list that is short, or too long.
+// Whether the step is so large beside the ends that rounding moves no sum by more than an eighth of it: then three quarters of the steps that a division
+// counts stay before b, and no sum is taken again to count the entries.
+fn is_coarse(s: Steps) -> bool {
+    let far = s.d * 1125899906842624.0;
+    if far < 0.0 {
+        return far <= s.b && s.a <= -far;
+    }
+    -far <= s.a && s.b <= far
+}
+
+// A quarter of the number of entries, by a division that may be a few entries off; 0 of a list that is short or too long, and of one by a step so small
+// that rounding may make it much shorter.
 fn quarter(s: Steps) -> usize
     ensures { λ r. ⌜ r ≤ 16384 ⌝ }
 {
@@ -273,7 +284,7 @@ fn quarter(s: Steps) -> usize
     if 16384 < k {
         return 0;
     }
-    k as usize
+    if is_coarse(s) { k as usize } else { 0 }
 }
 
 // The number of entries, 65,537 where there are more. Where x, the sum after k steps, comes before b, so do all sums before it.
