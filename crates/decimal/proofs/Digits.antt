@@ -9,11 +9,12 @@ use lib.Dec.{ltb}
 use borrow.Author.Tests.{lt-ltb, le-ltb, ltb-false}
 use lib.IntN.{ℤ, pos, negsuc, natAbs}
 use lib.Signed.{ltZ}
+use Rattle.ranged1d.proofs.Bools.{chosen}
 use Rattle.decimal.specs.declared.Text.{Text}
 use Rattle.decimal.specs.declared.LongText.{LongText}
 use lib.ListN.{length, set, drop, replicate, length-append, length-replicate, replicate-append-replicate}
 use lib.Seq.{set-at, drop-at}
-use Rattle.decimal.specs.Print.{digit, minus, digits, natural, decimal, filledTo, filled}
+use Rattle.decimal.specs.Print.{digit, minus, digits, natural, decimal, filledTo}
 
 pub tenth-small : (n k : ℕ) → n < 10 ^ suc k → n / 10 < 10 ^ k
 tenth-small n k h = div-lt-iff-lt-mul (zero-lt-suc 9) .1 (rw (pow-suc 10 k) at h)
@@ -138,15 +139,19 @@ text-is b c i j h = rw (h .0, h .1)
 pub long-text-is : (b c : List ℕ) (i j : ℕ) → (b ≡ c) × (i ≡ j) → _≡_ {A = LongText} (record { bytes = b; blanks = i }) (record { bytes = c; blanks = j })
 long-text-is b c i j h = rw (h .0, h .1)
 
+-- what holds of a last digit, and of one more digit behind those before it, holds of all digits
+pub digits-by : (P : ℕ → List ℕ → Type 0) → ((n : ℕ) → P n (digit n ∷ [])) → ((n : ℕ) (l : List ℕ) → P (n / 10) l → P n (l ++ (digit (n % 10) ∷ []))) → (f n : ℕ) → P n (digits f n)
+unfolding digits
+digits-by P one more zero n = one n
+digits-by P one more (suc f) n = chosen (P n) (ltb n 10) (one n) (more n (digits f (n / 10)) (digits-by P one more f (n / 10)))
+
 -- how long a text is, of any number
 pub digits-most : (f n : ℕ) → length (digits f n) ≤ f + 1
 unfolding digits
 digits-most zero n = omega arith
-digits-most (suc f) n = go (ltb n 10) (digits-most f (n / 10))
-  where
-    go : (t : Bool) → length (digits f (n / 10)) ≤ f + 1 → length (cond t (digit n ∷ []) (digits f (n / 10) ++ (digit (n % 10) ∷ []))) ≤ suc f + 1
-    go true h = omega arith
-    go false h = rw (length-append (digits f (n / 10)) (digit (n % 10) ∷ [])) (omega arith)
+digits-most (suc f) n =
+    let l = digits f (n / 10) in
+    chosen (λ (d : List ℕ). length d ≤ suc f + 1) (ltb n 10) (omega arith) (omega (arith, length-append l (digit (n % 10) ∷ []), digits-most f (n / 10)))
 
 pub decimal-most : (v : ℤ) → length (decimal v) ≤ 11
 decimal-most (pos n) = omega (arith, digits-most 9 n)
@@ -157,9 +162,6 @@ natural-most n = omega (arith, digits-most 9 n)
 
 pub filled-to-long : (w : ℕ) (t : List ℕ) → length t ≤ w → length (filledTo w t) ≡ w
 filled-to-long w t h = rw (length-append (replicate (w - length t) 32) t, length-replicate {A = ℕ} (w - length t) 32) (omega arith)
-
-pub filled-long : (t : List ℕ) → length t ≤ 11 → length (filled t) ≡ 11
-filled-long = filled-to-long 11
 
 -- without its blanks it is the text again
 pub unfilled-to : (w : ℕ) (t : List ℕ) → drop (w - length t) (filledTo w t) ≡ t

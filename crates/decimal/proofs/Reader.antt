@@ -7,7 +7,7 @@ use Prim.Native.Nat.{ℕ, zero, suc, _+_, _-_, _*_, _/_, _%_, _≤_, _<_}
 use native.Mathlib.Nat.{div-add-mod'}
 use native.Mathlib.Omega.{arith}
 use borrow.Author.Tests.{eq-eqb, ne-eqb, le-leb, lt-leb, leb-true}
-use lib.Dec.{ltb, leb}
+use lib.Dec.{leb}
 use lib.IntN.{ℤ, pos, negsuc, negℤ}
 use lib.ListN.{length, getD, drop, length-append, List·getD-append}
 use mir.Syntax.{w32}
@@ -16,10 +16,10 @@ use Rattle.ranged1d.specs.Answer.{given, none}
 use Rattle.ranged1d.specs.Numbers.{isI32}
 use Rattle.ranged1d.proofs.Answers.{choice}
 use Rattle.ranged1d.proofs.Bools.{both-true}
-use Rattle.decimal.specs.Print.{digit, digits, natural, decimal, filled}
+use Rattle.decimal.specs.Print.{digit, digits, natural, decimal}
 use Rattle.decimal.specs.Read.{valueOf, signedValue, sameBytes, readI32, readU32}
 use Rattle.decimal.specs.Steps.{keepI32, keepPrinted}
-use Rattle.decimal.proofs.Digits.{digits-most, decimal-most, unfilled-to}
+use Rattle.decimal.proofs.Digits.{digits-by, digits-most, decimal-most}
 use Rattle.decimal.proofs.Texts.{same-self, same-equal, same-no}
 
 -- ---- what is an i32
@@ -36,22 +36,15 @@ minus-fits zero h = record { sfits = omega arith }
 minus-fits (suc n) h = record { sfits = omega arith }
 
 -- ---- a text's own length
-pub digits-some : (f n : ℕ) → 0 < length (digits f n)
-unfolding digits
-digits-some zero n = omega arith
-digits-some (suc f) n = go (ltb n 10)
-  where
-    go : (t : Bool) → 0 < length (cond t (digit n ∷ []) (digits f (n / 10) ++ (digit (n % 10) ∷ [])))
-    go true = omega arith
-    go false = rw (length-append (digits f (n / 10)) (digit (n % 10) ∷ [])) (omega arith)
+-- digits begin with one, not with a minus sign
+digits-head : (f n : ℕ) → (0 < length (digits f n)) × (48 ≤ getD (digits f n) 0 0)
+digits-head =
+    digits-by (λ n l. (0 < length l) × (48 ≤ getD l 0 0)) (λ n. (omega arith, omega arith))
+    (λ n l h. (omega (arith, length-append l (digit (n % 10) ∷ [])), rw (List·getD-append l (digit (n % 10) ∷ []) 0 0 (h .0)) (h .1)))
 
 decimal-some : (z : ℤ) → 0 < length (decimal z)
-decimal-some (pos n) = digits-some 9 n
+decimal-some (pos n) = digits-head 9 n .0
 decimal-some (negsuc n) = omega arith
-
--- a filled text without its blanks
-pub unfilled : (t : List ℕ) → drop (11 - length t) (filled t) ≡ t
-unfilled = unfilled-to 11
 
 -- a test that fails leaves none
 fails : {A : Type 0} (t u : Bool) (a : A) → u ≡ false → cond (t && u) (given a) none ≡ none
@@ -96,26 +89,13 @@ value-append n [] k = refl
 value-append n (c ∷ cs) k = value-append (n * 10 + (c - 48)) cs k
 
 value-digits : (f n : ℕ) → valueOf 0 (digits f n) ≡ n
-unfolding digits valueOf
-value-digits zero n = omega arith
-value-digits (suc f) n = go (ltb n 10) (value-digits f (n / 10))
-  where
-    go : (t : Bool) → valueOf 0 (digits f (n / 10)) ≡ n / 10 → valueOf 0 (cond t (digit n ∷ []) (digits f (n / 10) ++ (digit (n % 10) ∷ []))) ≡ n
-    go true r = omega arith
-    go false r = value-append 0 (digits f (n / 10)) (digit (n % 10) ∷ []) ∙ ap (λ (x : ℕ). x * 10 + (48 + n % 10 - 48)) r ∙ (let e : n / 10 * 10 + (48 + n % 10 - 48) ≡ n = omega (arith, div-add-mod' n 10) in e)
-
--- it does not begin with a minus sign
-digits-head : (f n : ℕ) → 48 ≤ getD (digits f n) 0 0
-unfolding digits
-digits-head zero n = omega arith
-digits-head (suc f) n = go (ltb n 10) (digits-head f (n / 10))
-  where
-    go : (t : Bool) → 48 ≤ getD (digits f (n / 10)) 0 0 → 48 ≤ getD (cond t (digit n ∷ []) (digits f (n / 10) ++ (digit (n % 10) ∷ []))) 0 0
-    go true r = omega arith
-    go false r = rw (List·getD-append (digits f (n / 10)) (digit (n % 10) ∷ []) 0 0 (digits-some f (n / 10))) r
+unfolding valueOf
+value-digits =
+    digits-by (λ n l. valueOf 0 l ≡ n) (λ n. omega arith)
+    (λ n l r. value-append 0 l (digit (n % 10) ∷ []) ∙ ap (λ (x : ℕ). x * 10 + (48 + n % 10 - 48)) r ∙ (let e : n / 10 * 10 + (48 + n % 10 - 48) ≡ n = omega (arith, div-add-mod' n 10) in e))
 
 pub value-decimal : (z : ℤ) → signedValue (decimal z) ≡ z
-value-decimal (pos n) = value-plain (natural n) (λ e. omega (arith, digits-head 9 n)) ∙ ap pos (value-digits 9 n)
+value-decimal (pos n) = value-plain (natural n) (λ e. omega (arith, digits-head 9 n .1)) ∙ ap pos (value-digits 9 n)
 value-decimal (negsuc n) = ap (λ (k : ℕ). negℤ (pos k)) (value-digits 9 (suc n))
 
 -- ---- printing and reading undo each other: the reader accepts exactly what is printed of an i32, of a u32

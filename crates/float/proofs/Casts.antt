@@ -3,7 +3,7 @@
 use mathlib.Core.Path.{_≡_, sym, ap, _∙_}
 use mathlib.Core.Bool.{true, false, true≢false}
 use Prim.Native.Nat.{ℕ, _-_, _*_, _/_, _^_, _≤_, _<_, min}
-use native.Mathlib.Nat.{mul-one, mul-pos, mul-le-mul-right, le-trans, le-of-eq}
+use native.Mathlib.Nat.{mul-one}
 use native.Mathlib.Omega.{arith}
 use lib.IntN.{pos, natAbs}
 use lib.Ieee.{Float, nan, inf, fin, up, down, binary64, sub, mul, ofInt, toUnsigned, fits}
@@ -11,30 +11,25 @@ use Rattle.float.proofs.Cases.{pow-small}
 use lib.Ieee.Bits.{is-true}
 use lib.Ieee.Fits.{down-pos, mul-fits}
 use lib.Ieee.Exact.{HasValue}
+use lib.Ieee.Back.{round-whole}
 use Rattle.rounding.specs.Integral.{floors, halves, sized, floorOf, roundOf}
 use Rattle.rounding.specs.Within.{wholeOf, AtMost}
+use Rattle.rounding.proofs.Small.{mul-small}
 use Rattle.rounding.proofs.Quotients.{sized-le, sized-whole}
 use Rattle.rounding.proofs.Value.{integral-value}
 use Rattle.float.specs.Text.{sizeOf, wholePart, decimalsOf}
-use Rattle.float.proofs.Bounds.{near, Small, round-small, wider, small-bound, part-small}
+use Rattle.float.proofs.Bounds.{near, Small, sign-round, value-within, part-small}
 
 -- ---- the whole part
-quotient-le : (n d C : ℕ) → 0 < d → n ≤ C * d → n / d ≤ C
-quotient-le n d C p h = sized-le floors false n d C p h
-
 pub whole-le : (x : Float) → AtMost near x → wholePart x ≤ near
 unfolding wholeOf
-whole-le nan w = absurd w
-whole-le (inf s) w = absurd w
-whole-le (fin s m e) w = quotient-le (m * up e) (down e) near (down-pos e) w
+whole-le (fin s m e) w = sized-le floors false (m * up e) (down e) near (down-pos e) w
 
 -- the whole part of a label is that of the shortened number
 pub whole-exact : (x : Float) → AtMost near x → toUnsigned 64 (sizeOf x) ≡ wholePart x
 unfolding toUnsigned wholeOf
-whole-exact nan w = absurd w
-whole-exact (inf s) w = absurd w
 whole-exact (fin s m e) w =
-    let l : m * up e / down e ≤ near = quotient-le (m * up e) (down e) near (down-pos e) w in
+    let l : m * up e / down e ≤ near = sized-le floors false (m * up e) (down e) near (down-pos e) w in
     let r : min (m * up e / down e) (2 ^ 64 - 1) ≡ m * up e / down e = omega arith in
     r
 
@@ -42,8 +37,6 @@ whole-exact (fin s m e) w =
 -- a float that is a whole number is cast to it
 cast-whole : (y : Float) (k : ℕ) → HasValue y false k 1 → k < 2 ^ 64 → toUnsigned 64 y ≡ k
 unfolding toUnsigned
-cast-whole nan k v l = absurd v
-cast-whole (inf s) k v l = absurd v
 cast-whole (fin true m e) k v l = absurd (true≢false (v .0))
 cast-whole (fin false m e) k v l =
     let q : m * up e / down e ≡ k = ap (λ (n : ℕ). n / down e) (sym (mul-one (m * up e)) ∙ v .1) ∙ sized-whole floors false k (down e) (down-pos e) in
@@ -60,21 +53,17 @@ round-exact (fin false m e) t w =
     cast-whole (roundOf (fin false m e)) (sized halves false (m * up e) (down e)) (integral-value binary64 halves false m e t) (omega arith)
 
 -- a number of at most 1, times a whole number
-times : (N : ℕ) (x y : Float) → N ≤ 2 ^ 53 → Small 1 x → HasValue y false N 1 → Small N (mul binary64 x y)
+times : (N : ℕ) (x y : Float) → N ≤ 2 ^ 53 → Small 1 x → HasValue y false N 1 → Small (2 ^ 53) (mul binary64 x y)
 unfolding mul
 times N nan y l w v = absurd (w .1)
 times N (inf s) y l w v = absurd (w .1)
 times N (fin true m e) y l w v = absurd (true≢false (w .0))
-times N (fin false m e) nan l w v = absurd v
-times N (fin false m e) (inf s) l w v = absurd v
 times N (fin false m e) (fin true n d) l w v = absurd (true≢false (v .0))
 times N (fin false m e) (fin false n d) l w v =
-    let D = down d in
-    let E = down e in
-    let q : n * up d ≡ N * D = sym (mul-one (n * up d)) ∙ v .1 in
-    let a : m * up e * (n * up d) ≤ 1 * E * (n * up d) = mul-le-mul-right (n * up d) (w .1) in
-    let b : 1 * E * (n * up d) ≡ N * (E * D) = rw (native.Mathlib.Nat.one-mul E, q) (native.Mathlib.Nat.mul-left-comm E N D) in
-    round-small N (small-bound N l) (m * up e * (n * up d)) (E * D) (mul-pos (down-pos e) (down-pos d)) (le-trans a (le-of-eq b))
+    let y = fin false n d in (
+      sign-round false (m * up e * (n * up d)) (down e * down d),
+      mul-small binary64 (2 ^ 53) (round-whole binary64 false (2 ^ 53) (omega arith)) 1 N (fin false m e) y (omega (arith, l)) (w .1) (value-within y false N N v (omega arith)),
+    )
 
 size-fits : (x : Float) → fits binary64 x ≡ true → fits binary64 (sizeOf x) ≡ true
 unfolding fits
@@ -87,9 +76,6 @@ size-at-most C nan w = w
 size-at-most C (inf s) w = w
 size-at-most C (fin s m e) w = w
 
-small-wider : (C D : ℕ) (x : Float) → C ≤ D → Small C x → Small D x
-small-wider C D x l w = (w .0, wider C D x l (w .1))
-
 -- the decimals of a label are its fraction times 10 ^ p, rounded
 pub decimals-exact : (x : Float) (p : ℕ) → p ≤ 10 → fits binary64 x ≡ true → AtMost near x → toUnsigned 64 (roundOf (mul binary64 (sub binary64 (sizeOf x) (floorOf (sizeOf x))) (ofInt binary64 (pos (10 ^ p))))) ≡ decimalsOf x p
 unfolding ofInt
@@ -100,4 +86,4 @@ decimals-exact x p h t w =
     let f = part-small near (sizeOf x) (size-fits x t) (size-at-most near x w) in
     let y = mul binary64 (sub binary64 (sizeOf x) (floorOf (sizeOf x))) (ofInt binary64 (pos N)) in
     round-exact y (is-true (fits binary64 y) (mul-fits binary64 (sub binary64 (sizeOf x) (floorOf (sizeOf x))) (ofInt binary64 (pos N))))
-    (small-wider N (2 ^ 53) y m (times N (sub binary64 (sizeOf x) (floorOf (sizeOf x))) (ofInt binary64 (pos N)) m f (small-bound N m)))
+    (times N (sub binary64 (sizeOf x) (floorOf (sizeOf x))) (ofInt binary64 (pos N)) m f (round-whole binary64 false N m))

@@ -1,6 +1,6 @@
 -- Signs and sizes from the tests of the code. Assumes nothing.
 use mathlib.Core.Path.{_≡_, refl, sym, _∙_}
-use mathlib.Core.Bool.{Bool, true, false, true≢false}
+use mathlib.Core.Bool.{Bool, true, false, cond, true≢false}
 use Prim.Native.Nat.{ℕ, _+_, _*_, _^_, _≤_, _<_}
 use native.Mathlib.Omega.{arith}
 use lib.Dec.{eqb}
@@ -57,20 +57,13 @@ sign-above (fin true m e) g h l =
     let b : m * up e * 1 ≡ 0 = omega arith in
     sym l ∙ rw (eq-eqb (m * up e * 1) (0 * down e) a, eq-eqb (m * up e * 1) 0 b)
 
-pub abs-neg : (n : Float) → signOf n ≡ true → neg n ≡ sizeOf n
+pub size-is : (n : Float) → cond (signOf n) (neg n) n ≡ sizeOf n
 unfolding neg
-abs-neg nan h = refl
-abs-neg (inf true) h = refl
-abs-neg (inf false) h = absurd (true≢false (sym h))
-abs-neg (fin true m e) h = refl
-abs-neg (fin false m e) h = absurd (true≢false (sym h))
-
-pub abs-pos : (n : Float) → signOf n ≡ false → n ≡ sizeOf n
-abs-pos nan h = refl
-abs-pos (inf true) h = absurd (true≢false h)
-abs-pos (inf false) h = refl
-abs-pos (fin true m e) h = absurd (true≢false h)
-abs-pos (fin false m e) h = refl
+size-is nan = refl
+size-is (inf true) = refl
+size-is (inf false) = refl
+size-is (fin true m e) = refl
+size-is (fin false m e) = refl
 
 -- ---- the size is below 2 ^ 53
 pub admit-yes : (n : Float) → lt n high ≡ true → lt low n ≡ true → true ≡ printable n

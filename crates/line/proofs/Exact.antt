@@ -3,7 +3,7 @@ use mathlib.Core.Path.{_≡_, refl, sym, ap, ap₂, _∙_, subst}
 use mathlib.Core.Bool.{Bool, true, false, cond}
 use mathlib.Core.List.{List, [], _∷_, _++_, append-assoc}
 use mathlib.Core.Logic.{_↔_}
-use Prim.Native.Nat.{ℕ, zero, suc, _+_, _/_, _%_, _≤_, _<_}
+use Prim.Native.Nat.{ℕ, zero, suc, _+_, _%_, _≤_, _<_}
 use native.Mathlib.Omega.{arith}
 use borrow.Author.Tests.{ne-eqb, eqb-true, ltb-true, lt-ltb}
 use lib.Dec.{ltb, eqb}
@@ -14,6 +14,7 @@ use Rattle.ranged1d.specs.Numbers.{isI32}
 use Rattle.ranged1d.proofs.Answers.{not-both, not-none, choice}
 use Rattle.decimal.specs.Print.{digit, digits, natural, decimal}
 use Rattle.decimal.specs.Read.{sameBytes, readI32, readU32}
+use Rattle.decimal.proofs.Digits.{digits-by}
 use Rattle.decimal.proofs.Texts.{same-self, same-equal}
 use Rattle.decimal.proofs.Reader.{reads-i32, reads-u32, printed-i32, printed-u32}
 use Rattle.line.specs.declared.Request.{Request}
@@ -30,13 +31,8 @@ no-blank-append [] k p q = q
 no-blank-append (c ∷ cs) k p q = (p .0, no-blank-append cs k (p .1) q)
 
 digits-no-blank : (f n : ℕ) → NoBlank (digits f n)
-unfolding NoBlank digits
-digits-no-blank zero n = (omega arith, tt)
-digits-no-blank (suc f) n = go (ltb n 10) (digits-no-blank f (n / 10))
-  where
-    go : (t : Bool) → NoBlank (digits f (n / 10)) → NoBlank (cond t (digit n ∷ []) (digits f (n / 10) ++ (digit (n % 10) ∷ [])))
-    go true r = (omega arith, tt)
-    go false r = no-blank-append (digits f (n / 10)) (digit (n % 10) ∷ []) r (omega arith, tt)
+unfolding NoBlank
+digits-no-blank = digits-by (λ n. NoBlank) (λ n. (omega arith, tt)) (λ n l h. no-blank-append l (digit (n % 10) ∷ []) h (omega arith, tt))
 
 decimal-no-blank : (z : ℤ) → NoBlank (decimal z)
 unfolding NoBlank

@@ -1,5 +1,5 @@
 -- Numbers in fields, taken one after the other. Assumes nothing.
-use mathlib.Core.Path.{_≡_, refl, sym, ap, _∙_}
+use mathlib.Core.Path.{_≡_, refl, sym, ap}
 use mathlib.Core.List.{List, [], _∷_, _++_, append-assoc, append-nil}
 use Prim.Native.Nat.{ℕ, suc, _+_, _-_, _<_}
 use native.Mathlib.Numerals.{add-one}
@@ -12,9 +12,7 @@ use Rattle.line.specs.Line.{wholeField, wholeFields}
 
 -- numbers that were taken before
 abbrev pub prepend : List ℤ → Answer (List ℤ × List ℕ) → Answer (List ℤ × List ℕ)
-prepend l (given r) = given (l ++ r .0, r .1)
-prepend l none = none
-prepend l (refused n) = refused n
+prepend l x = andThen x (λ r. given (l ++ r .0, r .1))
 
 pub prepend-none : (x : Answer (List ℤ × List ℕ)) → prepend [] x ≡ x
 prepend-none (given r) = refl
@@ -26,21 +24,14 @@ prepend-twice l k (given r) = ap (λ (t : List ℤ). given (t, r .1)) (sym (appe
 prepend-twice l k none = refl
 prepend-twice l k (refused n) = refl
 
-one : (z : ℤ) (x : Answer (List ℤ × List ℕ)) → andThen x (λ r. given (z ∷ r .0, r .1)) ≡ prepend (z ∷ []) x
-one z (given r) = refl
-one z none = refl
-one z (refused n) = refl
-
 -- a number is there, and goes to place k of a list
 pub more-fields : (values : List ℤ) (k : ℕ) (l : List ℕ) (z : ℤ) (n : ℕ) → k < 4 → length values ≡ 4 → wholeField l ≡ given (z, drop n l)
     → prepend (take k values) (wholeFields (4 - k) l) ≡ prepend (take (k + 1) (set values k z)) (wholeFields (4 - (k + 1)) (drop n l))
 unfolding wholeFields
 more-fields values k l z n h len e =
     let s : 4 - k ≡ suc (4 - (k + 1)) = omega arith in
-    rw (s, e)
-    (ap (prepend (take k values)) (one z (wholeFields (4 - (k + 1)) (drop n l)))
-    ∙ prepend-twice (take k values) (z ∷ []) (wholeFields (4 - (k + 1)) (drop n l))
-    ∙ ap (λ (t : List ℤ). prepend t (wholeFields (4 - (k + 1)) (drop n l))) (sym (rw add-one (take-suc-set values k z (omega arith)))))
+    let t : take (k + 1) (set values k z) ≡ take k values ++ (z ∷ []) = rw add-one (take-suc-set values k z (omega arith)) in
+    rw (s, e, t) (prepend-twice (take k values) (z ∷ []) (wholeFields (4 - (k + 1)) (drop n l)))
 
 -- none is there
 pub no-fields : (values : List ℤ) (k : ℕ) (l : List ℕ) → k < 4 → wholeField l ≡ none → prepend (take k values) (wholeFields (4 - k) l) ≡ none

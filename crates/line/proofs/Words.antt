@@ -1,14 +1,13 @@
 -- The word before a list's first blank. Assumes nothing.
 use mathlib.Core.Path.{_≡_, refl, ap}
-use mathlib.Core.Bool.{Bool, true, false, cond}
 use mathlib.Core.List.{List, [], _∷_}
 use Prim.Native.Nat.{ℕ, suc, _+_, _≤_, _<_}
 use native.Mathlib.Numerals.{add-one}
-use native.Mathlib.Omega.{arith}
 use borrow.Author.Tests.{eq-eqb, ne-eqb}
 use lib.Dec.{eqb}
 use lib.ListN.{length, getD, take, drop, drop-of-length-le}
 use lib.Seq.{drop-cons}
+use Rattle.ranged1d.proofs.Bools.{chosen}
 use Rattle.line.specs.Line.{word}
 
 module _ (s : List ℕ) (i : ℕ) where
@@ -28,17 +27,4 @@ module _ (s : List ℕ) (i : ℕ) where
 pub word-front : (s : List ℕ) → take (length (word s)) s ≡ word s
 unfolding word
 word-front [] = refl
-word-front (c ∷ cs) = go (eqb c 32) (word-front cs)
-  where
-    go : (t : Bool) → take (length (word cs)) cs ≡ word cs → take (length (cond t [] (c ∷ word cs))) (c ∷ cs) ≡ cond t [] (c ∷ word cs)
-    go true r = refl
-    go false r = ap (λ (l : List ℕ). c ∷ l) r
-
-pub word-short : (s : List ℕ) → length (word s) ≤ length s
-unfolding word
-word-short [] = omega arith
-word-short (c ∷ cs) = go (eqb c 32) (word-short cs)
-  where
-    go : (t : Bool) → length (word cs) ≤ length cs → length (cond t [] (c ∷ word cs)) ≤ suc (length cs)
-    go true r = omega arith
-    go false r = omega arith
+word-front (c ∷ cs) = chosen (λ (l : List ℕ). take (length l) (c ∷ cs) ≡ l) (eqb c 32) refl (ap (λ (l : List ℕ). c ∷ l) (word-front cs))

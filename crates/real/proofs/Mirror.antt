@@ -16,7 +16,6 @@ use Rattle.rounding.specs.Integral.{Way, floors, ceils}
 use Rattle.rounding.specs.Within.{wholeOf, within, floorWithin, ceilWithin}
 use Rattle.rounding.specs.declared.Whole.{Whole}
 use Rattle.rounding.specs.declared.Whole.the-variants.{Number, Beyond}
-use Rattle.rounding.proofs.Laws.{ceil-within-neg}
 use Rattle.rounding.proofs.Signs as whole
 use Rattle.real.specs.Place.{farthest, milli, share, rising, falling, plus, orEnd, along, spot, isBeyond, realPlace, wholePlace, wholeSpot, spotAnswer}
 use Rattle.real.specs.Mirror.{mirrored, negated, Mirrored}
@@ -37,7 +36,7 @@ sum-turn m = go (add-turns m milli)
   where
     go : Turns (add binary64 (neg m) (neg milli)) (add binary64 m milli) (eq (neg milli) m ≡ true)
         → ceilWithin farthest (add binary64 (neg m) (neg milli)) ≡ whole.negated (floorWithin farthest (add binary64 m milli))
-    go (inl e) = ap (ceilWithin farthest) e ∙ ceil-within-neg farthest (add binary64 m milli)
+    go (inl e) = ap (ceilWithin farthest) e ∙ whole.within-neg ceils farthest (add binary64 m milli)
     go (inr w) = ap (ceilWithin farthest) (w .2) ∙ zero-turn ∙ sym (ap (λ (y : Float). whole.negated (floorWithin farthest y)) (w .1))
 
 falls : (n : ℕ) (t : Float) → falling (negsuc n) t ≡ whole.negated (rising (pos (suc n)) t)

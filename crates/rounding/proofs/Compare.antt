@@ -1,13 +1,14 @@
 -- Two floats of one sign compared, by the fractions that they equal. Assumes nothing.
-use mathlib.Core.Path.{_≡_, refl, sym, ap, _∙_, subst}
+use mathlib.Core.Path.{_≡_, refl, sym, _∙_, subst}
 use mathlib.Core.Bool.{Bool, true, false, true≢false, false≢true}
 use Prim.Native.Nat.{ℕ, _*_, _≤_, _<_}
-use native.Mathlib.Nat.{mul-assoc, mul-comm, mul-left-comm, mul-one, mul-pos, mul-lt-mul-of-pos-right, mul-le-mul-right, lt-of-mul-lt-mul-right, le-of-mul-le-mul-right}
+use native.Mathlib.Nat.{mul-one, lt-of-not-le, not-le-of-lt}
 use lib.Dec.{ltb}
 use lib.IntN.{ℤ}
 use lib.Ieee.{Float, fin, up, down, lt}
 use lib.Ieee.Fits.{down-pos}
 use lib.Ieee.Exact.{HasValue}
+use lib.Ieee.Order.{transfer}
 use borrow.Author.Tests.{ltb-true, ltb-false}
 
 -- what a test for a < b that came out as t says
@@ -24,28 +25,10 @@ pub says : (a b : ℕ) (t : Bool) → ltb a b ≡ t → Says t a b
 says a b true h = ltb-true a b h
 says a b false h = ltb-false a b h
 
-scaled : (t : Bool) (a b c : ℕ) → 0 < c → Says t a b → Says t (a * c) (b * c)
-scaled true a b c p h = mul-lt-mul-of-pos-right h p
-scaled false a b c p h = mul-le-mul-right c h
-
-cancel : (t : Bool) (a b c : ℕ) → 0 < c → Says t (a * c) (b * c) → Says t a b
-cancel true a b c p h = lt-of-mul-lt-mul-right c h
-cancel false a b c p h = le-of-mul-le-mul-right h p
-
--- x / e is a / b, so x / e over any g is a / b over it
-moved : (x e g a b d : ℕ) → x * b ≡ a * e → x * g * (b * d) ≡ a * d * (e * g)
-moved x e g a b d h =
-    let l : x * g * (b * d) ≡ x * b * (g * d) = simp (mul-assoc, mul-left-comm) in
-    let r : a * e * (g * d) ≡ a * d * (e * g) = simp (mul-assoc, mul-comm, mul-left-comm) in
-    l ∙ ap (λ (z : ℕ). z * (g * d)) h ∙ r
-
 -- x / e < y / g says that a / b < c / d, where x / e is a / b and y / g is c / d
 crossed : (t : Bool) (x e y g a b c d : ℕ) → 0 < e → 0 < g → 0 < b → 0 < d → x * b ≡ a * e → y * d ≡ c * g → Says t (x * g) (y * e) → Says t (a * d) (c * b)
-crossed t x e y g a b c d pe pg pb pd hx hy h =
-    let q : y * e * (b * d) ≡ c * b * (e * g) = ap (λ (z : ℕ). y * e * z) (mul-comm b d) ∙ moved y g e c d b hy ∙ ap (λ (z : ℕ). c * b * z) (mul-comm g e) in
-    cancel t (a * d) (c * b) (e * g) (mul-pos pe pg)
-    (subst (λ (z : ℕ). Says t z (c * b * (e * g))) (moved x e g a b d hx)
-    (subst (λ (z : ℕ). Says t (x * g * (b * d)) z) q (scaled t (x * g) (y * e) (b * d) (mul-pos pb pd) h)))
+crossed false x e y g a b c d pe pg pb pd hx hy h = transfer c a d b y x g e pg pe (sym hy) (sym hx) h
+crossed true x e y g a b c d pe pg pb pd hx hy h = lt-of-not-le (λ k. not-le-of-lt h (transfer y x g e c a d b pd pb hy hx k))
 
 -- ±a / b < ±c / d
 pub compared : (s t : Bool) (x y : Float) (a b c d : ℕ) → 0 < b → 0 < d → HasValue x s a b → HasValue y s c d → lt x y ≡ t → Tells s t (a * d) (c * b)

@@ -1,4 +1,4 @@
--- What belongs to no one function: `Laws` has what a later crate may use. Assumes nothing.
+-- What belongs to no one function. Assumes nothing.
 pub mod Quotients
 pub mod Compare
 pub mod Signs
@@ -10,5 +10,4 @@ pub mod Cuts
 pub mod Bounds
 pub mod Value
 pub mod Order
-pub mod Laws
 pub mod Worked

@@ -79,14 +79,17 @@ near-by : (s : Bool) (n d k : ℕ) → Near n d k → 2 * natAbs (signed s k *�
 near-by s n d k h = rw (signed-mul s k d, apart s (k * d) n) (omega arith)
 
 module _ (s : Bool) (m : ℕ) (e : ℤ) where
+  -- floor ≤ x < floor + 1
   pub floor-next : ((wholeOf floors (fin s m e) *ℤ pos (down e)) ≤ℤ signed s (m * up e)) × (signed s (m * up e) <ℤ ((wholeOf floors (fin s m e) +ℤ pos 1) *ℤ pos (down e)))
   unfolding wholeOf
   floor-next = floor-by s (m * up e) (down e) (sized floors s (m * up e) (down e)) (down-pos e) (sized-of floors s (m * up e) (down e) (down-pos e))
 
+  -- ceil - 1 < x ≤ ceil
   pub ceil-next : (((wholeOf ceils (fin s m e) -ℤ pos 1) *ℤ pos (down e)) <ℤ signed s (m * up e)) × (signed s (m * up e) ≤ℤ (wholeOf ceils (fin s m e) *ℤ pos (down e)))
   unfolding wholeOf
   ceil-next = ceil-by s (m * up e) (down e) (sized ceils s (m * up e) (down e)) (down-pos e) (sized-of ceils s (m * up e) (down e) (down-pos e))
 
+  -- |round - x| ≤ 1 / 2
   pub round-next : 2 * natAbs (wholeOf halves (fin s m e) *ℤ pos (down e) -ℤ signed s (m * up e)) ≤ down e
   unfolding wholeOf
   round-next = near-by s (m * up e) (down e) (sized halves s (m * up e) (down e)) (sized-of halves s (m * up e) (down e) (down-pos e))

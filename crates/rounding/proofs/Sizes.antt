@@ -106,8 +106,6 @@ stays-large w (fin s m e) t h = stays-whole binary64 w s m e (big-whole binary64
 -- ---- below 2 ^ 52: x against its floor
 pub whole-small : (w : Way) (x : Float) → Small x → natAbs (wholeOf w x) ≤ 2 ^ 52
 unfolding wholeOf
-whole-small w nan b = absurd b
-whole-small w (inf s) b = absurd b
 whole-small w (fin s m e) b =
     rw (signed-abs s (sized w s (m * up e) (down e))) (sized-le w s (m * up e) (down e) 4503599627370496 (down-pos e) (omega arith))
 
@@ -165,13 +163,9 @@ written true m e h = sym (of-signed binary64 true (upper (m * up e) (down e)) (g
     go (suc k) i g = zero-lt-suc k
 
 pub floor-cut : (x : Float) → Small x → lt (ofInt binary64 (wholeOf floors x)) x ≡ true → integral binary64 floors x ≡ ofInt binary64 (wholeOf floors x)
-floor-cut nan b h = absurd b
-floor-cut (inf s) b h = absurd b
 floor-cut (fin s m e) b h = let g = met-fin s true m e b h in goes binary64 floors s m e (some s m e g) ∙ written s m e g
 
 pub stays-floor : (w : Way) (x : Float) → Small x → lt (ofInt binary64 (wholeOf floors x)) x ≡ false → integral binary64 w x ≡ x
-stays-floor w nan b h = absurd b
-stays-floor w (inf s) b h = absurd b
 stays-floor w (fin s m e) b h =
     let k = sized floors s (m * up e) (down e) in
     stays-whole binary64 w s m e (ap (λ (z : ℕ). z % down e) (sym (met-fin s false m e b h)) ∙ mul-mod-left k (down e))
@@ -209,8 +203,6 @@ Fraction x = (m : ℕ) × (e : ℤ) × (k : ℕ) × (x ≡ fin false m e) × (wh
 
 fraction : (x : Float) → Small x → lt x zeroF ≡ false → lt (ofInt binary64 (wholeOf floors x)) x ≡ true → Fraction x
 unfolding wholeOf
-fraction nan b g h = absurd b
-fraction (inf s) b g h = absurd b
 fraction (fin true m e) b g h =
     let z : m * up e ≡ 0 = not-below m e g in
     absurd (some true m e (met-fin true true m e b h) (none-mod (m * up e) (down e) (down-pos e) z))
@@ -271,8 +263,6 @@ round-step x t b g l h =
 -- ---- within a bound
 pub within-small : (w : Way) (b : ℕ) (x : Float) → Small x → within w b x ≡ kept b (wholeOf w x)
 unfolding within
-within-small w b nan h = absurd h
-within-small w b (inf s) h = absurd h
 within-small w b (fin s m e) h = refl
 
 pub within-nan : (w : Way) (b : ℕ) (x : Float) → ne x x ≡ true → within w b x ≡ Number (pos 0)

@@ -164,17 +164,11 @@ above-big (fin false m e) l h = lt-ltb 0 (4503599627370496 * down e + m * up e *
 above-big (fin true m e) l h = let z = not-below m e h in lt-ltb (m * up e * 1) (4503599627370496 * down e) (omega (arith, down-pos e))
 
 -- ---- what the code has before the comparison: c is ±2 ^ 52, with the sign of an x that is not zero
-pub anchored-neg : (x : Float) → Small x → lt x zeroF ≡ true → Anchored x (sub binary64 (add binary64 x (big true)) (big true))
-anchored-neg nan b h = b
-anchored-neg (inf s) b h = b
-anchored-neg (fin true m e) b h = anchored-fin true m e b
-anchored-neg (fin false m e) b h = absurd (not-negative m e h)
-
-pub anchored-pos : (x : Float) → Small x → lt x zeroF ≡ false → Anchored x (sub binary64 (add binary64 x (big false)) (big false))
-anchored-pos nan b h = b
-anchored-pos (inf s) b h = b
-anchored-pos (fin true m e) b h = anchored-zero m e (not-below m e h)
-anchored-pos (fin false m e) b h = anchored-fin false m e b
+pub anchored : (s : Bool) (x : Float) → Small x → lt x zeroF ≡ s → Anchored x (sub binary64 (add binary64 x (big s)) (big s))
+anchored true (fin true m e) b h = anchored-fin true m e b
+anchored true (fin false m e) b h = absurd (not-negative m e h)
+anchored false (fin true m e) b h = anchored-zero m e (not-below m e h)
+anchored false (fin false m e) b h = anchored-fin false m e b
 
 -- ---- and after it
 at-floor : (s : Bool) (m : ℕ) (e : ℤ) (k : ℕ) → sized floors s (m * up e) (down e) ≡ k → wholeOf floors (fin s m e) ≡ signed s k
@@ -186,8 +180,6 @@ unfolding sub ofInt neg
 less-one z h = whole-sum binary64 z (negsuc 0) h (omega arith)
 
 pub floor-less : (x t : Float) → Anchored x t → lt x t ≡ true → sub binary64 t oneF ≡ ofInt binary64 (wholeOf floors x)
-floor-less nan t a h = absurd a
-floor-less (inf s) t a h = absurd a
 floor-less (fin s m e) t a h =
     let q = a .0 in
     let n = m * up e in
@@ -203,8 +195,6 @@ floor-less (fin s m e) t a h =
         one-more q ∙ sym (at-floor true m e (suc q) (sized-is floors true (m * up e) (down e) (suc q) (down-pos e) (omega (arith, suc-mul q (down e)), omega (arith, suc-mul q (down e)))))
 
 pub floor-same : (x t : Float) → Anchored x t → lt x t ≡ false → t ≡ ofInt binary64 (wholeOf floors x)
-floor-same nan t a h = absurd a
-floor-same (inf s) t a h = absurd a
 floor-same (fin s m e) t a h =
     a .3 ∙ ap (ofInt binary64) (sym (at-floor s m e (a .0) (go s (m * up e) (down e) (a .0) (down-pos e) (a .2) (after s false m e (a .0) (omega (arith, a .1)) (rw (a .3) at h)))))
   where

@@ -1,34 +1,28 @@
 -- The value of each answer: x being ±n / d, the answer is the float of x's sign whose size is `sized`, and the whole form is that value. Assumes nothing.
 use mathlib.Core.Path.{_≡_, refl, sym, ap, _∙_, subst}
-use mathlib.Core.Bool.{Bool, true, false, not, cond, true≢false, false≢true}
-use Prim.Native.Nat.{ℕ, zero, suc, _-_, _*_, _%_, _^_, _≤_, _<_}
-use native.Mathlib.Nat.{mul-one, le-trans}
+use mathlib.Core.Bool.{Bool, true, false, not, true≢false}
+use Prim.Native.Nat.{ℕ, _-_, _*_, _%_, _^_, _≤_, _<_}
+use native.Mathlib.Nat.{mul-one, le-trans, lt-of-not-le}
 use native.Mathlib.Omega.{arith}
-use lib.Dec.{T, ltb, leb, lit≤}
-use lib.IntN.{ℤ, pos, negsuc, negℤ, natAbs}
-use lib.Ieee.{Float, nan, inf, fin, Format, binary32, binary64, prec, up, down, fits, round, ofInt, lt, ne, isNan}
+use lib.Dec.{T, lit≤}
+use lib.IntN.{ℤ, natAbs}
+use lib.Ieee.{Float, nan, inf, fin, Format, binary32, binary64, prec, up, down, fits, round, ne, isNan}
 use lib.Ieee.Fits.{down-pos, cond-fits, round-fits, fits-widens}
 use lib.Ieee.Bits.{is-true}
 use lib.Ieee.Compare.{differs-from-itself}
 use lib.Ieee.Exact.{HasValue}
 use lib.Ieee.Back.{round-whole, whole-unique}
-use borrow.Author.Tests.{ltb-true, ltb-false, eqb-true, eqb-false}
-use Rattle.rounding.specs.Integral.{Way, floors, ceils, halves, integral, isWhole, sized, floorOf, ceilOf, roundOf}
+use borrow.Author.Tests.{eqb-true, eqb-false}
+use Rattle.rounding.specs.Integral.{Way, integral, isWhole, sized}
 use Rattle.rounding.specs.Within.{signed, wholeOf, kept, within}
-use Rattle.rounding.proofs.Quotients.{Is, Near, sized-of, sized-le, sized-whole}
+use Rattle.rounding.proofs.Quotients.{sized-le, sized-whole}
 use Rattle.rounding.specs.declared.Whole.{Whole}
-use Rattle.rounding.specs.declared.Whole.the-variants.{Number, Beyond}
-use Rattle.rounding.proofs.Bounds.{kept-in}
-use Rattle.rounding.proofs.Steps.{signed-abs, after, before}
+use Rattle.rounding.specs.declared.Whole.the-variants.{Number}
 use Rattle.rounding.proofs.Sizes.{stays-whole, goes, big-whole, own-size}
 
 -- a fraction is left only below 2 ^ (prec - 1)
 under-top : (f : Format) (s : Bool) (m : ℕ) (e : ℤ) → fits f (fin s m e) ≡ true → (m * up e % down e ≡ 0 → ⊥) → m * up e < 2 ^ (prec f - 1) * down e
-under-top f s m e t h = go (ltb (m * up e) (2 ^ (prec f - 1) * down e)) refl
-  where
-    go : (b : Bool) → ltb (m * up e) (2 ^ (prec f - 1) * down e) ≡ b → m * up e < 2 ^ (prec f - 1) * down e
-    go true l = ltb-true (m * up e) (2 ^ (prec f - 1) * down e) l
-    go false l = absurd (h (big-whole f s m e (subst T (sym t) tt) (ltb-false (m * up e) (2 ^ (prec f - 1) * down e) l)))
+under-top f s m e t h = lt-of-not-le (λ l. h (big-whole f s m e (subst T (sym t) tt) l))
 
 held-by : (f : Format) → 2 ^ (prec f - 1) ≤ 2 ^ prec f
 held-by binary32 = lit≤ tt
@@ -45,28 +39,6 @@ integral-value f w s m e t = go (isWhole m e) refl
         let z = eqb-false (m * up e % down e) 0 h in
         let l : m * up e ≤ 2 ^ (prec f - 1) * down e = omega (arith, under-top f s m e t z) in
         rw (goes f w s m e z) (round-whole f s (sized w s (m * up e) (down e)) (le-trans (sized-le w s (m * up e) (down e) (2 ^ (prec f - 1)) (down-pos e) l) (held-by f)))
-
--- an answer y of sign s and size k, with what is known of k
-abbrev pub Has : Float → Bool → (ℕ → Type 0) → Type 0
-Has y s P = (k : ℕ) × HasValue y s k 1 × P k
-
-abbrev pub Floor : Bool → ℕ → ℕ → ℕ → Type 0
-Floor s = Is floors s
-
-abbrev pub Ceil : Bool → ℕ → ℕ → ℕ → Type 0
-Ceil s = Is ceils s
-
-pub integral-has : (f : Format) (w : Way) (s : Bool) (m : ℕ) (e : ℤ) → fits f (fin s m e) ≡ true → Has (integral f w (fin s m e)) s (Is w s (m * up e) (down e))
-integral-has f w s m e t = (sized w s (m * up e) (down e), integral-value f w s m e t, sized-of w s (m * up e) (down e) (down-pos e))
-
-pub floor-value : (s : Bool) (m : ℕ) (e : ℤ) → fits binary64 (fin s m e) ≡ true → Has (floorOf (fin s m e)) s (Floor s (m * up e) (down e))
-floor-value = integral-has binary64 floors
-
-pub ceil-value : (s : Bool) (m : ℕ) (e : ℤ) → fits binary64 (fin s m e) ≡ true → Has (ceilOf (fin s m e)) s (Ceil s (m * up e) (down e))
-ceil-value = integral-has binary64 ceils
-
-pub round-value : (s : Bool) (m : ℕ) (e : ℤ) → fits binary64 (fin s m e) ≡ true → Has (roundOf (fin s m e)) s (Near (m * up e) (down e))
-round-value = integral-has binary64 halves
 
 -- the format holds the answer
 pub integral-fits : (f : Format) (w : Way) (x : Float) → T (fits f x) → T (fits f (integral f w x))
@@ -123,59 +95,6 @@ within-integral f v w b nan t = refl
 within-integral f v w b (inf s) t = refl
 within-integral f v w b (fin s m e) t = within-of v b (integral f w (fin s m e)) s (sized w s (m * up e) (down e)) (integral-value f w s m e t)
 
--- the number that is told is `wholeOf`'s
-kept-is : (b : ℕ) (y z : ℤ) → kept b y ≡ Number z → y ≡ z
-kept-is b y z h = go (leb (natAbs y) b) h
-  where
-    go : (t : Bool) → cond t (Number y) Beyond ≡ Number z → y ≡ z
-    go true h = cc
-    go false h = let n : _≡_ {A = ℕ} 0 1 = cc in absurd (omega arith)
-
-pub number-is : (w : Way) (b : ℕ) (x : Float) (z : ℤ) → within w b x ≡ Number z → wholeOf w x ≡ z
-unfolding within wholeOf
-number-is w b nan z h = cc
-number-is w b (inf s) z h = let n : _≡_ {A = ℕ} 0 1 = cc in absurd (omega arith)
-number-is w b (fin s m e) z h = kept-is b (signed s (sized w s (m * up e) (down e))) z h
-
--- a whole number that the format holds is its own answer
-pub within-int : (f : Format) (w : Way) (b : ℕ) (z : ℤ) → natAbs z ≤ 2 ^ prec f → within w b (ofInt f z) ≡ kept b z
-unfolding ofInt
-within-int f w b (pos n) h = within-of w b (round f false n 1) false n (round-whole f false n h)
-within-int f w b (negsuc n) h = within-of w b (round f true (suc n) 1) true (suc n) (round-whole f true (suc n) h)
-
--- ---- a number between -b and b, b being a float, is within b
-finite-above : (y : Float) (s : Bool) (k : ℕ) → HasValue y s k 1 → lt (inf false) y ≡ true → ⊥
-unfolding lt
-finite-above (fin u m e) s k v h = false≢true h
-
-finite-below : (y : Float) (s : Bool) (k : ℕ) → HasValue y s k 1 → lt y (inf true) ≡ true → ⊥
-unfolding lt
-finite-below (fin u m e) s k v h = false≢true h
-
-nan-below : (y : Float) → lt nan y ≡ true → ⊥
-unfolding lt
-nan-below y h = false≢true h
-
--- ±b has a value, of whichever sign
-some-value : (s : Bool) (b : ℕ) → b ≤ 2 ^ 53 → (t : Bool) × HasValue (ofInt binary64 (signed s b)) t b 1
-unfolding ofInt
-some-value false b h = (false, round-whole binary64 false b h)
-some-value true zero h = (false, round-whole binary64 false 0 h)
-some-value true (suc k) h = (true, round-whole binary64 true (suc k) h)
-
+-- v is a number of size b at most
 abbrev pub Told : Whole → ℕ → Type 0
 Told v b = (z : ℤ) × (v ≡ Number z) × (natAbs z ≤ b)
-
-told-fin : (w : Way) (b : ℕ) (s : Bool) (m : ℕ) (e : ℤ) → m * up e ≤ b * down e → Told (within w b (fin s m e)) b
-unfolding within wholeOf
-told-fin w b s m e h =
-    let k = sized w s (m * up e) (down e) in
-    let l : natAbs (signed s k) ≤ b = rw (signed-abs s k) (sized-le w s (m * up e) (down e) b (down-pos e) h) in
-    (signed s k, kept-in b (signed s k) l, l)
-
-pub between : (w : Way) (b : ℕ) (x : Float) → b ≤ 2 ^ 53 → lt (ofInt binary64 (negℤ (pos b))) x ≡ true → lt x (ofInt binary64 (pos b)) ≡ true → Told (within w b x) b
-between w b nan l g h = absurd (nan-below (ofInt binary64 (pos b)) h)
-between w b (inf true) l g h = let v = some-value true b l in absurd (finite-below (ofInt binary64 (negℤ (pos b))) (v .0) b (v .1) g)
-between w b (inf false) l g h = let v = some-value false b l in absurd (finite-above (ofInt binary64 (pos b)) (v .0) b (v .1) h)
-between w b (fin true m e) l g h = told-fin w b true m e (omega (arith, before true true m e b l g))
-between w b (fin false m e) l g h = told-fin w b false m e (omega (arith, after false true m e b l h))

@@ -9,8 +9,7 @@ use borrow.Author.Needs.{needs}
 use mir.Facts.{toZ-ofZ}
 use Rattle.decimal.specs.declared.Text.{Text}
 use Rattle.decimal.specs.Print.{decimal, filled, textOf}
-use Rattle.decimal.proofs.Digits.{decimal-most, filled-long}
-use Rattle.decimal.proofs.Reader.{unfilled}
+use Rattle.decimal.proofs.Digits.{decimal-most, filled-to-long, unfilled-to}
 use Rattle.line.proofs.put_number.Statement.{statement}
 use Rattle.line.proofs.put_number.Tie as tie
 
@@ -24,11 +23,11 @@ few : (c : tie.After-label) → c .label .result .blanks ≤ 11
 few c = rw (told c) (omega arith)
 
 long : (c : tie.After-label) → length (c .label .result .bytes) ≡ 11
-long c = rw (told c) (filled-long (decimal (c .before .before .args .v)) (decimal-most (c .before .before .args .v)))
+long c = rw (told c) (filled-to-long 11 (decimal (c .before .before .args .v)) (decimal-most (c .before .before .args .v)))
 
 -- the text without its blanks
 text-is : (c : tie.After-label) → take (11 - c .label .result .blanks) (drop (c .label .result .blanks) (c .label .result .bytes)) ≡ decimal (c .before .before .args .v)
-text-is c = subst (λ (t : Text). take (11 - t .blanks) (drop (t .blanks) (t .bytes)) ≡ decimal v) (sym (told c)) (take-all (11 - (11 - length (decimal v))) (drop (11 - length (decimal v)) (filled (decimal v))) (rw (unfilled (decimal v)) (omega (arith, decimal-most v))) ∙ unfilled (decimal v))
+text-is c = subst (λ (t : Text). take (11 - t .blanks) (drop (t .blanks) (t .bytes)) ≡ decimal v) (sym (told c)) (take-all (11 - (11 - length (decimal v))) (drop (11 - length (decimal v)) (filled (decimal v))) (rw (unfilled-to 11 (decimal v)) (omega (arith, decimal-most v))) ∙ unfilled-to 11 (decimal v))
   where
     v : ℤ
     v = c .before .before .args .v

@@ -1,8 +1,9 @@
 -- `rounding::floor_small` meets its contract. The literals are bit patterns in MIR, and are the values of `Steps` once `ofBits` and `neg` are unfolded. Assumes nothing.
 use mathlib.Core.Path.{sym, subst}
+use mathlib.Core.Bool.{true, false}
 use mathlib.Core.Logic.{⊎-elim}
 use lib.Ieee.{Float, binary64, add, sub, ofBits, neg}
-use Rattle.rounding.proofs.Steps.{Anchored, small, anchored-neg, anchored-pos, floor-less, floor-same}
+use Rattle.rounding.proofs.Steps.{Anchored, small, anchored, floor-less, floor-same}
 use Rattle.rounding.proofs.floor_small.Statement.{statement}
 use Rattle.rounding.proofs.floor_small.Tie as tie
 
@@ -13,8 +14,8 @@ next c =
     let x = c .before .args .x in
     let b = small x (c .before .pre .0) (c .before .pre .1) in
     ⊎-elim
-    (λ w. subst (λ (z : Float). Anchored x (sub binary64 (add binary64 x z) z)) (sym (w .1)) (anchored-neg x b (w .0 .taken)))
-    (λ w. subst (λ (z : Float). Anchored x (sub binary64 (add binary64 x z) z)) (sym (w .1)) (anchored-pos x b (w .0 .left)))
+    (λ w. subst (λ (z : Float). Anchored x (sub binary64 (add binary64 x z) z)) (sym (w .1)) (anchored true x b (w .0 .taken)))
+    (λ w. subst (λ (z : Float). Anchored x (sub binary64 (add binary64 x z) z)) (sym (w .1)) (anchored false x b (w .0 .left)))
     (c .if1 .came)
 
 returns : tie.Need-returns
