@@ -4,9 +4,7 @@ ghost use lib.IntN.{pos};
 ghost use lib.ListN.{length};
 ghost use Rattle.ranged1d.specs.Answer.{given, andThen};
 ghost use Rattle.ranged1d.specs.Admitted.{limitOf};
-ghost use Rattle.real.specs.Place.{tellPlace};
 ghost use Rattle.numeric.specs.Marks.{marks, stepOf};
-ghost use Rattle.numeric.specs.Whole.{tellIndex};
 ghost use Rattle.linspace.specs.List.{whole, real};
 ghost use Rattle.linspace.specs.Calls.{stepMarks};
 ghost use Rattle.segmented.specs.Values.{wholeSegment, realSegment, tellSegment, tellRealSegment};
@@ -26,12 +24,9 @@ use crate::give_place;
 use crate::method_of;
 use linspace::Linspacef64;
 use linspace::Linspacei32;
-use numeric::Index;
-use numeric::Place;
 use numeric::RangedCoordf64;
 use numeric::RangedCoordi32;
 use ranged1d::Limit;
-use ranged1d::Refusal;
 use segmented::SegmentValuef64;
 use segmented::SegmentValuei32;
 use segmented::SegmentedCoordi32;
@@ -147,88 +142,6 @@ fn give_real_segment(x: Segmentf64, kind: &mut u32, v: &mut f64) -> i32
     }
 }
 
-// The place of such a value.
-fn place_whole(axis: SegmentedCoordi32, value: WholeCase, limit: Limit) -> Place
-    ensures { λ r. ⌜ tellPlace r ≡ andThen (tellWholeCase value) (λ s. segmentPlace (wholeAxis (axis .0 .0) (axis .0 .1)) (wholeFinder (axis .0 .0)) s limit) ⌝ }
-{
-    match value {
-        WholeCase::Of(s) => axis.map(s, limit),
-        WholeCase::Unknown => Place::Refused(Refusal::WholeNotAdmitted),
-    }
-}
-
-// Its index.
-fn index_whole(axis: SegmentedCoordi32, value: WholeCase) -> Index
-    ensures { λ r. ⌜ tellIndex r ≡ andThen (tellWholeCase value) (segmentIndexOf (wholeAxis (axis .0 .0) (axis .0 .1)) (wholeFinder (axis .0 .0))) ⌝ }
-{
-    match value {
-        WholeCase::Of(s) => axis.index_of(s),
-        WholeCase::Unknown => Index::Refused(Refusal::WholeNotAdmitted),
-    }
-}
-
-// The place of such a value.
-fn place_step_whole(
-    axis: SegmentedLinspacei32,
-    method: Method,
-    value: WholeCase,
-    limit: Limit,
-) -> Place
-    ensures { λ r. ⌜ tellPlace r ≡ byMethod method (λ m. andThen (tellWholeCase value) (λ s. segmentPlace (steppedAxis whole (axis .0 .inner .0) (axis .0 .inner .1) (axis .0 .step)) (steppedFinder whole (axis .0 .inner .0) (axis .0 .inner .1) (axis .0 .step) m) s limit)) ⌝ }
-{
-    match method {
-        Method::Unknown => Place::Refused(Refusal::WholeNotAdmitted),
-        Method::Of(m) => match value {
-            WholeCase::Of(s) => axis.map(m, s, limit),
-            WholeCase::Unknown => Place::Refused(Refusal::WholeNotAdmitted),
-        },
-    }
-}
-
-// Its index.
-fn index_step_whole(axis: SegmentedLinspacei32, method: Method, value: WholeCase) -> Index
-    ensures { λ r. ⌜ tellIndex r ≡ byMethod method (λ m. andThen (tellWholeCase value) (segmentIndexOf (steppedAxis whole (axis .0 .inner .0) (axis .0 .inner .1) (axis .0 .step)) (steppedFinder whole (axis .0 .inner .0) (axis .0 .inner .1) (axis .0 .step) m))) ⌝ }
-{
-    match method {
-        Method::Unknown => Index::Refused(Refusal::WholeNotAdmitted),
-        Method::Of(m) => match value {
-            WholeCase::Of(s) => axis.index_of(m, s),
-            WholeCase::Unknown => Index::Refused(Refusal::WholeNotAdmitted),
-        },
-    }
-}
-
-// The place of such a value.
-fn place_step_real(
-    axis: SegmentedLinspacef64,
-    method: Method,
-    value: RealCase,
-    limit: Limit,
-) -> Place
-    ensures { λ r. ⌜ tellPlace r ≡ byMethod method (λ m. andThen (tellRealCase value) (λ s. segmentPlace (steppedAxis real (axis .0 .inner .0) (axis .0 .inner .1) (axis .0 .step)) (steppedFinder real (axis .0 .inner .0) (axis .0 .inner .1) (axis .0 .step) m) s limit)) ⌝ }
-{
-    match method {
-        Method::Unknown => Place::Refused(Refusal::WholeNotAdmitted),
-        Method::Of(m) => match value {
-            RealCase::Of(s) => axis.map(m, s, limit),
-            RealCase::Unknown => Place::Refused(Refusal::WholeNotAdmitted),
-        },
-    }
-}
-
-// Its index.
-fn index_step_real(axis: SegmentedLinspacef64, method: Method, value: RealCase) -> Index
-    ensures { λ r. ⌜ tellIndex r ≡ byMethod method (λ m. andThen (tellRealCase value) (segmentIndexOf (steppedAxis real (axis .0 .inner .0) (axis .0 .inner .1) (axis .0 .step)) (steppedFinder real (axis .0 .inner .0) (axis .0 .inner .1) (axis .0 .step) m))) ⌝ }
-{
-    match method {
-        Method::Unknown => Index::Refused(Refusal::WholeNotAdmitted),
-        Method::Of(m) => match value {
-            RealCase::Of(s) => axis.index_of(m, s),
-            RealCase::Unknown => Index::Refused(Refusal::WholeNotAdmitted),
-        },
-    }
-}
-
 #[no_mangle]
 pub extern "C" fn culv_seg_whole_size(a: i32, b: i32, n: &mut u64) -> i32
     ensures { λ r. ⌜ (r, now (n .exit)) ≡ single (segmentSize (wholeAxis a b)) (now (n .entry)) ⌝ }
@@ -250,7 +163,10 @@ pub extern "C" fn culv_seg_whole_map(
     ensures { λ r. ⌜ (r, now (pixel .exit)) ≡ single (andThen (caseOf kind v) (λ s. segmentPlace (wholeAxis a b) (wholeFinder a) s (limitOf p q))) (now (pixel .entry)) ⌝ }
 {
     let wholes = SegmentedCoordi32(RangedCoordi32(a, b));
-    give_place(place_whole(wholes, whole_case(kind, v), Limit(p, q)), pixel)
+    match whole_case(kind, v) {
+        WholeCase::Of(s) => give_place(wholes.map(s, Limit(p, q)), pixel),
+        WholeCase::Unknown => 1,
+    }
 }
 
 #[no_mangle]
@@ -258,7 +174,10 @@ pub extern "C" fn culv_seg_whole_index_of(a: i32, b: i32, kind: u32, v: i32, k: 
     ensures { λ r. ⌜ (r, now (k .exit)) ≡ single (andThen (caseOf kind v) (segmentIndexOf (wholeAxis a b) (wholeFinder a))) (now (k .entry)) ⌝ }
 {
     let wholes = SegmentedCoordi32(RangedCoordi32(a, b));
-    give_index(index_whole(wholes, whole_case(kind, v)), k)
+    match whole_case(kind, v) {
+        WholeCase::Of(s) => give_index(wholes.index_of(s), k),
+        WholeCase::Unknown => 1,
+    }
 }
 
 #[no_mangle]
@@ -335,10 +254,13 @@ pub extern "C" fn culv_seg_step_whole_map(
         inner: RangedCoordi32(a, b),
         step: d,
     });
-    give_place(
-        place_step_whole(steps, method_of(method), whole_case(kind, v), Limit(p, q)),
-        pixel,
-    )
+    match method_of(method) {
+        Method::Of(m) => match whole_case(kind, v) {
+            WholeCase::Of(s) => give_place(steps.map(m, s, Limit(p, q)), pixel),
+            WholeCase::Unknown => 1,
+        },
+        Method::Unknown => 1,
+    }
 }
 
 #[no_mangle]
@@ -357,10 +279,13 @@ pub extern "C" fn culv_seg_step_whole_index_of(
         inner: RangedCoordi32(a, b),
         step: d,
     });
-    give_index(
-        index_step_whole(steps, method_of(method), whole_case(kind, v)),
-        k,
-    )
+    match method_of(method) {
+        Method::Of(m) => match whole_case(kind, v) {
+            WholeCase::Of(s) => give_index(steps.index_of(m, s), k),
+            WholeCase::Unknown => 1,
+        },
+        Method::Unknown => 1,
+    }
 }
 
 #[no_mangle]
@@ -448,10 +373,13 @@ pub extern "C" fn culv_seg_step_real_map(
         inner: RangedCoordf64(a, b),
         step: d,
     });
-    give_place(
-        place_step_real(reals, method_of(method), real_case(kind, v), Limit(p, q)),
-        pixel,
-    )
+    match method_of(method) {
+        Method::Of(m) => match real_case(kind, v) {
+            RealCase::Of(s) => give_place(reals.map(m, s, Limit(p, q)), pixel),
+            RealCase::Unknown => 1,
+        },
+        Method::Unknown => 1,
+    }
 }
 
 #[no_mangle]
@@ -470,10 +398,13 @@ pub extern "C" fn culv_seg_step_real_index_of(
         inner: RangedCoordf64(a, b),
         step: d,
     });
-    give_index(
-        index_step_real(reals, method_of(method), real_case(kind, v)),
-        k,
-    )
+    match method_of(method) {
+        Method::Of(m) => match real_case(kind, v) {
+            RealCase::Of(s) => give_index(reals.index_of(m, s), k),
+            RealCase::Unknown => 1,
+        },
+        Method::Unknown => 1,
+    }
 }
 
 #[no_mangle]

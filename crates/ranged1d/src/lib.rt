@@ -1,6 +1,8 @@
 // What every axis shares, after ranged1d/mod.rs: the limits on the film, why a call is refused, and which numbers are admitted.
 ghost use mathlib.Core.Path.{_≡_};
 ghost use lib.IntN.{natAbs};
+ghost use mir.Syntax.{w32};
+ghost use mir.Val.{toZ};
 ghost use Rattle.ranged1d.specs.Refusals.{numberOf};
 ghost use Rattle.ranged1d.specs.Admitted.{wholeAdmitted, indexAdmitted, pixelAdmitted, limitAdmitted};
 
@@ -55,6 +57,17 @@ pub fn unsigned_abs(z: i32) -> u32
 {
     let w = z as i64;
     if w < 0 { (0 - w) as u32 } else { w as u32 }
+}
+
+// The number that has the bits x in two's complement.
+pub fn signed(x: u32) -> i32
+    ensures { λ r. ⌜ r ≡ toZ w32 x ⌝ }
+{
+    if x < 2147483648 {
+        x as i32
+    } else {
+        0 - ((4294967295 - x) as i32) - 1
+    }
 }
 
 // Whether z is admitted as a whole end, value, step or list entry. Two comparisons, which compile to one.

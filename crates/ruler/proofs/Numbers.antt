@@ -1,17 +1,16 @@
 -- Whole numbers as the bits of a u32, and back. Assumes nothing.
 use mathlib.Core.Path.{_≡_, refl, sym, ap, _∙_, subst}
 use mathlib.Core.Bool.{true, false}
-use Prim.Native.Nat.{ℕ, zero, suc, _+_, _-_, _*_, _/_, _%_, _^_, _≤_, _<_}
+use Prim.Native.Nat.{ℕ, _+_, _-_, _*_, _/_, _%_, _^_, _<_}
 use native.Mathlib.Nat.{div-div-eq-div-mul, div-add-mod', div-lt-iff-lt-mul, mod-eq-of-lt}
 use native.Mathlib.Omega.{arith}
 use lib.Dec.{T, lit<}
-use lib.IntN.{ℤ, pos, negsuc, natAbs, _-ℤ_, +ℤ-idl, -ℤ-one}
+use lib.IntN.{ℤ, pos, negsuc, natAbs}
 use lib.Signed.{ltZ, mag}
 use borrow.Author.Tests.{ltb-true}
-use mir.Facts.{toZ-neg, toZ-ofZ, fits-ofZ}
+use mir.Facts.{toZ-ofZ, fits-ofZ}
 use mir.Syntax.{w32}
 use mir.Val.{bits, hbits, ofZ, toZ, SFits}
-use Rattle.ranged1d.proofs.Whole.{fits32, zero-minus-far}
 
 pub bits-below : (z : ℤ) → ltZ z (pos 0) ≡ true → (0 < natAbs z) × (4294967295 - (natAbs z - 1) ≡ ofZ w32 z)
 bits-below (pos n) h = absurd (omega (arith, ltb-true n 0 h))
@@ -20,24 +19,6 @@ bits-below (negsuc n) h = (omega arith, omega arith)
 pub bits-above : (z : ℤ) → ltZ z (pos 0) ≡ false → natAbs z ≡ ofZ w32 z
 bits-above (pos n) h = refl
 bits-above (negsuc n) h = absurd (subst T h tt)
-
-less : (k : ℕ) → pos 0 -ℤ pos k -ℤ pos 1 ≡ negsuc k
-less zero = refl
-less (suc k) = rw (+ℤ-idl (negsuc k), -ℤ-one (negsuc k))
-
--- x of 2 ^ 31 and more, with k below it from the top
-module _ (x : ℕ) (h : 2147483648 ≤ x) (l : x < 4294967296) where
-  pub minus-fits : SFits w32 (pos 0 -ℤ pos (4294967295 - x))
-  minus-fits = fits32 (pos 0 -ℤ pos (4294967295 - x)) (rw (zero-minus-far (pos (4294967295 - x))) (omega arith))
-
-  pub less-fits : SFits w32 (pos 0 -ℤ pos (4294967295 - x) -ℤ pos 1)
-  less-fits = rw (less (4294967295 - x)) (record { sfits = omega arith })
-
-  pub signed-is : pos 0 -ℤ pos (4294967295 - x) -ℤ pos 1 ≡ toZ w32 x
-  signed-is =
-      let k = 4294967295 - x in
-      let e : 2 ^ bits w32 - suc k ≡ x = omega arith in
-      less k ∙ sym (toZ-neg w32 k (omega arith)) ∙ ap (toZ w32) e
 
 -- four bytes and back
 pub word-back : (x : ℕ) → x < 2 ^ 32 → x % 256 + x / 256 % 256 * 256 + x / 65536 % 256 * 65536 + x / 16777216 % 256 * 16777216 ≡ x

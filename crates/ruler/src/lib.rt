@@ -274,17 +274,6 @@ pub fn write(a: i32, b: i32, limit: Limit, m: u32, out: &mut [u8]) -> Wrote
     write_draft(Draft { a, b, limit, m }, out)
 }
 
-// The number that has the bits x in two's complement.
-fn signed(x: u32) -> i32
-    ensures { λ r. ⌜ r ≡ toZ w32 x ⌝ }
-{
-    if x < 2147483648 {
-        x as i32
-    } else {
-        0 - ((4294967295 - x) as i32) - 1
-    }
-}
-
 fn wide(x: u8) -> u32
     ensures { λ r. ⌜ (r ≡ x) × (r < 256) ⌝ }
 {
@@ -360,10 +349,10 @@ fn examine(l: &[u8]) -> Seen
     if l.len() < 25 {
         return Seen::Nothing;
     }
-    let a = signed(word_at(l, 1));
-    let b = signed(word_at(l, 5));
-    let p = signed(word_at(l, 9));
-    let q = signed(word_at(l, 13));
+    let a = ranged1d::signed(word_at(l, 1));
+    let b = ranged1d::signed(word_at(l, 5));
+    let p = ranged1d::signed(word_at(l, 9));
+    let q = ranged1d::signed(word_at(l, 13));
     let m = word_at(l, 17);
     let limit = Limit(p, q);
     compare(Draft { a, b, limit, m }, l)

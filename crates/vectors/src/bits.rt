@@ -1,14 +1,7 @@
 // Numbers as the 64 bits in which a line has them.
-// The i32 whose two's complement is the low half of x, and back to 64 bits.
+// The low half of x, and an i32 as 64 bits in two's complement.
 pub(crate) fn low_half(x: u64) -> u32 {
     (x % 4294967296) as u32
-}
-
-pub(crate) fn signed(x: u32) -> i32 {
-    if x < 2147483648 {
-        return x as i32;
-    }
-    0 - ((4294967295 - x) as i32) - 1
 }
 
 pub(crate) fn bits(v: i32) -> u64 {

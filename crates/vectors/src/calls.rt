@@ -5,7 +5,6 @@ use crate::bits::bits;
 use crate::bits::double;
 use crate::bits::low_half;
 use crate::bits::pattern;
-use crate::bits::signed;
 use numeric::Count;
 use numeric::Index;
 use numeric::Place;
@@ -103,7 +102,7 @@ pub(crate) fn word(numbers: &[u64], k: usize) -> u64 {
 }
 
 pub(crate) fn whole(numbers: &[u64], k: usize) -> i32 {
-    signed(low_half(word(numbers, k)))
+    ranged1d::signed(low_half(word(numbers, k)))
 }
 
 pub(crate) fn whole_axis(numbers: &[u64]) -> RangedCoordi32 {

@@ -1,13 +1,10 @@
 -- `culvraod::culv_search_whole` meets its contract. Assumes nothing.
-use mathlib.Core.Path.{sym, ap, _∙_}
+use mathlib.Core.Path.{refl, sym, _∙_}
 use denote.Ref.{now}
 use mir.Facts.{toZ-ofZ}
 use mir.Syntax.{w32}
-use Prim.Native.Nat.{ℕ}
-use Rattle.ranged1d.specs.Answer.{Answer}
 use Rattle.search.specs.Lists.{wholeSearch}
-use Rattle.culvraod.specs.Boundary.{single}
-use Rattle.culvraod.proofs.Crossing.{by-method, no-method}
+use Rattle.culvraod.proofs.Crossing.{handed, by-method, no-method}
 use borrow.Author.Needs.{needs}
 use Rattle.culvraod.proofs.culv_search_whole.Statement.{statement}
 use Rattle.culvraod.proofs.culv_search_whole.Tie as tie
@@ -32,10 +29,10 @@ returns c =
     let s = c .before .before .before .before .before .before .before in
     let chosen = c .before .before .before .before in
     let found = c .before .before in
-    rw (toZ-ofZ {w = w32} (record { sfits = c .give-index .ok })) (c .give-index .ensures ∙ ap (λ (x : Answer ℕ). single x (now (s .args .k))) (by-method (wholeSearch (now (s .args .list)) (s .args .target)) (sym (chosen .before .before .method-of .ensures) ∙ chosen .m .given .1) (rw (toZ-ofZ (s .fits .target)) at (found .search-whole .ensures))))
+    rw (toZ-ofZ {w = w32} (record { sfits = c .give-index .ok })) (handed (now (s .args .k)) (c .give-index .ensures) (by-method (wholeSearch (now (s .args .list)) (s .args .target)) (sym (chosen .before .before .method-of .ensures) ∙ chosen .m .given .1) (rw (toZ-ofZ (s .fits .target)) at (found .search-whole .ensures))))
 
 returns-2 : tie.Need-returns-2
-returns-2 c = let s = c .before .before .before in no-method (wholeSearch (now (s .args .list)) (s .args .target)) (now (s .args .k)) (sym (c .before .before .method-of .ensures) ∙ c .enum-told .given .1)
+returns-2 c = let s = c .before .before .before in handed (now (s .args .k)) refl (no-method (wholeSearch (now (s .args .list)) (s .args .target)) (sym (c .before .before .method-of .ensures) ∙ c .enum-told .given .1))
 
 pub culv-search-whole-spec : {M : Type 1} → statement M
 culv-search-whole-spec =

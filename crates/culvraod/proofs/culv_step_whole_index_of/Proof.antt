@@ -1,5 +1,5 @@
 -- `culvraod::culv_step_whole_index_of` meets its contract. Assumes nothing.
-use mathlib.Core.Path.{sym, _∙_}
+use mathlib.Core.Path.{refl, sym, _∙_}
 use borrow.Author.Needs.{needs}
 use denote.Ref.{now}
 use mir.Facts.{toZ-ofZ}
@@ -36,7 +36,7 @@ returns c =
 returns-2 : tie.Need-returns-2
 returns-2 c =
     let s = c .before .before .before in
-    no-method (stepIndexOf whole (s .args .a) (s .args .b) (s .args .d) (s .args .v)) (now (s .args .k)) (sym (c .before .before .method-of .ensures) ∙ c .enum-told .given .1)
+    handed (now (s .args .k)) refl (no-method (stepIndexOf whole (s .args .a) (s .args .b) (s .args .d) (s .args .v)) (sym (c .before .before .method-of .ensures) ∙ c .enum-told .given .1))
 
 pub culv-step-whole-index-of-spec : {M : Type 1} → statement M
 culv-step-whole-index-of-spec = tie.close (tie.spec method-of-requires enum-known-m index-of-requires give-index-requires enum-told returns returns-2)

@@ -1,4 +1,4 @@
--- `ruler::signed` meets its contract. Assumes nothing.
+-- `ranged1d::signed` meets its contract. Assumes nothing.
 use mathlib.Core.Path.{_≡_}
 use Prim.Native.Nat.{_-_}
 use native.Mathlib.Omega.{arith}
@@ -6,10 +6,10 @@ use lib.IntN.{pos}
 use mir.Facts.{toZ-ofZ, toZ-pos}
 use mir.Syntax.{w32}
 use mir.Val.{toZ}
-use Rattle.ruler.proofs.Numbers.{minus-fits, less-fits, signed-is}
+use Rattle.ranged1d.proofs.Bits.{minus-fits, less-fits, signed-is}
 use borrow.Author.Needs.{needs}
-use Rattle.ruler.proofs.signed.Statement.{statement}
-use Rattle.ruler.proofs.signed.Tie as tie
+use Rattle.ranged1d.proofs.signed.Statement.{statement}
+use Rattle.ranged1d.proofs.signed.Tie as tie
 
 cast-result : tie.Need-cast-result
 cast-result c = search needs
