@@ -1,39 +1,25 @@
 //! Counts of whole axes, indices of their values and values at an index.
 
-use crate::refusal::{answered, answered_or_none, Refusal};
+use crate::refusal::{answered, answered_or_none, ask, declare, Refusal};
 use crate::RangedCoordi32;
 
-// As include/culvraod.h declares and describes them.
-extern "C" {
-    /// The C function behind [`RangedCoordi32::size`].
-    pub fn culv_whole_size(a: i32, b: i32, n: *mut u64) -> i32;
-
-    /// The C function behind [`RangedCoordi32::index_of`].
-    pub fn culv_whole_index_of(a: i32, b: i32, v: i32, k: *mut u64) -> i32;
-
-    /// The C function behind [`RangedCoordi32::from_index`].
-    pub fn culv_whole_from_index(a: i32, b: i32, k: u64, v: *mut i32) -> i32;
-}
+declare!("RangedCoordi32::size`]", culv_whole_size((a: i32, b: i32) n: *mut u64));
+declare!("RangedCoordi32::index_of`]", culv_whole_index_of((a: i32, b: i32) v: i32, k: *mut u64));
+declare!("RangedCoordi32::from_index`]", culv_whole_from_index((a: i32, b: i32) k: u64, v: *mut i32));
 
 impl RangedCoordi32 {
     /// The number of values from the first end to the second: 0 on a falling axis.
     ///
     /// Refused as [`Refusal::WholeNotAdmitted`].
     pub fn size(self) -> Result<u64, Refusal> {
-        let mut n = 0;
-        // SAFETY: the result is a local.
-        let code = unsafe { culv_whole_size(self.0, self.1, &mut n) };
-        answered("culv_whole_size", code, n)
+        ask!(answered, culv_whole_size(self.0, self.1))
     }
 
     /// The index of a value, which may lie past the second end; none below the first end.
     ///
     /// Refused as [`Refusal::WholeNotAdmitted`].
     pub fn index_of(self, v: i32) -> Result<Option<u64>, Refusal> {
-        let mut k = 0;
-        // SAFETY: the result is a local.
-        let code = unsafe { culv_whole_index_of(self.0, self.1, v, &mut k) };
-        answered_or_none("culv_whole_index_of", code, k)
+        ask!(answered_or_none, culv_whole_index_of(self.0, self.1, v))
     }
 
     /// The value at an index, even past the second end; none if the index is above `i32::MAX`.
@@ -41,10 +27,7 @@ impl RangedCoordi32 {
     /// Refused as [`Refusal::WholeNotAdmitted`] or [`Refusal::AboveI32`].
     #[allow(clippy::wrong_self_convention)] // plotters' name
     pub fn from_index(self, k: u64) -> Result<Option<i32>, Refusal> {
-        let mut v = 0;
-        // SAFETY: the result is a local.
-        let code = unsafe { culv_whole_from_index(self.0, self.1, k, &mut v) };
-        answered_or_none("culv_whole_from_index", code, v)
+        ask!(answered_or_none, culv_whole_from_index(self.0, self.1, k))
     }
 }
 

@@ -2,20 +2,15 @@
 
 use std::str;
 
-use crate::refusal::{answered, Refusal};
+use crate::refusal::{answered, ask, declare, Refusal};
 
-// As include/culvraod.h declares and describes it.
-extern "C" {
-    /// The C function behind [`FloatPrettyPrinter::print`].
-    pub fn culv_label(
-        n: f64,
-        max_decimal: u32,
-        min_decimal: u32,
-        out: *mut u8,
-        len: usize,
-        written: *mut usize,
-    ) -> i32;
-}
+declare!(
+    "FloatPrettyPrinter::print`]",
+    culv_label(
+        (n: f64, max_decimal: u32, min_decimal: u32)
+        out: *mut u8, len: usize, written: *mut usize
+    )
+);
 
 /// So many bytes are enough for every label.
 pub const LONGEST: usize = 38;
@@ -44,19 +39,10 @@ impl FloatPrettyPrinter {
     /// assert_eq!(printer.print(1.25, &mut out), Ok("1.25"));
     /// ```
     pub fn print(self, n: f64, out: &mut [u8]) -> Result<&str, Refusal> {
-        let mut written = 0;
-        // SAFETY: `out` is bytes of that length, and the result is a local.
-        let code = unsafe {
-            culv_label(
-                n,
-                self.max_decimal,
-                self.min_decimal,
-                out.as_mut_ptr(),
-                out.len(),
-                &mut written,
-            )
-        };
-        let label = &out[..answered("culv_label", code, written)?];
+        let (most, least) = (self.max_decimal, self.min_decimal);
+        let (to, len) = (out.as_mut_ptr(), out.len());
+        let written: usize = ask!(answered, culv_label(n, most, least, to, len))?;
+        let label = &out[..written];
         Ok(str::from_utf8(label).expect("a label is ASCII"))
     }
 }

@@ -1,6 +1,6 @@
 //! Stepped axes: the list of an axis by a step, and what is found, placed, read and marked on it.
 
-use crate::refusal::{answered, answered_or_none, Refusal};
+use crate::refusal::{answered, answered_or_none, ask, declare, Refusal};
 use crate::{Limit, RangedCoordf64, RangedCoordi32, RoundingMethod};
 
 /// A whole axis by a step, within ±1,000,000,000, that leads from the first end to the second.
@@ -45,67 +45,34 @@ macro_rules! stepped {
         $values:ident, $size:ident, $from_index:ident, $index_of:ident, $map:ident, $unmap:ident,
         $key_points:ident
     ) => {
-        // As include/culvraod.h declares and describes them.
-        extern "C" {
-            #[doc = concat!("The C function behind [`", stringify!($axis), "::values`].")]
-            pub fn $values(
-                a: $number,
-                b: $number,
-                d: $number,
-                out: *mut $number,
-                len: usize,
-                count: *mut usize,
-            ) -> i32;
-
-            #[doc = concat!("The C function behind [`", stringify!($axis), "::size`].")]
-            pub fn $size(a: $number, b: $number, d: $number, n: *mut u64) -> i32;
-
-            #[doc = concat!("The C function behind [`", stringify!($axis), "::from_index`].")]
-            pub fn $from_index(a: $number, b: $number, d: $number, k: u64, v: *mut $number) -> i32;
-
-            #[doc = concat!("The C function behind [`", stringify!($axis), "::index_of`].")]
-            pub fn $index_of(
-                a: $number,
-                b: $number,
-                d: $number,
-                v: $number,
-                method: u32,
-                k: *mut u64,
-            ) -> i32;
-
-            #[doc = concat!("The C function behind [`", stringify!($axis), "::map`].")]
-            pub fn $map(
-                a: $number,
-                b: $number,
-                d: $number,
-                v: $number,
-                p: i32,
-                q: i32,
-                pixel: *mut i32,
-            ) -> i32;
-
-            #[doc = concat!("The C function behind [`", stringify!($axis), "::unmap`].")]
-            pub fn $unmap(
-                a: $number,
-                b: $number,
-                d: $number,
-                x: i32,
-                p: i32,
-                q: i32,
-                v: *mut $number,
-            ) -> i32;
-
-            #[doc = concat!("The C function behind [`", stringify!($axis), "::key_points`].")]
-            pub fn $key_points(
-                a: $number,
-                b: $number,
-                d: $number,
-                m: u32,
-                out: *mut $number,
-                len: usize,
-                count: *mut usize,
-            ) -> i32;
-        }
+        declare!(
+            concat!(stringify!($axis), "::values`]"),
+            $values((a: $number, b: $number, d: $number) out: *mut $number, len: usize, count: *mut usize)
+        );
+        declare!(
+            concat!(stringify!($axis), "::size`]"),
+            $size((a: $number, b: $number, d: $number) n: *mut u64)
+        );
+        declare!(
+            concat!(stringify!($axis), "::from_index`]"),
+            $from_index((a: $number, b: $number, d: $number) k: u64, v: *mut $number)
+        );
+        declare!(
+            concat!(stringify!($axis), "::index_of`]"),
+            $index_of((a: $number, b: $number, d: $number) v: $number, method: u32, k: *mut u64)
+        );
+        declare!(
+            concat!(stringify!($axis), "::map`]"),
+            $map((a: $number, b: $number, d: $number) v: $number, p: i32, q: i32, pixel: *mut i32)
+        );
+        declare!(
+            concat!(stringify!($axis), "::unmap`]"),
+            $unmap((a: $number, b: $number, d: $number) x: i32, p: i32, q: i32, v: *mut $number)
+        );
+        declare!(
+            concat!(stringify!($axis), "::key_points`]"),
+            $key_points((a: $number, b: $number, d: $number) m: u32, out: *mut $number, len: usize, count: *mut usize)
+        );
 
         impl $ends {
             /// The axis by a step.
@@ -120,14 +87,9 @@ macro_rules! stepped {
             #[doc = concat!("Refused as ", $also, "[`Refusal::StepAgainstAxis`] or")]
             /// [`Refusal::ListTooLong`], also where `out` is too short.
             pub fn values(self, out: &mut [$number]) -> Result<usize, Refusal> {
-                let $axis {
-                    inner: $ends(a, b),
-                    step: d,
-                } = self;
-                let (to, len, mut count) = (out.as_mut_ptr(), out.len(), 0);
-                // SAFETY: `out` is a list of that length, and the result is a local.
-                let code = unsafe { $values(a, b, d, to, len, &mut count) };
-                answered(stringify!($values), code, count)
+                let ($ends(a, b), d) = (self.inner, self.step);
+                let (to, len) = (out.as_mut_ptr(), out.len());
+                ask!(answered, $values(a, b, d, to, len))
             }
 
             /// The number of entries.
@@ -135,14 +97,8 @@ macro_rules! stepped {
             #[doc = concat!("Refused as ", $also, "[`Refusal::StepAgainstAxis`] or")]
             /// [`Refusal::ListTooLong`].
             pub fn size(self) -> Result<u64, Refusal> {
-                let $axis {
-                    inner: $ends(a, b),
-                    step: d,
-                } = self;
-                let mut n = 0;
-                // SAFETY: the result is a local.
-                let code = unsafe { $size(a, b, d, &mut n) };
-                answered(stringify!($size), code, n)
+                let ($ends(a, b), d) = (self.inner, self.step);
+                ask!(answered, $size(a, b, d))
             }
 
             /// The entry at an index; none past the last one.
@@ -151,14 +107,8 @@ macro_rules! stepped {
             /// [`Refusal::ListTooLong`].
             #[allow(clippy::wrong_self_convention)] // plotters' name
             pub fn from_index(self, k: u64) -> Result<Option<$number>, Refusal> {
-                let $axis {
-                    inner: $ends(a, b),
-                    step: d,
-                } = self;
-                let mut v = <$number>::default();
-                // SAFETY: the result is a local.
-                let code = unsafe { $from_index(a, b, d, k, &mut v) };
-                answered_or_none(stringify!($from_index), code, v)
+                let ($ends(a, b), d) = (self.inner, self.step);
+                ask!(answered_or_none, $from_index(a, b, d, k))
             }
 
             /// The index of the entry that is meant by a value, or none.
@@ -169,14 +119,8 @@ macro_rules! stepped {
                 v: $number,
                 method: RoundingMethod,
             ) -> Result<Option<u64>, Refusal> {
-                let $axis {
-                    inner: $ends(a, b),
-                    step: d,
-                } = self;
-                let mut k = 0;
-                // SAFETY: the result is a local.
-                let code = unsafe { $index_of(a, b, d, v, method.number(), &mut k) };
-                answered_or_none(stringify!($index_of), code, k)
+                let ($ends(a, b), d) = (self.inner, self.step);
+                ask!(answered_or_none, $index_of(a, b, d, v, method.number()))
             }
 
             /// The pixel of a value, which may lie outside the axis or between entries.
@@ -184,14 +128,9 @@ macro_rules! stepped {
             #[doc = concat!("Refused as ", $also, "[`Refusal::LimitNotAdmitted`],")]
             /// [`Refusal::TooFar`], [`Refusal::StepAgainstAxis`] or [`Refusal::ListTooLong`].
             pub fn map(self, v: $number, limit: Limit) -> Result<i32, Refusal> {
-                let $axis {
-                    inner: $ends(a, b),
-                    step: d,
-                } = self;
-                let (Limit(p, q), mut pixel) = (limit, 0);
-                // SAFETY: the result is a local.
-                let code = unsafe { $map(a, b, d, v, p, q, &mut pixel) };
-                answered(stringify!($map), code, pixel)
+                let ($ends(a, b), d) = (self.inner, self.step);
+                let Limit(p, q) = limit;
+                ask!(answered, $map(a, b, d, v, p, q))
             }
 
             /// The entry whose share of the film holds pixel `x`, the first one before the film;
@@ -200,14 +139,9 @@ macro_rules! stepped {
             #[doc = concat!("Refused as ", $also, "[`Refusal::LimitNotAdmitted`],")]
             /// [`Refusal::StepAgainstAxis`] or [`Refusal::ListTooLong`].
             pub fn unmap(self, x: i32, limit: Limit) -> Result<Option<$number>, Refusal> {
-                let $axis {
-                    inner: $ends(a, b),
-                    step: d,
-                } = self;
-                let (Limit(p, q), mut v) = (limit, <$number>::default());
-                // SAFETY: the result is a local.
-                let code = unsafe { $unmap(a, b, d, x, p, q, &mut v) };
-                answered_or_none(stringify!($unmap), code, v)
+                let ($ends(a, b), d) = (self.inner, self.step);
+                let Limit(p, q) = limit;
+                ask!(answered_or_none, $unmap(a, b, d, x, p, q))
             }
 
             /// Writes the marks, at most `m` + 1 of the entries, to `out` and gives their number.
@@ -216,14 +150,9 @@ macro_rules! stepped {
             /// [`Refusal::StepAgainstAxis`], [`Refusal::ListTooLong`] or
             /// [`Refusal::OutTooShort`].
             pub fn key_points(self, m: u32, out: &mut [$number]) -> Result<usize, Refusal> {
-                let $axis {
-                    inner: $ends(a, b),
-                    step: d,
-                } = self;
-                let (to, len, mut count) = (out.as_mut_ptr(), out.len(), 0);
-                // SAFETY: `out` is a list of that length, and the result is a local.
-                let code = unsafe { $key_points(a, b, d, m, to, len, &mut count) };
-                answered(stringify!($key_points), code, count)
+                let ($ends(a, b), d) = (self.inner, self.step);
+                let (to, len) = (out.as_mut_ptr(), out.len());
+                ask!(answered, $key_points(a, b, d, m, to, len))
             }
         }
     };

@@ -1,18 +1,16 @@
 //! Places of values on the film.
 
-use crate::refusal::{answered, Refusal};
+use crate::refusal::{answered, ask, declare, Refusal};
 use crate::{Limit, RangedCoordf64, RangedCoordi32};
 
 /// Places on one kind of axis, by their C function. `$also` is the refusal that whole numbers alone
 /// meet.
 macro_rules! places {
     ($axis:ident, $number:ty, also $also:literal, $map:ident) => {
-        // As include/culvraod.h declares and describes it.
-        extern "C" {
-            #[doc = concat!("The C function behind [`", stringify!($axis), "::map`].")]
-            pub fn $map(a: $number, b: $number, v: $number, p: i32, q: i32, pixel: *mut i32)
-                -> i32;
-        }
+        declare!(
+            concat!(stringify!($axis), "::map`]"),
+            $map((a: $number, b: $number) v: $number, p: i32, q: i32, pixel: *mut i32)
+        );
 
         impl $axis {
             /// The pixel of a value, which may lie outside the axis.
@@ -20,10 +18,7 @@ macro_rules! places {
             #[doc = concat!("Refused as ", $also, "[`Refusal::LimitNotAdmitted`] or")]
             /// [`Refusal::TooFar`].
             pub fn map(self, v: $number, limit: Limit) -> Result<i32, Refusal> {
-                let ($axis(a, b), Limit(p, q), mut pixel) = (self, limit, 0);
-                // SAFETY: the result is a local.
-                let code = unsafe { $map(a, b, v, p, q, &mut pixel) };
-                answered(stringify!($map), code, pixel)
+                ask!(answered, $map(self.0, self.1, v, limit.0, limit.1))
             }
         }
     };

@@ -1,16 +1,16 @@
 //! Readings: the value at a pixel.
 
-use crate::refusal::{answered_or_none, Refusal};
+use crate::refusal::{answered_or_none, ask, declare, Refusal};
 use crate::{Limit, RangedCoordf64, RangedCoordi32};
 
-// As include/culvraod.h declares and describes them.
-extern "C" {
-    /// The C function behind [`RangedCoordi32::unmap`].
-    pub fn culv_whole_unmap(a: i32, b: i32, x: i32, p: i32, q: i32, v: *mut i32) -> i32;
-
-    /// The C function behind [`RangedCoordf64::unmap`].
-    pub fn culv_real_unmap(a: f64, b: f64, x: i32, p: i32, q: i32, v: *mut f64) -> i32;
-}
+declare!(
+    "RangedCoordi32::unmap`]",
+    culv_whole_unmap((a: i32, b: i32) x: i32, p: i32, q: i32, v: *mut i32)
+);
+declare!(
+    "RangedCoordf64::unmap`]",
+    culv_real_unmap((a: f64, b: f64) x: i32, p: i32, q: i32, v: *mut f64)
+);
 
 impl RangedCoordi32 {
     /// The value whose share of the film holds pixel `x`, the first one before the film.
@@ -19,10 +19,10 @@ impl RangedCoordi32 {
     /// Refused as [`Refusal::WholeNotAdmitted`], [`Refusal::LimitNotAdmitted`] or
     /// [`Refusal::AboveI32`].
     pub fn unmap(self, x: i32, limit: Limit) -> Result<Option<i32>, Refusal> {
-        let mut v = 0;
-        // SAFETY: the result is a local.
-        let code = unsafe { culv_whole_unmap(self.0, self.1, x, limit.0, limit.1, &mut v) };
-        answered_or_none("culv_whole_unmap", code, v)
+        ask!(
+            answered_or_none,
+            culv_whole_unmap(self.0, self.1, x, limit.0, limit.1)
+        )
     }
 }
 
@@ -31,10 +31,10 @@ impl RangedCoordf64 {
     ///
     /// Refused as [`Refusal::LimitNotAdmitted`].
     pub fn unmap(self, x: i32, limit: Limit) -> Result<Option<f64>, Refusal> {
-        let mut v = 0.0;
-        // SAFETY: the result is a local.
-        let code = unsafe { culv_real_unmap(self.0, self.1, x, limit.0, limit.1, &mut v) };
-        answered_or_none("culv_real_unmap", code, v)
+        ask!(
+            answered_or_none,
+            culv_real_unmap(self.0, self.1, x, limit.0, limit.1)
+        )
     }
 }
 

@@ -128,6 +128,30 @@ pub(crate) fn answered_or_none<T>(call: &str, code: i32, value: T) -> Result<Opt
     }
 }
 
+/// Declares the C function behind a call as include/culvraod.h does: the parameters that its family
+/// begins with, and its own.
+macro_rules! declare {
+    ($call:expr, $function:ident(($($first:ident: $number:ty),*) $($own:ident: $t:ty),*)) => {
+        extern "C" {
+            #[doc = concat!("The C function behind [`", $call, ".")]
+            pub fn $function($($first: $number,)* $($own: $t),*) -> i32;
+        }
+    };
+}
+pub(crate) use declare;
+
+/// What a C function tells behind its last pointer, its code read by `$read`. Each pointer among the
+/// arguments has to be that of a list, with its length beside it.
+macro_rules! ask {
+    ($read:ident, $function:ident($($argument:expr),*)) => {{
+        let mut told = Default::default();
+        // SAFETY: the result is a local, and a lent list has the length that is passed.
+        let code = unsafe { $function($($argument,)* &mut told) };
+        $read(stringify!($function), code, told)
+    }};
+}
+pub(crate) use ask;
+
 #[cfg(test)]
 mod tests {
     use super::*;

@@ -1,6 +1,6 @@
 //! Searches of lists that strictly rise or strictly fall.
 
-use crate::refusal::{answered_or_none, Refusal};
+use crate::refusal::{answered_or_none, ask, declare, Refusal};
 
 /// Which entry of a list is meant by a target.
 #[derive(Clone, Copy, Debug, PartialEq, Eq, Hash)]
@@ -26,17 +26,10 @@ impl RoundingMethod {
 /// A search, by its C function.
 macro_rules! search {
     ($(#[$doc:meta])* $search:ident, $number:ty, $function:ident) => {
-        // As include/culvraod.h declares and describes it.
-        extern "C" {
-            #[doc = concat!("The C function behind [`", stringify!($search), "`].")]
-            pub fn $function(
-                list: *const $number,
-                len: usize,
-                target: $number,
-                method: u32,
-                k: *mut u64,
-            ) -> i32;
-        }
+        declare!(
+            concat!(stringify!($search), "`]"),
+            $function((list: *const $number, len: usize) target: $number, method: u32, k: *mut u64)
+        );
 
         $(#[$doc])*
         pub fn $search(
@@ -44,10 +37,8 @@ macro_rules! search {
             target: $number,
             method: RoundingMethod,
         ) -> Result<Option<u64>, Refusal> {
-            let (start, len, mut k) = (list.as_ptr(), list.len(), 0);
-            // SAFETY: `list` has that length, and the result is a local.
-            let code = unsafe { $function(start, len, target, method.number(), &mut k) };
-            answered_or_none(stringify!($function), code, k)
+            let (start, len) = (list.as_ptr(), list.len());
+            ask!(answered_or_none, $function(start, len, target, method.number()))
         }
     };
 }

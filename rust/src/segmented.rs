@@ -1,54 +1,34 @@
 //! Segments over whole and stepped axes: each entry begins one, and one value more stands behind
 //! all of them.
 
-use crate::refusal::{answered, answered_or_none, Refusal};
+use crate::refusal::{answered, answered_or_none, ask, declare, Refusal};
 use crate::{KeyPoints, Limit, Linspacef64, Linspacei32, RoundingMethod};
 use crate::{RangedCoordf64, RangedCoordi32};
 
-// As include/culvraod.h declares and describes them.
-extern "C" {
-    /// The C function behind [`SegmentedCoord::size`] over a whole axis.
-    pub fn culv_seg_whole_size(a: i32, b: i32, n: *mut u64) -> i32;
-
-    /// The C function behind [`SegmentedCoord::map`] over a whole axis.
-    pub fn culv_seg_whole_map(
-        a: i32,
-        b: i32,
-        kind: u32,
-        v: i32,
-        p: i32,
-        q: i32,
-        pixel: *mut i32,
-    ) -> i32;
-
-    /// The C function behind [`SegmentedCoord::index_of`] over a whole axis.
-    pub fn culv_seg_whole_index_of(a: i32, b: i32, kind: u32, v: i32, k: *mut u64) -> i32;
-
-    /// The C function behind [`SegmentedCoord::from_index`] over a whole axis.
-    pub fn culv_seg_whole_from_index(a: i32, b: i32, k: u64, kind: *mut u32, v: *mut i32) -> i32;
-
-    /// The C function behind [`SegmentedCoord::unmap`] over a whole axis.
-    pub fn culv_seg_whole_unmap(
-        a: i32,
-        b: i32,
-        x: i32,
-        p: i32,
-        q: i32,
-        kind: *mut u32,
-        v: *mut i32,
-    ) -> i32;
-
-    /// The C function behind [`SegmentedCoord::key_points`] over a whole axis.
-    pub fn culv_seg_whole_key_points(
-        a: i32,
-        b: i32,
-        m: u32,
-        out: *mut i32,
-        len: usize,
-        step: *mut i32,
-        count: *mut usize,
-    ) -> i32;
-}
+declare!(
+    "SegmentedCoord::size`] over a whole axis",
+    culv_seg_whole_size((a: i32, b: i32) n: *mut u64)
+);
+declare!(
+    "SegmentedCoord::map`] over a whole axis",
+    culv_seg_whole_map((a: i32, b: i32) kind: u32, v: i32, p: i32, q: i32, pixel: *mut i32)
+);
+declare!(
+    "SegmentedCoord::index_of`] over a whole axis",
+    culv_seg_whole_index_of((a: i32, b: i32) kind: u32, v: i32, k: *mut u64)
+);
+declare!(
+    "SegmentedCoord::from_index`] over a whole axis",
+    culv_seg_whole_from_index((a: i32, b: i32) k: u64, kind: *mut u32, v: *mut i32)
+);
+declare!(
+    "SegmentedCoord::unmap`] over a whole axis",
+    culv_seg_whole_unmap((a: i32, b: i32) x: i32, p: i32, q: i32, kind: *mut u32, v: *mut i32)
+);
+declare!(
+    "SegmentedCoord::key_points`] over a whole axis",
+    culv_seg_whole_key_points((a: i32, b: i32) m: u32, out: *mut i32, len: usize, step: *mut i32, count: *mut usize)
+);
 
 /// A value of a segmented axis.
 #[derive(Clone, Copy, Debug, PartialEq, Eq)]
@@ -122,10 +102,7 @@ impl SegmentedCoord<RangedCoordi32> {
     /// Refused as [`Refusal::WholeNotAdmitted`] or [`Refusal::NoSegments`].
     pub fn size(self) -> Result<u64, Refusal> {
         let RangedCoordi32(a, b) = self.0;
-        let mut n = 0;
-        // SAFETY: the result is a local.
-        let code = unsafe { culv_seg_whole_size(a, b, &mut n) };
-        answered("culv_seg_whole_size", code, n)
+        ask!(answered, culv_seg_whole_size(a, b))
     }
 
     /// The pixel of a value, which may carry a number outside the axis.
@@ -135,10 +112,7 @@ impl SegmentedCoord<RangedCoordi32> {
     pub fn map(self, value: SegmentValue<i32>, limit: Limit) -> Result<i32, Refusal> {
         let RangedCoordi32(a, b) = self.0;
         let (Limit(p, q), (kind, v)) = (limit, value.parts());
-        let mut pixel = 0;
-        // SAFETY: the result is a local.
-        let code = unsafe { culv_seg_whole_map(a, b, kind, v, p, q, &mut pixel) };
-        answered("culv_seg_whole_map", code, pixel)
+        ask!(answered, culv_seg_whole_map(a, b, kind, v, p, q))
     }
 
     /// The index of a value, also past the end; none for a number before the axis.
@@ -146,10 +120,8 @@ impl SegmentedCoord<RangedCoordi32> {
     /// Refused as [`Refusal::WholeNotAdmitted`] or [`Refusal::NoSegments`].
     pub fn index_of(self, value: SegmentValue<i32>) -> Result<Option<u64>, Refusal> {
         let RangedCoordi32(a, b) = self.0;
-        let ((kind, v), mut k) = (value.parts(), 0);
-        // SAFETY: the result is a local.
-        let code = unsafe { culv_seg_whole_index_of(a, b, kind, v, &mut k) };
-        answered_or_none("culv_seg_whole_index_of", code, k)
+        let (kind, v) = value.parts();
+        ask!(answered_or_none, culv_seg_whole_index_of(a, b, kind, v))
     }
 
     /// The value at an index: where an entry begins, or the last; none behind that.
@@ -208,68 +180,48 @@ macro_rules! stepped_segments {
         $axis:ident, $ends:ident, $number:ty, $over:literal, also $also:literal, nan $nan:literal,
         $size:ident, $map:ident, $index_of:ident, $from_index:ident, $unmap:ident, $key_points:ident
     ) => {
-        // As include/culvraod.h declares and describes them.
-        extern "C" {
-            #[doc = concat!("The C function behind [`SegmentedCoord::size`] over ", $over, ".")]
-            pub fn $size(a: $number, b: $number, d: $number, n: *mut u64) -> i32;
-
-            #[doc = concat!("The C function behind [`SegmentedCoord::map`] over ", $over, ".")]
-            pub fn $map(
-                a: $number,
-                b: $number,
-                d: $number,
-                method: u32,
-                kind: u32,
-                v: $number,
-                p: i32,
-                q: i32,
-                pixel: *mut i32,
-            ) -> i32;
-
-            #[doc = concat!("The C function behind [`SegmentedCoord::index_of`] over ", $over, ".")]
-            pub fn $index_of(
-                a: $number,
-                b: $number,
-                d: $number,
-                method: u32,
-                kind: u32,
-                v: $number,
-                k: *mut u64,
-            ) -> i32;
-
-            #[doc = concat!("The C function behind [`SegmentedCoord::from_index`] over ", $over, ".")]
-            pub fn $from_index(
-                a: $number,
-                b: $number,
-                d: $number,
-                k: u64,
-                kind: *mut u32,
-                v: *mut $number,
-            ) -> i32;
-
-            #[doc = concat!("The C function behind [`SegmentedCoord::unmap`] over ", $over, ".")]
-            pub fn $unmap(
-                a: $number,
-                b: $number,
-                d: $number,
-                x: i32,
-                p: i32,
-                q: i32,
-                kind: *mut u32,
-                v: *mut $number,
-            ) -> i32;
-
-            #[doc = concat!("The C function behind [`SegmentedCoord::key_points`] over ", $over, ".")]
-            pub fn $key_points(
-                a: $number,
-                b: $number,
-                d: $number,
-                m: u32,
-                out: *mut $number,
-                len: usize,
-                count: *mut usize,
-            ) -> i32;
-        }
+        declare!(
+            concat!("SegmentedCoord::size`] over ", $over),
+            $size(
+                (a: $number, b: $number, d: $number)
+                n: *mut u64
+            )
+        );
+        declare!(
+            concat!("SegmentedCoord::map`] over ", $over),
+            $map(
+                (a: $number, b: $number, d: $number)
+                method: u32, kind: u32, v: $number, p: i32, q: i32, pixel: *mut i32
+            )
+        );
+        declare!(
+            concat!("SegmentedCoord::index_of`] over ", $over),
+            $index_of(
+                (a: $number, b: $number, d: $number)
+                method: u32, kind: u32, v: $number, k: *mut u64
+            )
+        );
+        declare!(
+            concat!("SegmentedCoord::from_index`] over ", $over),
+            $from_index(
+                (a: $number, b: $number, d: $number)
+                k: u64, kind: *mut u32, v: *mut $number
+            )
+        );
+        declare!(
+            concat!("SegmentedCoord::unmap`] over ", $over),
+            $unmap(
+                (a: $number, b: $number, d: $number)
+                x: i32, p: i32, q: i32, kind: *mut u32, v: *mut $number
+            )
+        );
+        declare!(
+            concat!("SegmentedCoord::key_points`] over ", $over),
+            $key_points(
+                (a: $number, b: $number, d: $number)
+                m: u32, out: *mut $number, len: usize, count: *mut usize
+            )
+        );
 
         impl $axis {
             /// Segments over the axis.
@@ -285,10 +237,7 @@ macro_rules! stepped_segments {
             /// [`Refusal::StepAgainstAxis`] or [`Refusal::ListTooLong`].
             pub fn size(self) -> Result<u64, Refusal> {
                 let ($ends(a, b), d) = (self.0.inner, self.0.step);
-                let mut n = 0;
-                // SAFETY: the result is a local.
-                let code = unsafe { $size(a, b, d, &mut n) };
-                answered(stringify!($size), code, n)
+                ask!(answered, $size(a, b, d))
             }
 
             /// The pixel of a value, which may carry a number outside the axis or between entries.
@@ -304,10 +253,7 @@ macro_rules! stepped_segments {
             ) -> Result<i32, Refusal> {
                 let ($ends(a, b), d) = (self.0.inner, self.0.step);
                 let (Limit(p, q), (kind, v)) = (limit, value.parts());
-                let mut pixel = 0;
-                // SAFETY: the result is a local.
-                let code = unsafe { $map(a, b, d, method.number(), kind, v, p, q, &mut pixel) };
-                answered(stringify!($map), code, pixel)
+                ask!(answered, $map(a, b, d, method.number(), kind, v, p, q))
             }
 
             /// The index of the entry that is meant by a value, or none; the last value has the
@@ -322,10 +268,8 @@ macro_rules! stepped_segments {
                 value: SegmentValue<$number>,
             ) -> Result<Option<u64>, Refusal> {
                 let ($ends(a, b), d) = (self.0.inner, self.0.step);
-                let ((kind, v), mut k) = (value.parts(), 0);
-                // SAFETY: the result is a local.
-                let code = unsafe { $index_of(a, b, d, method.number(), kind, v, &mut k) };
-                answered_or_none(stringify!($index_of), code, k)
+                let (kind, v) = value.parts();
+                ask!(answered_or_none, $index_of(a, b, d, method.number(), kind, v))
             }
 
             /// The value at an index: where an entry begins, or the last; none behind that.
@@ -372,10 +316,8 @@ macro_rules! stepped_segments {
             /// [`Refusal::OutTooShort`].
             pub fn key_points(self, m: u32, out: &mut [$number]) -> Result<usize, Refusal> {
                 let ($ends(a, b), d) = (self.0.inner, self.0.step);
-                let (to, len, mut count) = (out.as_mut_ptr(), out.len(), 0);
-                // SAFETY: `out` is a list of that length, and the result is a local.
-                let code = unsafe { $key_points(a, b, d, m, to, len, &mut count) };
-                answered(stringify!($key_points), code, count)
+                let (to, len) = (out.as_mut_ptr(), out.len());
+                ask!(answered, $key_points(a, b, d, m, to, len))
             }
         }
     };
