@@ -241,7 +241,9 @@ int32_t culv_search_real(const double *list, size_t len, double target,
  * empty too if a, b or a + d is NaN, and has no end where the step is too small
  * to move a sum.
  *
- * Each of these calls names its refusals by their numbers, which mean:
+ * Each of these calls stands for whole numbers and for doubles. It names its
+ * refusals by their numbers, those that one of the two alone can give with its
+ * kind; they mean:
  *    1: a, b, d, v or method is not admitted;
  *    2: x, p or q is not admitted;
  *    3: m is 0 and the list has entries, be there too many of them or without
@@ -254,153 +256,90 @@ int32_t culv_search_real(const double *list, size_t len, double target,
  */
 
 /*
- * The list of the whole axis from a to b by the step d.
+ * The list of the axis from a to b by the step d.
  *
  * 0: *count is the number of entries, out[0] to out[*count - 1] are the
  *    entries.
- * Refused: 1, 6, and 7 also where the list has more than len entries.
+ * Refused: 1 (whole), 6, and 7 also where the list has more than len entries.
  */
 int32_t culv_step_whole_values(int32_t a, int32_t b, int32_t d,
                                int32_t *out, size_t len, size_t *count);
+int32_t culv_step_real_values(double a, double b, double d,
+                              double *out, size_t len, size_t *count);
 
 /*
- * The number of entries of the list of culv_step_whole_values.
+ * The number of entries of the list.
  *
  * 0: *n is the number.
- * Refused: 1, 6, 7.
+ * Refused: 1 (whole), 6, 7.
  */
 int32_t culv_step_whole_size(int32_t a, int32_t b, int32_t d, uint64_t *n);
+int32_t culv_step_real_size(double a, double b, double d, uint64_t *n);
 
 /*
- * The entry at the index k, counted from 0, of the list of
- * culv_step_whole_values.
+ * The entry of the list at the index k, counted from 0.
  *
  * 0: *v is the entry.
  * None: the list has no more than k entries.
- * Refused: 1, 6, 7.
+ * Refused: 1 (whole), 6, 7.
  */
 int32_t culv_step_whole_from_index(int32_t a, int32_t b, int32_t d, uint64_t k,
                                    int32_t *v);
+int32_t culv_step_real_from_index(double a, double b, double d, uint64_t k,
+                                  double *v);
 
 /*
- * The index of v in the list of culv_step_whole_values, by the method of
- * culv_search_whole.
+ * The index of v in the list, by the method of culv_search_whole and
+ * culv_search_real.
  *
  * 0: *k is the index, counted from 0.
  * None: there is no such entry.
- * Refused: 1, 6, 7.
+ * Refused: 1, 6, 7, 9 (real).
  */
 int32_t culv_step_whole_index_of(int32_t a, int32_t b, int32_t d, int32_t v,
                                  uint32_t method, uint64_t *k);
+int32_t culv_step_real_index_of(double a, double b, double d, double v,
+                                uint32_t method, uint64_t *k);
 
 /*
- * The pixel of the value v on the stepped whole axis: that of culv_whole_map
- * on the axis from a to b.
+ * The pixel of the value v: that of culv_whole_map or culv_real_map on the axis
+ * from a to b.
  *
  * 0: *pixel is the place.
- * Refused: 1, 2, 5, 6, 7.
+ * Refused: 1 (whole), 2, 5, 6, 7.
  */
 int32_t culv_step_whole_map(int32_t a, int32_t b, int32_t d, int32_t v,
                             int32_t p, int32_t q, int32_t *pixel);
+int32_t culv_step_real_map(double a, double b, double d, double v,
+                           int32_t p, int32_t q, int32_t *pixel);
 
 /*
- * The entry of the list of culv_step_whole_values at the pixel x of a film
- * from p to q.
+ * The entry of the list at the pixel x of a film from p to q.
  *
- * With n as in culv_step_whole_size, its index is the floor of
+ * With n the number of entries, its index is the floor of
  * (x - p) * n / (q - p), worked out exactly, and 0 where that is below zero.
  * If p is q, the index is 0, but there is none where x is above p and n is not
  * 0.
  *
  * 0: *v is the entry.
  * None: there is no index, or no entry at it.
- * Refused: 1, 2, 6, 7.
+ * Refused: 1 (whole), 2, 6, 7.
  */
 int32_t culv_step_whole_unmap(int32_t a, int32_t b, int32_t d, int32_t x,
                               int32_t p, int32_t q, int32_t *v);
-
-/*
- * Marks of the stepped whole axis, with the mark limit m: the entries of the
- * list of culv_step_whole_values at the indices that culv_index_key_points
- * marks from 0 to the last one. There is none if the list is empty, and there
- * are at most m + 1.
- *
- * 0: *count is the number of marks, out[0] to out[*count - 1] are the marks.
- * Refused: 1, 3, 6, 7, 13.
- */
-int32_t culv_step_whole_key_points(int32_t a, int32_t b, int32_t d, uint32_t m,
-                                   int32_t *out, size_t len, size_t *count);
-
-/*
- * The list of the real axis from a to b by the step d.
- *
- * 0: *count is the number of entries, out[0] to out[*count - 1] are the
- *    entries.
- * Refused: 6, and 7 also where the list has more than len entries.
- */
-int32_t culv_step_real_values(double a, double b, double d,
-                              double *out, size_t len, size_t *count);
-
-/*
- * The number of entries of the list of culv_step_real_values.
- *
- * 0: *n is the number.
- * Refused: 6, 7.
- */
-int32_t culv_step_real_size(double a, double b, double d, uint64_t *n);
-
-/*
- * The entry at the index k, counted from 0, of the list of
- * culv_step_real_values.
- *
- * 0: *v is the entry.
- * None: the list has no more than k entries.
- * Refused: 6, 7.
- */
-int32_t culv_step_real_from_index(double a, double b, double d, uint64_t k,
-                                  double *v);
-
-/*
- * The index of v in the list of culv_step_real_values, by the method of
- * culv_search_real.
- *
- * 0: *k is the index, counted from 0.
- * None: there is no such entry.
- * Refused: 1, 6, 7, 9.
- */
-int32_t culv_step_real_index_of(double a, double b, double d, double v,
-                                uint32_t method, uint64_t *k);
-
-/*
- * The pixel of the value v on the stepped real axis: that of culv_real_map on
- * the axis from a to b.
- *
- * 0: *pixel is the place.
- * Refused: 2, 5, 6, 7.
- */
-int32_t culv_step_real_map(double a, double b, double d, double v,
-                           int32_t p, int32_t q, int32_t *pixel);
-
-/*
- * The entry of the list of culv_step_real_values at the pixel x of a film from
- * p to q. Its index is worked out as in culv_step_whole_unmap.
- *
- * 0: *v is the entry.
- * None: there is no index, or no entry at it.
- * Refused: 2, 6, 7.
- */
 int32_t culv_step_real_unmap(double a, double b, double d, int32_t x,
                              int32_t p, int32_t q, double *v);
 
 /*
- * Marks of the stepped real axis, with the mark limit m: the entries of the
- * list of culv_step_real_values at the indices that culv_index_key_points
- * marks from 0 to the last one. There is none if the list is empty, and there
- * are at most m + 1.
+ * Marks of the axis, with the mark limit m: the entries of the list at the
+ * indices that culv_index_key_points marks from 0 to the last one. There is
+ * none if the list is empty, and there are at most m + 1.
  *
  * 0: *count is the number of marks, out[0] to out[*count - 1] are the marks.
- * Refused: 3, 6, 7, 13.
+ * Refused: 1 (whole), 3, 6, 7, 13.
  */
+int32_t culv_step_whole_key_points(int32_t a, int32_t b, int32_t d, uint32_t m,
+                                   int32_t *out, size_t len, size_t *count);
 int32_t culv_step_real_key_points(double a, double b, double d, uint32_t m,
                                   double *out, size_t len, size_t *count);
 
@@ -504,154 +443,98 @@ int32_t culv_seg_whole_key_points(int32_t a, int32_t b, uint32_t m,
                                   int32_t *step, size_t *count);
 
 /*
- * The number of values of the segments over the list of culv_step_whole_values:
- * one more than its entries.
- *
- * 0: *n is the number.
- * Refused: 1, 4, 6, 7.
+ * The calls that follow are on segments over the list of an axis by a step, that
+ * of culv_step_whole_values or of culv_step_real_values.
  */
-int32_t culv_seg_step_whole_size(int32_t a, int32_t b, int32_t d, uint64_t *n);
 
 /*
- * The pixel of a value of the segments over the list of culv_step_whole_values,
- * on a film from p to q. v may lie outside the axis or between entries.
+ * The number of values: one more than the entries of the list.
+ *
+ * 0: *n is the number.
+ * Refused: 1 (whole), 4, 6, 7.
+ */
+int32_t culv_seg_step_whole_size(int32_t a, int32_t b, int32_t d, uint64_t *n);
+int32_t culv_seg_step_real_size(double a, double b, double d, uint64_t *n);
+
+/*
+ * The pixel of a value, on a film from p to q. v may lie outside the axis or
+ * between entries.
  *
  * The margin is that of culv_seg_whole_map, n being the number of entries. The
- * place of exact v is that of culv_whole_map on the axis from a to b with the
- * limits p and q - margin. That of center v is the sum of it and of the place
- * of the entry one after the index of v by the method of culv_search_whole,
- * halved and cut toward zero. Where there is no such index or no such entry it
- * is the place of exact v plus half the margin, cut toward zero. That of last
- * is q.
+ * place of exact v is that of culv_whole_map or culv_real_map on the axis from
+ * a to b with the limits p and q - margin. That of center v is the sum of it
+ * and of the place of the entry one after the index of v by the method of
+ * culv_search_whole and culv_search_real, halved and cut toward zero. Where
+ * there is no such index or no such entry it is the place of exact v plus half
+ * the margin, cut toward zero. That of last is q.
  *
  * 0: *pixel is the place.
- * Refused: 1, 2, 4, 5, 6, 7.
+ * Refused: 1, 2, 4, 5, 6, 7, and 9 (real) where v is NaN, kind is 1, and method
+ * is not 0.
  */
 int32_t culv_seg_step_whole_map(int32_t a, int32_t b, int32_t d,
                                 uint32_t method, uint32_t kind, int32_t v,
                                 int32_t p, int32_t q, int32_t *pixel);
-
-/*
- * The index of a value of the segments over the list of culv_step_whole_values:
- * that of culv_step_whole_index_of for exact and center, and the number of
- * entries for last.
- *
- * 0: *k is the index, counted from 0.
- * None: there is no such entry.
- * Refused: 1, 4, 6, 7.
- */
-int32_t culv_seg_step_whole_index_of(int32_t a, int32_t b, int32_t d,
-                                     uint32_t method, uint32_t kind,
-                                     int32_t v, uint64_t *k);
-
-/*
- * The value at the index k of the segments over the list of
- * culv_step_whole_values: exact for each entry, then last.
- *
- * 0: *kind and *v are the value.
- * None: k is above the index of last.
- * Refused: 1, 4, 6, 7.
- */
-int32_t culv_seg_step_whole_from_index(int32_t a, int32_t b, int32_t d,
-                                       uint64_t k, uint32_t *kind,
-                                       int32_t *v);
-
-/*
- * The value of the segments over the list of culv_step_whole_values at the
- * pixel x of a film from p to q. Its index is worked out as in
- * culv_seg_whole_unmap, with the n of culv_seg_step_whole_size.
- *
- * 0: *kind and *v are the value.
- * None: there is no index, or no value at it.
- * Refused: 1, 2, 4, 6, 7.
- */
-int32_t culv_seg_step_whole_unmap(int32_t a, int32_t b, int32_t d, int32_t x,
-                                  int32_t p, int32_t q, uint32_t *kind,
-                                  int32_t *v);
-
-/*
- * Marks of the segments over the list of culv_step_whole_values, with the mark
- * limit m: those of culv_step_whole_key_points, each of which stands for center
- * of it.
- *
- * 0: *count is the number of marks, out[0] to out[*count - 1] are the marks.
- * Refused: 1, 3, 4, 6, 7, 13.
- */
-int32_t culv_seg_step_whole_key_points(int32_t a, int32_t b, int32_t d,
-                                       uint32_t m, int32_t *out, size_t len,
-                                       size_t *count);
-
-/*
- * The number of values of the segments over the list of culv_step_real_values:
- * one more than its entries.
- *
- * 0: *n is the number.
- * Refused: 4, 6, 7.
- */
-int32_t culv_seg_step_real_size(double a, double b, double d, uint64_t *n);
-
-/*
- * The pixel of a value of the segments over the list of culv_step_real_values,
- * on a film from p to q. v may lie outside the axis or between entries.
- *
- * Places are those of culv_seg_step_whole_map, with culv_real_map for the place
- * of exact v, and the method of culv_search_real.
- *
- * 0: *pixel is the place.
- * Refused: 1, 2, 4, 5, 6, 7, and 9 where v is NaN, kind is 1, and method is
- * not 0.
- */
 int32_t culv_seg_step_real_map(double a, double b, double d,
                                uint32_t method, uint32_t kind, double v,
                                int32_t p, int32_t q, int32_t *pixel);
 
 /*
- * The index of a value of the segments over the list of culv_step_real_values:
- * that of culv_step_real_index_of for exact and center, and the number of
- * entries for last.
+ * The index of a value: that of culv_step_whole_index_of or
+ * culv_step_real_index_of for exact and center, and the number of entries for
+ * last.
  *
  * 0: *k is the index, counted from 0.
  * None: there is no such entry.
- * Refused: 1, 4, 6, 7, and 9 where v is NaN, kind is not 2, and method is
- * not 0.
+ * Refused: 1, 4, 6, 7, and 9 (real) where v is NaN, kind is not 2, and method
+ * is not 0.
  */
+int32_t culv_seg_step_whole_index_of(int32_t a, int32_t b, int32_t d,
+                                     uint32_t method, uint32_t kind,
+                                     int32_t v, uint64_t *k);
 int32_t culv_seg_step_real_index_of(double a, double b, double d,
                                     uint32_t method, uint32_t kind,
                                     double v, uint64_t *k);
 
 /*
- * The value at the index k of the segments over the list of
- * culv_step_real_values: exact for each entry, then last.
+ * The value at the index k: exact for each entry, then last.
  *
  * 0: *kind and *v are the value.
  * None: k is above the index of last.
- * Refused: 4, 6, 7.
+ * Refused: 1 (whole), 4, 6, 7.
  */
+int32_t culv_seg_step_whole_from_index(int32_t a, int32_t b, int32_t d,
+                                       uint64_t k, uint32_t *kind,
+                                       int32_t *v);
 int32_t culv_seg_step_real_from_index(double a, double b, double d,
                                       uint64_t k, uint32_t *kind,
                                       double *v);
 
 /*
- * The value of the segments over the list of culv_step_real_values at the
- * pixel x of a film from p to q. Its index is worked out as in
- * culv_seg_whole_unmap, with the n of culv_seg_step_real_size.
+ * The value at the pixel x of a film from p to q. Its index is worked out as in
+ * culv_seg_whole_unmap, with n the number of values.
  *
  * 0: *kind and *v are the value.
  * None: there is no index, or no value at it.
- * Refused: 2, 4, 6, 7.
+ * Refused: 1 (whole), 2, 4, 6, 7.
  */
+int32_t culv_seg_step_whole_unmap(int32_t a, int32_t b, int32_t d, int32_t x,
+                                  int32_t p, int32_t q, uint32_t *kind,
+                                  int32_t *v);
 int32_t culv_seg_step_real_unmap(double a, double b, double d, int32_t x,
                                  int32_t p, int32_t q, uint32_t *kind,
                                  double *v);
 
 /*
- * Marks of the segments over the list of culv_step_real_values, with the mark
- * limit m: those of culv_step_real_key_points, each of which stands for center
- * of it.
+ * Marks, with the mark limit m: those of culv_step_whole_key_points or
+ * culv_step_real_key_points, each of which stands for center of it.
  *
  * 0: *count is the number of marks, out[0] to out[*count - 1] are the marks.
- * Refused: 3, 4, 6, 7, 13.
+ * Refused: 1 (whole), 3, 4, 6, 7, 13.
  */
+int32_t culv_seg_step_whole_key_points(int32_t a, int32_t b, int32_t d,
+                                       uint32_t m, int32_t *out, size_t len,
+                                       size_t *count);
 int32_t culv_seg_step_real_key_points(double a, double b, double d,
                                       uint32_t m, double *out, size_t len,
                                       size_t *count);
