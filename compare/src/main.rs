@@ -25,6 +25,8 @@ mod written;
 #[cfg(feature = "library")]
 mod beside;
 #[cfg(feature = "library")]
+mod lends;
+#[cfg(feature = "library")]
 mod lent;
 #[cfg(feature = "library")]
 mod rulers;

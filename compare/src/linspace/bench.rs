@@ -2,12 +2,14 @@
 
 use plotters::coord::ranged1d::DiscreteRanged;
 use std::hint::black_box;
+use std::ptr::null_mut;
 
 use super::calls::{FromIndex, IndexOf, Map, Size, Unmap};
 use super::library::Library;
 use super::listing::Listing;
 use super::{rule, Steps};
 use crate::beside;
+use crate::lends::Lends;
 use crate::timing::report_written;
 
 /// Lists of so many entries are written and marked.
@@ -23,8 +25,8 @@ fn time<N: Library, T>(
     let count = rule::count(listing.axis).unwrap_or(0);
     let title = format!("{call} of {count} entries{beside}");
     let ours = |listing: Listing<N>, out: &mut [N], told: &mut usize| {
-        // SAFETY: `out` is a list of that length, and `told` is one number.
-        unsafe { listing.function(out.as_mut_ptr(), out.len(), told) }
+        // SAFETY: `out` is a list of that length, and `told` is one number; no step is told.
+        unsafe { listing.function((out.as_mut_ptr(), out.len()), null_mut(), told) }
     };
     report_written(&title, listing, count, ours, made);
 }

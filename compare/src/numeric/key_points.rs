@@ -1,12 +1,12 @@
 //! Marks of culvraod beside those of plotters and of the rule.
 
 use culvraod::Refusal;
-use std::fmt::Display;
+use std::marker::PhantomData;
 
 use super::axis::{Index, Library, Whole};
 use super::cases::{fewer, large, small, Case, LONG};
 use super::rule::BOUND;
-use crate::lent::{lengths, Fill, Lent};
+use crate::lends::{with_list, with_lists, Lends, Memory};
 use crate::random::Random;
 use crate::tally::{ensure, Tally};
 
@@ -21,102 +21,35 @@ fn no_step(case: Case) -> bool {
     (case.m == 0 && case.a != case.b) || (case.m == 1 && d > BOUND)
 }
 
-/// What a call must give: the step and the marks, or the number of its refusal.
-type Wanted<'a, N> = Result<(N, &'a [N]), i32>;
+/// A case on one kind of axis.
+struct On<A>(Case, PhantomData<A>);
 
-/// What is lent in one call.
-struct Memory<N> {
-    list: Lent<N>,
-    step: Lent<N>,
-    count: Lent<usize>,
-}
-
-impl<N: Fill> Memory<N> {
-    fn new() -> Memory<N> {
-        let (list, step, count) = (Lent::new(), Lent::new(), Lent::new());
-        Memory { list, step, count }
-    }
-
-    fn refill(&mut self, len: usize) {
-        self.list.refill(len);
-        self.step.refill(1);
-        self.count.refill(1);
+impl<A> Clone for On<A> {
+    fn clone(&self) -> On<A> {
+        *self
     }
 }
 
-/// Calls the C function and holds its answer and all memory in reach against what is wanted.
-fn by_function<A: Library>(
-    case: Case,
-    memory: &mut Memory<A::Number>,
-    wanted: Wanted<A::Number>,
-) -> Result<(), String> {
-    let Memory { list, step, count } = memory;
-    let (a, b, len) = (A::number(case.a), A::number(case.b), list.len());
-    let (out, to_step, to_count) = (list.pointer(), step.pointer(), count.pointer());
-    // SAFETY: the pointers are those of a list of this length and of one number each.
-    let code = unsafe { A::function(a, b, case.m, out, len, to_step, to_count) };
-    let (step_told, count_told) = (step.list()[0], count.list()[0]);
-    let found = |what: &str| match code {
-        0 => format!("list of {len}: step {step_told}, count {count_told}; {what}"),
-        _ => format!("list of {len}: returned {code}; {what}"),
-    };
-    match wanted {
-        Ok((want, marks)) => {
-            let number = marks.len();
-            let told = step_told == want && count_told == number;
-            let alone = step.holds(&[want]) && count.holds(&[number]);
-            ensure(code == 0, || found("wanted an answer"))?;
-            ensure(told, || found(&format!("wanted {want} and {number}")))?;
-            ensure(alone, || {
-                found("memory beside step or count was written to")
-            })?;
-            ensure(list.holds(marks), || found(&wrong(list.list(), marks)))
-        }
-        Err(number) => {
-            let kept = step.holds(&[]) && count.holds(&[]) && list.holds(&[]);
-            ensure(code == number, || {
-                found(&format!("wanted refusal {number}"))
-            })?;
-            ensure(kept, || found("memory was written to"))
-        }
+impl<A> Copy for On<A> {}
+
+impl<A: Library> Lends for On<A> {
+    type Entry = A::Number;
+
+    fn safe(self, out: &mut [A::Number]) -> Result<(Option<A::Number>, usize), Refusal> {
+        let Case { a, b, m } = self.0;
+        let told = A::key_points(A::number(a), A::number(b), m, out);
+        told.map(|told| (Some(told.step), told.count))
     }
-}
 
-/// What is wrong with a list.
-fn wrong<N: Fill + Display>(list: &[N], marks: &[N]) -> String {
-    match (0..marks.len()).find(|&at| list[at] != marks[at]) {
-        Some(at) => format!("mark {at} is {}, wanted {}", list[at], marks[at]),
-        None => "memory beside the marks was written to".into(),
+    unsafe fn function(
+        self,
+        (out, len): (*mut A::Number, usize),
+        step: *mut A::Number,
+        count: *mut usize,
+    ) -> i32 {
+        let Case { a, b, m } = self.0;
+        A::function(A::number(a), A::number(b), m, out, len, step, count)
     }
-}
-
-/// Makes the safe call and holds its answer and the list against what is wanted.
-fn by_wrapper<A: Library>(
-    case: Case,
-    list: &mut Lent<A::Number>,
-    wanted: Wanted<A::Number>,
-) -> Result<(), String> {
-    let told = A::key_points(A::number(case.a), A::number(case.b), case.m, list.list());
-    let told = told
-        .map(|told| (told.step, told.count))
-        .map_err(Refusal::number);
-    let want = wanted.map(|(step, marks)| (step, marks.len()));
-    let marks = wanted.map_or(&[][..], |(_, marks)| marks);
-    ensure(told == want && list.holds(marks), || {
-        format!("safe call: {told:?}, wanted {want:?} and its list")
-    })
-}
-
-fn with_list<A: Library>(
-    case: Case,
-    len: usize,
-    memory: &mut Memory<A::Number>,
-    wanted: Wanted<A::Number>,
-) -> Result<(), String> {
-    memory.refill(len);
-    by_function::<A>(case, memory, wanted)?;
-    memory.refill(len);
-    by_wrapper::<A>(case, &mut memory.list, wanted)
 }
 
 fn check<A: Library>(case: Case, memory: &mut Memory<A::Number>) -> Result<(), String> {
@@ -131,15 +64,8 @@ fn check<A: Library>(case: Case, memory: &mut Memory<A::Number>) -> Result<(), S
     ensure(A::agree(&rule, &marks), || {
         format!("the rule and plotters differ, step {}", rule.step)
     })?;
-    let step = A::number(rule.step);
-    lengths(marks.len()).into_iter().try_for_each(|len| {
-        let wanted = if len < marks.len() {
-            Err(TOO_SHORT)
-        } else {
-            Ok((step, &marks[..]))
-        };
-        with_list::<A>(case, len, memory, wanted)
-    })
+    let told = (Some(A::number(rule.step)), &marks[..]);
+    with_lists(On::<A>(case, PhantomData), told, TOO_SHORT, memory)
 }
 
 fn check_refusal<A: Library>(
@@ -155,14 +81,14 @@ fn check_refusal<A: Library>(
     }
     [0, 1, 9]
         .into_iter()
-        .try_for_each(|len| with_list::<A>(case, len, memory, Err(number)))
+        .try_for_each(|len| with_list(On::<A>(case, PhantomData), len, memory, Err(number)))
 }
 
 /// A case with too many marks to write: every list is too short.
 fn check_short<A: Library>(case: Case, memory: &mut Memory<A::Number>) -> Result<(), String> {
     [0, 1, 50]
         .into_iter()
-        .try_for_each(|len| with_list::<A>(case, len, memory, Err(TOO_SHORT)))
+        .try_for_each(|len| with_list(On::<A>(case, PhantomData), len, memory, Err(TOO_SHORT)))
 }
 
 /// How many marks a random case may have: few as a rule, so that there can be many cases.
