@@ -34,14 +34,8 @@ module _ (c : tie.After-steps) where
   axis : axisAdmitted whole a b d ≡ true
   axis = sym (c .before .before .admitted .ensures) ∙ not-false _ (c .before .if1 .left)
 
-  asked : axisAdmitted whole (c .steps .result .a) (c .steps .result .b) (c .steps .result .d) ≡ true
-  asked = rw (c .steps .ensures .0, c .steps .ensures .1, c .steps .ensures .2) axis
-
-told : (c : tie.After-counted) → let s = c .before in tellCount (c .counted .result) ≡ counts whole (a s) (b s) (d s)
-told c = rw (c .before .steps .ensures .0, c .before .steps .ensures .1, c .before .steps .ensures .2) at (c .counted .ensures)
-
 counts-are : (c : tie.After-counted) {r : Count} → c .counted .result ≡ r → let s = c .before in counts whole (a s) (b s) (d s) ≡ tellCount r
-counts-are c e = sym (told c) ∙ ap tellCount e
+counts-are c e = sym (rw (c .before .steps .ensures .0, c .before .steps .ensures .1, c .before .steps .ensures .2) at (c .counted .ensures)) ∙ ap tellCount e
 
 answers : (c : tie.After-counted) {r : Count} → c .counted .result ≡ r
     → let s = c .before in onceListed (tellCount r) (nth (stepped whole (a s) (b s) (d s)) (start s .args .k)) ≡ stepFromIndex whole (a s) (b s) (d s) (start s .args .k)
@@ -62,7 +56,7 @@ steps-requires : tie.Need-steps-requires
 steps-requires c κs = search needs
 
 counted-requires : tie.Need-counted-requires
-counted-requires c κs = asked c
+counted-requires c κs = rw (c .steps .ensures .0, c .steps .ensures .1, c .steps .ensures .2) (axis c)
 
 enum-known-r : tie.Need-enum-known-r
 enum-known-r c = search needs

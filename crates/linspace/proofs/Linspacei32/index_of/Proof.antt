@@ -48,14 +48,8 @@ module _ (c : tie.After-steps) where
   wanted : wholeAdmitted (start .args .v) ≡ true
   wanted = sym (v-told (c .before .before)) ∙ not-false _ (c .before .if2 .left)
 
-  asked : axisAdmitted whole (c .steps .result .a) (c .steps .result .b) (c .steps .result .d) ≡ true
-  asked = rw (c .steps .ensures .0, c .steps .ensures .1, c .steps .ensures .2) axis
-
-told : (c : tie.After-counted) → let s = c .before in tellCount (c .counted .result) ≡ counts whole (a s) (b s) (d s)
-told c = rw (c .before .steps .ensures .0, c .before .steps .ensures .1, c .before .steps .ensures .2) at (c .counted .ensures)
-
 counts-are : (c : tie.After-counted) {r : Count} → c .counted .result ≡ r → let s = c .before in counts whole (a s) (b s) (d s) ≡ tellCount r
-counts-are c e = sym (told c) ∙ ap tellCount e
+counts-are c e = sym (rw (c .before .steps .ensures .0, c .before .steps .ensures .1, c .before .steps .ensures .2) at (c .counted .ensures)) ∙ ap tellCount e
 
 answers : (c : tie.After-counted) {r : Count} → c .counted .result ≡ r
     → let s = c .before in onceListed (tellCount r) (rule.search wholes (start s .args .v) (start s .args .method) (stepped whole (a s) (b s) (d s))) ≡ stepIndexOf whole (a s) (b s) (d s) (start s .args .v) (start s .args .method)
@@ -86,7 +80,7 @@ steps-requires : tie.Need-steps-requires
 steps-requires c κs = search needs
 
 counted-requires : tie.Need-counted-requires
-counted-requires c κs = asked c
+counted-requires c κs = rw (c .steps .ensures .0, c .steps .ensures .1, c .steps .ensures .2) (axis c)
 
 enum-known-r : tie.Need-enum-known-r
 enum-known-r c = search needs

@@ -39,11 +39,8 @@ module _ (c : tie.After-steps) where
   asked : axisAdmitted whole (c .steps .result .a) (c .steps .result .b) (c .steps .result .d) ≡ true
   asked = rw (c .steps .ensures .0, c .steps .ensures .1, c .steps .ensures .2) axis
 
-told : (c : tie.After-counted) → let s = c .before .before .before in tellCount (c .counted .result) ≡ counts whole (a s) (b s) (d s)
-told c = let s = c .before .before .before in rw (s .steps .ensures .0, s .steps .ensures .1, s .steps .ensures .2) at (c .counted .ensures)
-
 counts-are : (c : tie.After-counted) {r : Count} → c .counted .result ≡ r → let s = c .before .before .before in counts whole (a s) (b s) (d s) ≡ tellCount r
-counts-are c e = sym (told c) ∙ ap tellCount e
+counts-are c e = let s = c .before .before .before in sym (rw (s .steps .ensures .0, s .steps .ensures .1, s .steps .ensures .2) at (c .counted .ensures)) ∙ ap tellCount e
 
 lacks : (c : tie.After-lacks-step) → let s = c .before in c .lacks-step .result ≡ (eqb (start s .args .m) 0 && hasEntries (stepped whole (a s) (b s) (d s)))
 lacks c = let s = c .before in rw (s .steps .ensures .0, s .steps .ensures .1, s .steps .ensures .2) at (c .lacks-step .ensures)

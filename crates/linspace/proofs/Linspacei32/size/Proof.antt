@@ -26,12 +26,6 @@ module _ (c : tie.After-steps) where
   axis : axisAdmitted whole a b d ≡ true
   axis = sym (c .before .before .admitted .ensures) ∙ not-false _ (c .before .if1 .left)
 
-  asked : axisAdmitted whole (c .steps .result .a) (c .steps .result .b) (c .steps .result .d) ≡ true
-  asked = rw (c .steps .ensures .0, c .steps .ensures .1, c .steps .ensures .2) axis
-
-told : (c : tie.After-counted) → let s = c .before in tellCount (c .counted .result) ≡ counts whole (a s) (b s) (d s)
-told c = rw (c .before .steps .ensures .0, c .before .steps .ensures .1, c .before .steps .ensures .2) at (c .counted .ensures)
-
 admitted-requires : tie.Need-admitted-requires
 admitted-requires c κs = search needs
 
@@ -42,10 +36,10 @@ steps-requires : tie.Need-steps-requires
 steps-requires c κs = search needs
 
 counted-requires : tie.Need-counted-requires
-counted-requires c κs = asked c
+counted-requires c κs = rw (c .steps .ensures .0, c .steps .ensures .1, c .steps .ensures .2) (axis c)
 
 returns-2 : tie.Need-returns-2
-returns-2 c = let s = c .before in told c ∙ size-is whole (a s) (b s) (d s) (axis s)
+returns-2 c = let s = c .before in (rw (s .steps .ensures .0, s .steps .ensures .1, s .steps .ensures .2) at (c .counted .ensures)) ∙ size-is whole (a s) (b s) (d s) (axis s)
 
 pub size-spec : {M : Type 1} → statement M
 size-spec =
