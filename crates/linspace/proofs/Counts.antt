@@ -44,19 +44,15 @@ module _ (a b d : Float) where
       go true s = rw (stepped-run a b d s) (entries-are (toward real (lt a b) b) (plusStep d) 65537 a)
       go false s = rw (stepped-empty a b d s) refl
 
+  pub entry-of : (z : Float) (k : ℕ) → k < length l → getD l k z ≡ after (plusStep d) k a
+  entry-of z k h = ap (λ (w : List Float). getD w k z) stepped-are ∙ entry (λ j. after (plusStep d) j a) z (length l) k h
+
   -- ---- a count that was given, or refused
-  counts-are : rules.counts real a b d ≡ stepSize real a b d
+  pub counts-are : rules.counts real a b d ≡ stepSize real a b d
   counts-are = rules.size-is real a b d refl
 
-  pub record Sized (n : ℕ) : Type 0 where
-    pub onward : against real a b d ≡ false
-    pub all : n ≡ length l
-    pub few : n ≤ 65536
-
-  pub sized : {n : ℕ} → stepSize real a b d ≡ given n → Sized n
-  sized e =
-      let k = rules.counted real a b d (counts-are ∙ e) in
-      record { onward = k .onward; all = sym (k .size); few = omega (arith, ltb-false 65536 (length l) (k .short), k .size) }
+  pub sized : {n : ℕ} → stepSize real a b d ≡ given n → rules.Counted real a b d n
+  sized e = rules.counted real a b d (counts-are ∙ e)
 
   -- ---- an entry of a list that was counted, or why the list is refused
   abbrev pub toldOf : ℕ → ℕ → Float → Answer Float
@@ -73,13 +69,13 @@ module _ (a b d : Float) where
         go true e u h = ap (λ (s : Answer ℕ). onceListed s (nth l k)) (axis.size-long a b d on (omega (arith, all, ltb-true 65536 n e)))
         go false e true h =
             let i : k < length l = omega (arith, all, ltb-true k n h) in
-            ap given (at (ltb-true k n h) ∙ sym (ap (λ (z : List Float). getD z k a) stepped-are ∙ entry (λ j. after (plusStep d) j a) a (length l) k i))
+            ap given (at (ltb-true k n h) ∙ sym (entry-of a k i))
             ∙ sym (nth-is l k a i)
             ∙ ap (λ (s : Answer ℕ). onceListed s (nth l k)) (counted e)
         go false e false h = sym (nth-past l k (omega (arith, all, ltb-false k n h))) ∙ ap (λ (s : Answer ℕ). onceListed s (nth l k)) (counted e)
 
     pub entry-told : toldOf n k x ≡ stepFromIndex real a b d k
-    entry-told = told-is ∙ ap (λ (s : Answer ℕ). onceListed s (nth l k)) (sym counts-are) ∙ rules.from-is real a b d refl k
+    entry-told = told-is ∙ rules.from-is real a b d refl counts-are k
 
   -- ---- `from_index`, of a list that is refused or empty
   pub from-against : against real a b d ≡ true → (k : ℕ) → _≡_ {A = Answer Float} (refused 6) (stepFromIndex real a b d k)
@@ -107,57 +103,35 @@ module _ (a b d : Float) where
 
   -- ---- `map`
   module _ (v : Float) (limit : Limit) where
-    place-by : {s : Answer ℕ} {r : Answer ℤ} → stepSize real a b d ≡ s → realPlace a b v limit ≡ r → stepPlace real a b d v limit ≡ placeListed r s
+    pub place-by : {s : Answer ℕ} {r : Answer ℤ} → stepSize real a b d ≡ s → realPlace a b v limit ≡ r → placeListed r s ≡ stepPlace real a b d v limit
     unfolding realPlace
-    place-by {s} h e =
-        sym (rules.place-is real a b d refl v limit)
-        ∙ ap (placeListed (rules.endsPlace real a b d v limit)) (counts-are ∙ h)
-        ∙ ap (λ (r : Answer ℤ). placeListed r s) e
-
-    pub place-refused : {k : ℕ} → realPlace a b v limit ≡ refused k → stepPlace real a b d v limit ≡ refused k
-    place-refused e = place-by refl e
-
-    pub place-uncounted : {z : ℤ} {k : ℕ} → realPlace a b v limit ≡ given z → stepSize real a b d ≡ refused k → stepPlace real a b d v limit ≡ refused k
-    place-uncounted e h = place-by h e
-
-    pub place-given : {z : ℤ} {n : ℕ} → realPlace a b v limit ≡ given z → stepSize real a b d ≡ given n → stepPlace real a b d v limit ≡ given z
-    place-given e h = place-by h e
+    place-by h e = rules.place-is real a b d refl (counts-are ∙ h) v limit e
 
   -- ---- `unmap`
-  module _ (x : ℤ) (limit : Limit) where
-    pub reading-pixel : pixelAdmitted x ≡ false → _≡_ {A = Answer Float} (refused 2) (stepReading real a b d x limit)
-    reading-pixel h = rules.reading-outside real a b d refl x limit (rw h refl)
+  module _ (x : ℤ) (limit : Limit) (p : pixelAdmitted x ≡ true) (q : limitAdmitted limit ≡ true) where
+    reading-by : {s : Answer ℕ} → stepSize real a b d ≡ s → onceListed s (nthOf l (pixelIndex x limit (length l))) ≡ stepReading real a b d x limit
+    reading-by h = rules.reading-is real a b d refl (counts-are ∙ h) x limit (rw (p, q) refl)
 
-    module _ (p : pixelAdmitted x ≡ true) where
-      pub reading-limit : limitAdmitted limit ≡ false → _≡_ {A = Answer Float} (refused 2) (stepReading real a b d x limit)
-      reading-limit h = rules.reading-outside real a b d refl x limit (rw (p, h) refl)
+    pub reading-against : against real a b d ≡ true → _≡_ {A = Answer Float} (refused 6) (stepReading real a b d x limit)
+    reading-against e = reading-by (sym (axis.size-against a b d e))
 
-      module _ (q : limitAdmitted limit ≡ true) where
-        reading-by : {s : Answer ℕ} → stepSize real a b d ≡ s → stepReading real a b d x limit ≡ onceListed s (nthOf l (pixelIndex x limit (length l)))
-        reading-by h =
-            sym (rules.reading-is real a b d refl x limit (rw (p, q) refl))
-            ∙ ap (λ (s : Answer ℕ). onceListed s (nthOf l (pixelIndex x limit (length l)))) (counts-are ∙ h)
+    pixel-read : (n : ℕ) → pixelIndex x limit n ≡ indexFor (x -ℤ limit .0) (limit .1 -ℤ limit .0) n
+    unfolding pixelIndex
+    pixel-read n = rw (p, q) refl
 
-        pub reading-against : against real a b d ≡ true → _≡_ {A = Answer Float} (refused 6) (stepReading real a b d x limit)
-        reading-against e = sym (reading-by (sym (axis.size-against a b d e)))
+    pub reading-empty : against real a b d ≡ false → hasEntries l ≡ false → _≡_ {A = Answer Float} none (stepReading real a b d x limit)
+    unfolding indexFor
+    reading-empty e s =
+        let w = limit .1 -ℤ limit .0 in
+        sym (ap (λ (z : List Float). nthOf z (pixelIndex x limit (length z))) (stepped-empty a b d s)
+        ∙ ap (nthOf []) (pixel-read 0)
+        ∙ none-of (noIndex (x -ℤ limit .0) w 0) (indexBy (x -ℤ limit .0) w 0))
+        ∙ reading-by (sym (axis.size-is a b d e (rw (stepped-empty a b d s) (omega arith))))
 
-        pixel-read : (n : ℕ) → pixelIndex x limit n ≡ indexFor (x -ℤ limit .0) (limit .1 -ℤ limit .0) n
-        unfolding pixelIndex
-        pixel-read n = rw (p, q) refl
-
-        pub reading-empty : against real a b d ≡ false → hasEntries l ≡ false → _≡_ {A = Answer Float} none (stepReading real a b d x limit)
-        unfolding indexFor
-        reading-empty e s =
-            let w = limit .1 -ℤ limit .0 in
-            sym (reading-by (sym (axis.size-is a b d e (rw (stepped-empty a b d s) (omega arith))))
-            ∙ ap (λ (z : List Float). nthOf z (pixelIndex x limit (length z))) (stepped-empty a b d s)
-            ∙ ap (nthOf []) (pixel-read 0)
-            ∙ none-of (noIndex (x -ℤ limit .0) w 0) (indexBy (x -ℤ limit .0) w 0))
-
-        -- by the share of the list that the pixel is past
-        pub reading-told : against real a b d ≡ false → {n k share : ℕ} {y : Float} → n ≡ length l → (k < n → y ≡ after (plusStep d) k a) → k ≡ n * share / all → Shares (x -ℤ limit .0) (limit .1 -ℤ limit .0) share
-            → toldOf n k y ≡ stepReading real a b d x limit
-        reading-told on {k = k} {share = share} e at f w =
-            told-is on e at
-            ∙ ap (onceListed (stepSize real a b d)) (ap (nth l) (f ∙ ap (λ (n : ℕ). n * share / all) e) ∙ sym (ap (nthOf l) (pixel-read (length l)) ∙ w .read l (stepped-few a b d)))
-            ∙ sym (reading-by refl)
+    -- by the share of the list that the pixel is past
+    pub reading-told : against real a b d ≡ false → {n k share : ℕ} {y : Float} → n ≡ length l → (k < n → y ≡ after (plusStep d) k a) → k ≡ n * share / all → Shares (x -ℤ limit .0) (limit .1 -ℤ limit .0) share
+        → toldOf n k y ≡ stepReading real a b d x limit
+    reading-told on {k = k} {share = share} e at f w =
+        told-is on e at
+        ∙ ap (onceListed (stepSize real a b d)) (ap (nth l) (f ∙ ap (λ (n : ℕ). n * share / all) e) ∙ sym (ap (nthOf l) (pixel-read (length l)) ∙ w .read l (stepped-few a b d)))
+        ∙ reading-by refl

@@ -31,9 +31,10 @@ use Rattle.search.proofs.Halves.{enclosed, beneath}
 use Rattle.search.proofs.Rules.{nan-answered}
 use Rattle.linspace.specs.List.{real, entries, toward, stepped, against}
 use Rattle.linspace.specs.Calls.{hasEntries, stepIndexOf}
-use Rattle.linspace.specs.RealSteps.{plusStep, after, Parted}
-use Rattle.linspace.proofs.Walks.{entries-on, entries-off, entry-is, entry-passes, entries-none}
+use Rattle.linspace.specs.RealSteps.{plusStep, Parted}
+use Rattle.linspace.proofs.Walks.{entries-on, entries-off, entry-passes, entries-none}
 use Rattle.linspace.proofs.Axis.{against-up, against-down, stepped-run, stepped-empty, stepped-total}
+use Rattle.linspace.proofs.Counts.{entry-of}
 use Rattle.linspace.proofs.RealList.{run-ascends}
 
 -- ---- a step that does not lead away, on a list with entries, leads on
@@ -130,19 +131,16 @@ module _ (a b d : Float) where
 
     -- any other target, by its place
     module _ (v : Float) (self : eq v v ≡ true) (method : RoundingMethod) (n : ℕ) (left right : Float) (r : Parted (toward real rises b) (plusStep d) 65537 a (toward real rises v) n left right) where
-      entry-of : (k : ℕ) → k < length l → getD l k v ≡ after (plusStep d) k a
-      entry-of k h = ap (λ (z : List Float). getD z k v) (stepped-run a b d s) ∙ entry-is (toward real rises b) (plusStep d) 65537 a v k (omega (arith, h, stepped-total a b d s))
-
       inside : n ≤ length l
       inside = omega (arith, r .walked .rest, stepped-total a b d s)
 
       here : n < length l → right ≡ getD l n v
-      here h = r .walked .at ∙ sym (entry-of n h)
+      here h = r .walked .at ∙ sym (entry-of a b d v n h)
 
       place : PlaceOf (search-steps.toward rises lt) l v v n
       place = record {
         within = inside;
-        before = λ k h. subst (λ (z : Float). search-steps.toward rises lt z v ≡ true) (sym (entry-of k (omega (arith, h, inside)))) (r .front k h);
+        before = λ k h. subst (λ (z : Float). search-steps.toward rises lt z v ≡ true) (sym (entry-of a b d v k (omega (arith, h, inside)))) (r .front k h);
         from = λ k h m. beneath w l v v (sorted w v l list-ascends) 0 (length l) n (enclosed w l v v) (omega arith) (omega (arith, h, m)) (stop (omega (arith, h, m))) .from k h m;
       }
         where
@@ -155,7 +153,7 @@ module _ (a b d : Float) where
       pub index-found : settled reals method rises (length l) n left v right ≡ stepIndexOf real a b d v method
       unfolding stepIndexOf
       index-found =
-          sym (settles reals v real-order rises method l n left right (sorted w v l list-ascends) (ordinary eq v l list-own) self place here (λ j q. r .last j q ∙ sym (entry-of j (omega (arith, q, inside)))))
+          sym (settles reals v real-order rises method l n left right (sorted w v l list-ascends) (ordinary eq v l list-own) self place here (λ j q. r .last j q ∙ sym (entry-of a b d v j (omega (arith, q, inside)))))
           ∙ rw (e, le-ltb 65536 (length l) few, self) refl
 
   module _ (v : Float) (method : RoundingMethod) where

@@ -56,56 +56,37 @@ plan-is h m near some = rw (le-leb h 1000000000 near, served) refl
 pub plan-given : (h m : ℕ) → h ≤ 1000000000 → 0 < m → {r : ℕ} → wholePlan (pos 0) (pos h) m ≡ refused r → ⊥
 plan-given h m near some e = not-both (sym (plan-is h m near some) ∙ e)
 
--- and every mark lies on it
-inside : (lo hi : ℤ) (s h k : ℕ) → lo ≡ pos 0 → hi ≡ pos h → 0 < s → k < length (multiples (firstIndex lo s) (lastIndex hi s) s) → natAbs (firstIndex lo s *ℤ pos s) + k * s ≤ h
-inside lo hi s h k el eh some =
-    rw (el, eh) (λ l.
+-- its first mark is 0, and the others lie a step apart, as far as h
+pub record FromZero (h : ℕ) (p : KeyPoints) : Type 0 where
+  pub first : natAbs (p .first) ≡ 0
+  pub small : natAbs (p .step) ≤ 1000000000
+  pub count : p .count ≡ h / natAbs (p .step) + 1
+
+from-zero : (lo hi : ℤ) (s h : ℕ) → lo ≡ pos 0 → hi ≡ pos h → 0 < s → s ≤ 1000000000
+    → FromZero h (record { first = firstIndex lo s *ℤ pos s; step = pos s; count = length (multiples (firstIndex lo s) (lastIndex hi s) s) })
+from-zero lo hi s h el eh some top =
     let c = ceilDiv 0 s in
     let first : c ≡ 0 = div-eq-of-lt (omega (arith, some)) in
-    let few : k ≤ h / s = omega (arith, l, length-of (multiple (pos c) s) (howMany (pos c) (pos (h / s))), many-pos c (h / s), first) in
-    omega (arith, ap (λ (n : ℕ). n * s) first, zero-mul s, mul-le-mul-right s few, div-mul-le-self h s))
+    rw (el, eh) (record {
+      first = ap (λ (q : ℕ). q * s) first ∙ zero-mul s;
+      small = top;
+      count = omega (arith, length-of (multiple (pos c) s) (howMany (pos c) (pos (h / s))), many-pos c (h / s), first);
+    })
 
-pub mark-inside : (h m : ℕ) {p : KeyPoints} → wholePlan (pos 0) (pos h) m ≡ given p → (k : ℕ) → k < p .count → natAbs (p .first) + k * natAbs (p .step) ≤ h
+pub begins : (h m : ℕ) {p : KeyPoints} → wholePlan (pos 0) (pos h) m ≡ given p → FromZero h p
 unfolding stepFor marksFor
-mark-inside h m {p} e k =
-    let good = planned-good (pos 0) (pos h) m e in
-    let lo = low (pos 0) (pos h) in
-    let hi = high (pos 0) (pos h) in
-    let s = stepAt (chosen (distance lo hi) m) in
-    subst (λ (q : KeyPoints). k < q .count → natAbs (q .first) + k * natAbs (q .step) ≤ h) (good .plan) (inside lo hi s h k (low-zero h) (high-zero h) (step-pos (chosen (distance lo hi) m) (good .in-table)))
-
-from-zero : (lo : ℤ) (s : ℕ) → lo ≡ pos 0 → 0 < s → natAbs (firstIndex lo s *ℤ pos s) ≡ 0
-from-zero lo s e some = rw e (ap (λ (q : ℕ). q * s) (div-eq-of-lt (omega (arith, some))) ∙ zero-mul s)
-
-pub mark-from-zero : (h m : ℕ) {p : KeyPoints} → wholePlan (pos 0) (pos h) m ≡ given p → natAbs (p .first) ≡ 0
-unfolding stepFor
-mark-from-zero h m e =
+begins h m e =
     let good = planned-good (pos 0) (pos h) m e in
     let k = chosen (distance (low (pos 0) (pos h)) (high (pos 0) (pos h))) m in
-    subst (λ (q : KeyPoints). natAbs (q .first) ≡ 0) (good .plan) (from-zero (low (pos 0) (pos h)) (stepAt k) (low-zero h) (step-pos k (good .in-table)))
+    subst (FromZero h) (good .plan) (from-zero (low (pos 0) (pos h)) (high (pos 0) (pos h)) (stepAt k) h (low-zero h) (high-zero h) (step-pos k (good .in-table)) (step-top k (good .in-table)))
 
-pub step-small : (h m : ℕ) {p : KeyPoints} → wholePlan (pos 0) (pos h) m ≡ given p → natAbs (p .step) ≤ 1000000000
-unfolding stepFor
-step-small h m e =
-    let good = planned-good (pos 0) (pos h) m e in
-    subst (λ (q : KeyPoints). natAbs (q .step) ≤ 1000000000) (good .plan) (step-top (chosen (distance (low (pos 0) (pos h)) (high (pos 0) (pos h))) m) (good .in-table))
-
--- and one at 0 is among them
-begun : (lo hi : ℤ) (s h : ℕ) → lo ≡ pos 0 → hi ≡ pos h → 0 < s → 0 < length (multiples (firstIndex lo s) (lastIndex hi s) s)
-begun lo hi s h el eh some =
-    rw (el, eh)
-    (let c = ceilDiv 0 s in
-    let first : c ≡ 0 = div-eq-of-lt (omega (arith, some)) in
-    omega (arith, length-of (multiple (pos c) s) (howMany (pos c) (pos (h / s))), many-pos c (h / s), first))
-
-mark-first : (h m : ℕ) {p : KeyPoints} → wholePlan (pos 0) (pos h) m ≡ given p → 0 < p .count
-unfolding stepFor marksFor
-mark-first h m {p} e =
-    let good = planned-good (pos 0) (pos h) m e in
-    let lo = low (pos 0) (pos h) in
-    let hi = high (pos 0) (pos h) in
-    let s = stepAt (chosen (distance lo hi) m) in
-    subst (λ (q : KeyPoints). 0 < q .count) (good .plan) (begun lo hi s h (low-zero h) (high-zero h) (step-pos (chosen (distance lo hi) m) (good .in-table)))
+-- so that every mark lies on the axis
+pub mark-inside : (h m : ℕ) {p : KeyPoints} → wholePlan (pos 0) (pos h) m ≡ given p → (k : ℕ) → k < p .count → natAbs (p .first) + k * natAbs (p .step) ≤ h
+mark-inside h m {p} e k l =
+    let g = begins h m e in
+    let s = natAbs (p .step) in
+    let few : k ≤ h / s = omega (arith, l, g .count) in
+    omega (arith, g .first, mul-le-mul-right s few, div-mul-le-self h s)
 
 -- ---- the entries at the marks
 module _ {A : Type 0} (x : A) (l : List A) (m : ℕ) where
@@ -125,7 +106,7 @@ module _ {A : Type 0} (x : A) (l : List A) (m : ℕ) where
   marks-some n e some near h =
       let plan = plan-is (n - 1) m (omega (arith, near)) h in
       let p = planOf (pos 0) (pos (n - 1)) m in
-      omega (arith, ap length (marks-are n e some plan), length-of (λ k. getD l (natAbs (p .first) + k * natAbs (p .step)) x) (p .count), mark-first (n - 1) m plan)
+      omega (arith, ap length (marks-are n e some plan), length-of (λ k. getD l (natAbs (p .first) + k * natAbs (p .step)) x) (p .count), begins (n - 1) m plan .count)
 
 -- of a list by index
 pub marks-list : {A : Type 0} (x : A) (f : ℕ → A) (n m : ℕ) → (n ≡ 0 → ⊥) → {p : KeyPoints} → wholePlan (pos 0) (pos (n - 1)) m ≡ given p

@@ -7,7 +7,7 @@ use native.Mathlib.Omega.{arith}
 use borrow.Author.Tests.{ltb-true}
 use lib.Dec.{eqb}
 use lib.IntN.{pos, natAbs}
-use lib.ListN.{length, drop, getD}
+use lib.ListN.{length, drop}
 use lib.Ieee.{Float}
 use Rattle.ranged1d.specs.Answer.{given, refused, listWritten}
 use Rattle.ranged1d.proofs.Answers.{too-short, all-written}
@@ -16,7 +16,7 @@ use Rattle.numeric.specs.Marks.{listOf}
 use Rattle.numeric.specs.Calls.{wholePlan}
 use Rattle.numeric.proofs.Lists.{entry, length-of, list-ext}
 use Rattle.linspace.specs.List.{real, stepped, against}
-use Rattle.linspace.specs.Calls.{hasEntries, stepMarks, stepSize, stepKeyPoints}
+use Rattle.linspace.specs.Calls.{hasEntries, marksOf, stepMarks, stepSize, stepKeyPoints}
 use Rattle.linspace.specs.RealSteps.{plusStep, after}
 use Rattle.linspace.proofs.Axis.{size-is}
 use Rattle.linspace.proofs.Counts.{stepped-are}
@@ -30,9 +30,6 @@ module _ (a b d : Float) (m : ℕ) where
   abbrev marked : List Float
   marked = stepMarks real a b d m
 
-  entry-of : (i : ℕ) → i < length l → getD l i (real .nil) ≡ after (plusStep d) i a
-  entry-of i h = ap (λ (z : List Float). getD z i (real .nil)) (stepped-are a b d) ∙ entry (λ k. after (plusStep d) k a) (real .nil) (length l) i h
-
   module _ (few : length l ≤ 65536) (z : (eqb m 0 && hasEntries l) ≡ false) (s : hasEntries l ≡ true) where
     some : 0 < length l
     some = ltb-true 0 (length l) s
@@ -42,17 +39,13 @@ module _ (a b d : Float) (m : ℕ) where
 
     module _ {p : KeyPoints} (e : wholePlan (pos 0) (pos (length l - 1)) m ≡ given p) where
       pub steps-small : natAbs (p .step) ≤ 1000000000
-      steps-small = marks.step-small (length l - 1) m e
+      steps-small = marks.begins (length l - 1) m e .small
 
       pub marks-are : marked ≡ listOf (λ k. after (plusStep d) (k * natAbs (p .step)) a) (p .count)
       marks-are =
-          marks.marks-are (real .nil) l m (length l) refl (λ e. omega (arith, some, e)) e
-          ∙ list-ext (λ k. getD l (natAbs (p .first) + k * natAbs (p .step)) (real .nil)) (λ k. after (plusStep d) (k * natAbs (p .step)) a) (p .count) here
-        where
-          here : (k : ℕ) → k < p .count → getD l (natAbs (p .first) + k * natAbs (p .step)) (real .nil) ≡ after (plusStep d) (k * natAbs (p .step)) a
-          here k h =
-              entry-of (natAbs (p .first) + k * natAbs (p .step)) (omega (arith, marks.mark-inside (length l - 1) m e k h, some))
-              ∙ ap (λ (i : ℕ). after (plusStep d) i a) (omega (arith, marks.mark-from-zero (length l - 1) m e))
+          ap (λ (z : List Float). marksOf (real .nil) z m) (stepped-are a b d)
+          ∙ marks.marks-list (real .nil) (λ k. after (plusStep d) k a) (length l) m (λ e. omega (arith, some, e)) e
+          ∙ list-ext _ _ (p .count) (λ k h. ap (λ (i : ℕ). after (plusStep d) i a) (omega (arith, marks.begins (length l - 1) m e .first)))
 
   -- ---- `key_points`
   module _ (old : List Float) where

@@ -1,9 +1,10 @@
 -- The rules of the calls, return by return, for both kinds of numbers. Assumes nothing.
 use mathlib.Core.Path.{_≡_, refl, sym, ap, _∙_}
-use mathlib.Core.Bool.{Bool, true, false, not, _&&_, _||_}
+use mathlib.Core.Bool.{Bool, true, false, cond, not, _&&_, _||_}
 use mathlib.Core.List.{List, [], _∷_, _++_}
 use Prim.Native.Nat.{ℕ, _≤_, _<_}
-use borrow.Author.Tests.{lt-ltb, le-ltb}
+use native.Mathlib.Omega.{arith}
+use borrow.Author.Tests.{lt-ltb, le-ltb, ltb-false}
 use lib.Dec.{ltb, eqb}
 use lib.IntN.{ℤ}
 use lib.ListN.{length, drop}
@@ -15,7 +16,7 @@ use Rattle.discrete.specs.Index.{pixelIndex}
 use Rattle.real.specs.Place.{isBeyond, number}
 use Rattle.search.specs.declared.RoundingMethod.{RoundingMethod}
 use Rattle.search.specs.Search as rule
-use Rattle.linspace.specs.List.{Kind, stepped, against, tooLong, axisAdmitted}
+use Rattle.linspace.specs.List.{Kind, most, stepped, against, tooLong, axisAdmitted}
 use Rattle.linspace.specs.Calls.{nth, hasEntries, nthOf, stepValues, stepSize, stepFromIndex, stepIndexOf, stepSpot, stepPlace, stepReading, stepMarks, stepKeyPoints}
 
 -- an answer once the entries are counted
@@ -26,15 +27,22 @@ onceListed counts r = andThen counts (λ n. r)
 abbrev pub placeListed : Answer ℤ → Answer ℕ → Answer ℤ
 placeListed place counts = andThen place (λ z. onceListed counts (given z))
 
+-- 7 for one reason or another
+seven : (t u : Bool) (r : Answer ℕ) → lowest (7 when (t || u) ∷ []) r ≡ lowest (7 when t ∷ 7 when u ∷ []) r
+seven true u r = refl
+seven false u r = refl
+
 module _ {A : Type 0} (kind : Kind A) (a b d : A) where
   -- the number of entries, or 6 or 7
   abbrev pub counts : Answer ℕ
   counts = lowest (6 when against kind a b d ∷ 7 when tooLong kind a b d ∷ []) (given (length (stepped kind a b d)))
 
+  -- what is known once they are counted
   pub record Counted (n : ℕ) : Type 0 where
     pub onward : against kind a b d ≡ false
     pub short : tooLong kind a b d ≡ false
-    pub size : length (stepped kind a b d) ≡ n
+    pub all : n ≡ length (stepped kind a b d)
+    pub few : n ≤ most
 
   pub counted : {n : ℕ} → counts ≡ given n → Counted n
   counted {n} = go (against kind a b d) refl (tooLong kind a b d) refl
@@ -42,10 +50,11 @@ module _ {A : Type 0} (kind : Kind A) (a b d : A) where
       go : (t : Bool) → against kind a b d ≡ t → (u : Bool) → tooLong kind a b d ≡ u → lowest (6 when t ∷ 7 when u ∷ []) (given (length (stepped kind a b d))) ≡ given n → Counted n
       go true e u f h = absurd (not-both (sym h))
       go false e true f h = absurd (not-both (sym h))
-      go false e false f h = record { onward = e; short = f; size = given-is h }
+      go false e false f h = let s = given-is h in record { onward = e; short = f; all = sym s; few = omega (arith, s, ltb-false most (length (stepped kind a b d)) f) }
 
-  once-listed : {B : Type 0} (r : Answer B) → lowest (6 when against kind a b d ∷ 7 when tooLong kind a b d ∷ []) r ≡ onceListed counts r
-  once-listed {B} r = go (against kind a b d) (tooLong kind a b d)
+  -- an answer with 6 and 7 in front of it, by the count
+  once-listed : {B : Type 0} {s : Answer ℕ} → counts ≡ s → (r : Answer B) → lowest (6 when against kind a b d ∷ 7 when tooLong kind a b d ∷ []) r ≡ onceListed s r
+  once-listed {B} e r = go (against kind a b d) (tooLong kind a b d) ∙ ap (λ (s : Answer ℕ). onceListed s r) e
     where
       go : (t u : Bool) → lowest (6 when t ∷ 7 when u ∷ []) r ≡ onceListed (lowest (6 when t ∷ 7 when u ∷ []) (given (length (stepped kind a b d)))) r
       go true u = refl
@@ -92,85 +101,74 @@ module _ {A : Type 0} (kind : Kind A) (a b d : A) where
     unfolding stepSize
     size-is = rw h refl
 
-    pub from-is : (k : ℕ) → onceListed counts (nth (stepped kind a b d) k) ≡ stepFromIndex kind a b d k
-    unfolding stepFromIndex
-    from-is k = rw h (sym (once-listed (nth (stepped kind a b d) k)))
-
     pub index-value-refused : (v : A) (method : RoundingMethod) → kind .admitted v ≡ false → _≡_ {A = Answer ℕ} (refused 1) (stepIndexOf kind a b d v method)
     unfolding stepIndexOf
     index-value-refused v method u = rw (h, u) refl
-
-    pub index-is : (v : A) (method : RoundingMethod) → kind .admitted v ≡ true → kind .numbers .equal v v ≡ true
-        → onceListed counts (rule.search (kind .numbers) v method (stepped kind a b d)) ≡ stepIndexOf kind a b d v method
-    unfolding stepIndexOf
-    index-is v method u e = rw (h, u, e) (sym (once-listed (rule.search (kind .numbers) v method (stepped kind a b d))))
-
-    pub place-is : (v : A) (limit : Limit) → placeListed (endsPlace v limit) counts ≡ stepPlace kind a b d v limit
-    unfolding stepPlace
-    place-is v limit = rw h (go (kind .admitted v) (limitAdmitted limit) (isBeyond (stepSpot kind a b d v limit)))
-      where
-        z : ℤ
-        z = number (stepSpot kind a b d v limit)
-
-        go : (t u w : Bool) → placeListed (lowest (1 when not t ∷ 2 when not u ∷ 5 when w ∷ []) (given z)) counts
-            ≡ lowest (1 when not t ∷ 2 when not u ∷ 5 when w ∷ 6 when against kind a b d ∷ 7 when tooLong kind a b d ∷ []) (given z)
-        go false u w = refl
-        go true false w = refl
-        go true true true = refl
-        go true true false = sym (once-listed (given z))
 
     pub reading-outside : (x : ℤ) (limit : Limit) → (pixelAdmitted x && limitAdmitted limit) ≡ false → _≡_ {A = Answer A} (refused 2) (stepReading kind a b d x limit)
     unfolding stepReading
     reading-outside x limit u = rw (h, u) refl
 
-    pub reading-is : (x : ℤ) (limit : Limit) → (pixelAdmitted x && limitAdmitted limit) ≡ true
-        → onceListed counts (nthOf (stepped kind a b d) (pixelIndex x limit (length (stepped kind a b d)))) ≡ stepReading kind a b d x limit
-    unfolding stepReading pixelIndex
-    reading-is x limit u = rw (h, u) (sym (once-listed _))
+    pub points-none : (m : ℕ) (old : List A) → (eqb m 0 && hasEntries (stepped kind a b d)) ≡ true → _≡_ {A = Answer ℕ × List A} (refused 3, old) (stepKeyPoints kind a b d m old)
+    unfolding stepKeyPoints
+    points-none m old e = rw (h, e) refl
 
-    -- ---- lists that are written
-    module _ (old : List A) where
-      abbrev valuesBy : Bool → Bool → Bool → Answer ℕ × List A
-      valuesBy t u w = written (lowest (6 when t ∷ 7 when (u || w) ∷ []) (given (length (stepped kind a b d)))) (stepped kind a b d) old
+    -- ---- by the count
+    module _ {s : Answer ℕ} (e : counts ≡ s) where
+      pub from-is : (k : ℕ) → onceListed s (nth (stepped kind a b d) k) ≡ stepFromIndex kind a b d k
+      unfolding stepFromIndex
+      from-is k = rw h (sym (once-listed e (nth (stepped kind a b d) k)))
 
-      values-by : stepValues kind a b d old ≡ valuesBy (against kind a b d) (tooLong kind a b d) (ltb (length old) (length (stepped kind a b d)))
-      unfolding stepValues
-      values-by = rw h refl
+      pub index-is : (v : A) (method : RoundingMethod) → kind .admitted v ≡ true → kind .numbers .equal v v ≡ true
+          → onceListed s (rule.search (kind .numbers) v method (stepped kind a b d)) ≡ stepIndexOf kind a b d v method
+      unfolding stepIndexOf
+      index-is v method u f = rw (h, u, f) (sym (once-listed e (rule.search (kind .numbers) v method (stepped kind a b d))))
 
-      pub values-stopped : {n : ℕ} → counts ≡ refused n → (refused n, old) ≡ stepValues kind a b d old
-      values-stopped {n} e = sym (values-by ∙ go (against kind a b d) (tooLong kind a b d) (ltb (length old) (length (stepped kind a b d))) e)
+      pub place-is : (v : A) (limit : Limit) {r : Answer ℤ} → endsPlace v limit ≡ r → placeListed r s ≡ stepPlace kind a b d v limit
+      unfolding stepPlace
+      place-is v limit f = ap (λ (r : Answer ℤ). placeListed r s) (sym f) ∙ rw h (go (kind .admitted v) (limitAdmitted limit) (isBeyond (stepSpot kind a b d v limit)))
         where
-          go : (t u w : Bool) → lowest (6 when t ∷ 7 when u ∷ []) (given (length (stepped kind a b d))) ≡ refused n → valuesBy t u w ≡ (refused n, old)
-          go true u w e = ap (λ (r : Answer ℕ). (r, old)) e
-          go false true w e = ap (λ (r : Answer ℕ). (r, old)) e
-          go false false w e = absurd (not-both e)
+          z : ℤ
+          z = number (stepSpot kind a b d v limit)
+
+          go : (t u w : Bool) → placeListed (lowest (1 when not t ∷ 2 when not u ∷ 5 when w ∷ []) (given z)) s
+              ≡ lowest (1 when not t ∷ 2 when not u ∷ 5 when w ∷ 6 when against kind a b d ∷ 7 when tooLong kind a b d ∷ []) (given z)
+          go false u w = refl
+          go true false w = refl
+          go true true true = refl
+          go true true false = sym (once-listed e (given z))
+
+      pub reading-is : (x : ℤ) (limit : Limit) → (pixelAdmitted x && limitAdmitted limit) ≡ true
+          → onceListed s (nthOf (stepped kind a b d) (pixelIndex x limit (length (stepped kind a b d)))) ≡ stepReading kind a b d x limit
+      unfolding stepReading pixelIndex
+      reading-is x limit u = rw (h, u) (sym (once-listed e _))
+
+      -- lists that are written
+      values-by : (old : List A) → stepValues kind a b d old ≡ written (onceListed s (lowest (7 when ltb (length old) (length (stepped kind a b d)) ∷ []) (given (length (stepped kind a b d))))) (stepped kind a b d) old
+      unfolding stepValues
+      values-by old =
+          let short = ltb (length old) (length (stepped kind a b d)) in
+          let whole = given (length (stepped kind a b d)) in
+          rw h (ap (λ (r : Answer ℕ). written r (stepped kind a b d) old) (ap (cond (against kind a b d) (refused 6)) (seven (tooLong kind a b d) short whole) ∙ once-listed e (lowest (7 when short ∷ []) whole)))
+
+      points-by : (m : ℕ) (old : List A) → (eqb m 0 && hasEntries (stepped kind a b d)) ≡ false
+          → stepKeyPoints kind a b d m old ≡ written (onceListed s (lowest (13 when ltb (length old) (length (stepMarks kind a b d m)) ∷ []) (given (length (stepMarks kind a b d m))))) (stepMarks kind a b d m) old
+      unfolding stepKeyPoints
+      points-by m old some = rw (h, some) (ap (λ (r : Answer ℕ). written r (stepMarks kind a b d m) old) (once-listed e _))
+
+    module _ (old : List A) where
+      pub values-stopped : {n : ℕ} → counts ≡ refused n → (refused n, old) ≡ stepValues kind a b d old
+      values-stopped e = sym (values-by e old)
 
       pub values-short : {n : ℕ} → counts ≡ given n → length old < n → (refused 7, old) ≡ stepValues kind a b d old
-      values-short {n} e l = let k = counted e in sym (values-by ∙ rw (k .onward, k .short, k .size, lt-ltb (length old) n l) refl)
+      values-short {n} e l = sym (values-by e old ∙ rw (← counted e .all, lt-ltb (length old) n l) refl)
 
       pub values-written : {n : ℕ} → counts ≡ given n → n ≤ length old → (given n, stepped kind a b d ++ drop n old) ≡ stepValues kind a b d old
-      values-written {n} e l = let k = counted e in sym (values-by ∙ rw (k .onward, k .short, k .size, le-ltb (length old) n l, k .size) refl)
+      values-written {n} e l = sym (values-by e old ∙ rw (← counted e .all, le-ltb (length old) n l, ← counted e .all) refl)
 
-    module _ (m : ℕ) (old : List A) where
-      pub points-none : (eqb m 0 && hasEntries (stepped kind a b d)) ≡ true → _≡_ {A = Answer ℕ × List A} (refused 3, old) (stepKeyPoints kind a b d m old)
-      unfolding stepKeyPoints
-      points-none e = rw (h, e) refl
+    module _ (m : ℕ) (old : List A) (some : (eqb m 0 && hasEntries (stepped kind a b d)) ≡ false) where
+      pub points-stopped : {n : ℕ} → counts ≡ refused n → (refused n, old) ≡ stepKeyPoints kind a b d m old
+      points-stopped e = sym (points-by e m old some)
 
-      module _ (some : (eqb m 0 && hasEntries (stepped kind a b d)) ≡ false) where
-        abbrev pointsBy : Bool → Bool → Answer ℕ × List A
-        pointsBy t u = written (lowest (6 when t ∷ 7 when u ∷ 13 when ltb (length old) (length (stepMarks kind a b d m)) ∷ []) (given (length (stepMarks kind a b d m)))) (stepMarks kind a b d m) old
-
-        points-by : stepKeyPoints kind a b d m old ≡ pointsBy (against kind a b d) (tooLong kind a b d)
-        unfolding stepKeyPoints
-        points-by = rw (h, some) refl
-
-        pub points-stopped : {n : ℕ} → counts ≡ refused n → (refused n, old) ≡ stepKeyPoints kind a b d m old
-        points-stopped {n} e = sym (points-by ∙ go (against kind a b d) (tooLong kind a b d) e)
-          where
-            go : (t u : Bool) → lowest (6 when t ∷ 7 when u ∷ []) (given (length (stepped kind a b d))) ≡ refused n → pointsBy t u ≡ (refused n, old)
-            go true u e = ap (λ (r : Answer ℕ). (r, old)) e
-            go false true e = ap (λ (r : Answer ℕ). (r, old)) e
-            go false false e = absurd (not-both e)
-
-        pub points-is : {n : ℕ} → counts ≡ given n → listWritten (stepMarks kind a b d m) old ≡ stepKeyPoints kind a b d m old
-        points-is e = let k = counted e in sym (points-by ∙ rw (k .onward, k .short) refl)
+      pub points-is : {n : ℕ} → counts ≡ given n → listWritten (stepMarks kind a b d m) old ≡ stepKeyPoints kind a b d m old
+      points-is e = sym (points-by e m old some)

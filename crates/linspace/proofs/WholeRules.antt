@@ -4,9 +4,8 @@ use mathlib.Core.Bool.{true, false, true≢false}
 use Prim.Native.Nat.{ℕ, _+_, _-_, _/_, _≤_, _<_}
 use native.Mathlib.Decide.{decLt}
 use native.Mathlib.Omega.{arith}
-use borrow.Author.Tests.{le-leb, lt-leb, ltb-false}
+use borrow.Author.Tests.{le-leb, lt-leb}
 use lib.IntN.{ℤ, pos, natAbs, _-ℤ_, +ℤ-invr}
-use lib.ListN.{length}
 use lib.Signed.{ltZ, leZ}
 use Rattle.ranged1d.specs.Answer.{Answer, given, refused}
 use Rattle.ranged1d.specs.declared.Limit.{Limit}
@@ -52,7 +51,7 @@ module _ (a b d : ℤ) where
 
   -- ---- what is known once the entries are counted
   pub known-of : {n : ℕ} → axisAdmitted whole a b d ≡ true → counts whole a b d ≡ given n → Known a b d n
-  known-of {n} h e = record { admitted = h; onward = at .onward; count = sym (at .size) ∙ length-is a b d (at .onward) few; few = omega (arith, at .size, ltb-false most (length (stepped whole a b d)) (at .short)) }
+  known-of {n} h e = record { admitted = h; onward = at .onward; count = at .all ∙ length-is a b d (at .onward) few; few = at .few }
     where
       at : Counted whole a b d n
       at = counted whole a b d e

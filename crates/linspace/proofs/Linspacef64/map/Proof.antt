@@ -1,14 +1,14 @@
 -- `linspace::Linspacef64::map` meets its contract. Assumes nothing.
 use mir.Facts.{toZ-ofZ}
 use Rattle.real.specs.Place.{realPlace}
-use mathlib.Core.Path.{_≡_, sym, ap, _∙_}
+use mathlib.Core.Path.{_≡_, refl, sym, ap, _∙_}
 use Rattle.ranged1d.specs.Answer.{given}
 use Rattle.numeric.specs.Whole.{tellCount}
 use Rattle.real.specs.Place.{tellPlace}
 use Rattle.linspace.specs.List.{real}
 use Rattle.linspace.specs.Calls.{stepSize}
 use Rattle.linspace.proofs.Axis.{same-axis}
-use Rattle.linspace.proofs.Counts.{place-refused, place-uncounted, place-given}
+use Rattle.linspace.proofs.Counts.{place-by}
 use borrow.Author.Needs.{needs}
 use Rattle.linspace.proofs.Linspacef64.map.Statement.{statement}
 use Rattle.linspace.proofs.Linspacef64.map.Tie as tie
@@ -48,22 +48,21 @@ returns : tie.Need-returns
 returns c =
     let arm = c .before in
     let s = arm .before .before .before .args in
-    sym (place-refused (s .self .inner .0) (s .self .inner .1) (s .self .step) (s .v) (s .limit) (sym (arm .before .before .map .ensures) ∙ ap tellPlace (arm .r .given .1)))
+    place-by (s .self .inner .0) (s .self .inner .1) (s .self .step) (s .v) (s .limit) refl (sym (arm .before .before .map .ensures) ∙ ap tellPlace (arm .r .given .1))
 
 returns-2 : tie.Need-returns-2
 returns-2 c =
     let arm = c .before in
     let counted = arm .before .before in
-    let z = counted .before .before .before in
     let s = start counted .args in
-    sym (place-uncounted (s .self .inner .0) (s .self .inner .1) (s .self .step) (s .v) (s .limit) (place-is counted) (size-is counted ∙ ap tellCount (arm .r2 .given .1)))
+    place-by (s .self .inner .0) (s .self .inner .1) (s .self .step) (s .v) (s .limit) (size-is counted ∙ ap tellCount (arm .r2 .given .1)) (place-is counted)
 
 returns-3 : tie.Need-returns-3
 returns-3 c =
     let counted = c .before .before in
     let s = start counted .args in
     ap given (toZ-ofZ (record { sfits = counted .before .before .known-told2 .given .0 .1 }))
-    ∙ sym (place-given (s .self .inner .0) (s .self .inner .1) (s .self .step) (s .v) (s .limit) (place-is counted) (size-is counted ∙ ap tellCount (c .enum-told .given .1)))
+    ∙ place-by (s .self .inner .0) (s .self .inner .1) (s .self .step) (s .v) (s .limit) (size-is counted ∙ ap tellCount (c .enum-told .given .1)) (place-is counted)
 
 pub map-spec : {M : Type 1} → statement M
 map-spec =

@@ -1,6 +1,6 @@
 -- `linspace::Linspacef64::unmap` meets its contract. Assumes nothing.
 use mir.Facts.{toZ-ofZ}
-use mathlib.Core.Path.{_≡_, sym, _∙_}
+use mathlib.Core.Path.{_≡_, refl, sym, _∙_}
 use mathlib.Core.Bool.{true}
 use borrow.Author.Needs.{needs}
 use borrow.Author.Tests.{not-true, not-false}
@@ -8,7 +8,8 @@ use Rattle.ranged1d.specs.Admitted.{pixelAdmitted, limitAdmitted}
 use Rattle.linspace.specs.List.{real}
 use Rattle.linspace.specs.Calls.{stepReading}
 use Rattle.linspace.proofs.Axis.{same-axis}
-use Rattle.linspace.proofs.Counts.{reading-pixel, reading-limit, reading-against, reading-empty}
+use Rattle.linspace.proofs.Counts.{reading-against, reading-empty}
+use Rattle.linspace.proofs.Rules.{reading-outside}
 use Rattle.linspace.proofs.Linspacef64.unmap.Statement.{statement}
 use Rattle.linspace.proofs.Linspacef64.unmap.Tie as tie
 
@@ -39,7 +40,7 @@ pixel-admitted-requires c κs = search needs
 returns : tie.Need-returns
 returns c =
     let s = c .before .before .args in
-    reading-pixel (s .self .inner .0) (s .self .inner .1) (s .self .step) (s .x) (s .limit) (sym (pixel-told (c .before)) ∙ not-true _ (c .if1 .taken))
+    reading-outside real (s .self .inner .0) (s .self .inner .1) (s .self .step) refl (s .x) (s .limit) (rw (sym (pixel-told (c .before)) ∙ not-true _ (c .if1 .taken)) refl)
 
 admitted-requires : tie.Need-admitted-requires
 admitted-requires c κs = search needs
@@ -48,7 +49,7 @@ returns-2 : tie.Need-returns-2
 returns-2 c =
     let no = c .before .before in
     let s = no .before .before .args in
-    reading-limit (s .self .inner .0) (s .self .inner .1) (s .self .step) (s .x) (s .limit) (sym (pixel-told (no .before)) ∙ not-false _ (no .if1 .left)) (sym (c .before .admitted .ensures) ∙ not-true _ (c .if2 .taken))
+    reading-outside real (s .self .inner .0) (s .self .inner .1) (s .self .step) refl (s .x) (s .limit) (rw (sym (pixel-told (no .before)) ∙ not-false _ (no .if1 .left), sym (c .before .admitted .ensures) ∙ not-true _ (c .if2 .taken)) refl)
 
 steps-requires : tie.Need-steps-requires
 steps-requires c κs = search needs

@@ -2,11 +2,9 @@
 use mathlib.Core.Path.{_≡_, sym, ap, _∙_}
 use mathlib.Core.Bool.{true}
 use mathlib.Core.List.{List}
-use Prim.Native.Nat.{ℕ}
 use borrow.Author.Tests.{not-true, not-false}
 use borrow.Author.Needs.{needs}
 use lib.IntN.{ℤ}
-use Rattle.ranged1d.specs.Answer.{Answer}
 use Rattle.numeric.specs.Whole.{tellCount}
 use Rattle.numeric.specs.declared.whole.Count.{Count}
 use Rattle.linspace.specs.List.{whole, stepped, axisAdmitted}
@@ -39,9 +37,7 @@ counts-are c e = sym (rw (c .before .steps .ensures .0, c .before .steps .ensure
 
 answers : (c : tie.After-counted) {r : Count} → c .counted .result ≡ r
     → let s = c .before in onceListed (tellCount r) (nth (stepped whole (a s) (b s) (d s)) (start s .args .k)) ≡ stepFromIndex whole (a s) (b s) (d s) (start s .args .k)
-answers c e =
-    let s = c .before in
-    ap (λ (n : Answer ℕ). onceListed n (nth (stepped whole (a s) (b s) (d s)) (start s .args .k))) (sym (counts-are c e)) ∙ from-is whole (a s) (b s) (d s) (axis s) (start s .args .k)
+answers c e = let s = c .before in from-is whole (a s) (b s) (d s) (axis s) (counts-are c e) (start s .args .k)
 
 known : (c : tie.After-n) → let s = c .before .before .before in Known (a s) (b s) (d s) (c .n .given .0 .0)
 known c = let s = c .before .before .before in known-of (a s) (b s) (d s) (axis s) (counts-are (c .before .before) (c .n .given .1))

@@ -2,13 +2,11 @@
 use mathlib.Core.Path.{_≡_, refl, sym, ap, subst, _∙_}
 use mathlib.Core.Bool.{true}
 use mathlib.Core.List.{List}
-use Prim.Native.Nat.{ℕ}
 use native.Mathlib.Omega.{arith}
 use borrow.Author.Tests.{not-true, not-false}
 use borrow.Author.Needs.{needs}
 use lib.IntN.{ℤ}
 use mir.Facts.{toZ-ofZ}
-use Rattle.ranged1d.specs.Answer.{Answer}
 use Rattle.ranged1d.specs.Admitted.{wholeAdmitted}
 use Rattle.ranged1d.proofs.Whole.{same-yes}
 use Rattle.numeric.specs.Whole.{tellCount, tellIndex}
@@ -55,8 +53,7 @@ answers : (c : tie.After-counted) {r : Count} → c .counted .result ≡ r
     → let s = c .before in onceListed (tellCount r) (rule.search wholes (start s .args .v) (start s .args .method) (stepped whole (a s) (b s) (d s))) ≡ stepIndexOf whole (a s) (b s) (d s) (start s .args .v) (start s .args .method)
 answers c e =
     let s = c .before in
-    ap (λ (n : Answer ℕ). onceListed n (rule.search wholes (start s .args .v) (start s .args .method) (stepped whole (a s) (b s) (d s)))) (sym (counts-are c e))
-    ∙ index-is whole (a s) (b s) (d s) (axis s) (start s .args .v) (start s .args .method) (wanted s) (same-yes (start s .args .v) (start s .args .v) refl)
+    index-is whole (a s) (b s) (d s) (axis s) (counts-are c e) (start s .args .v) (start s .args .method) (wanted s) (same-yes (start s .args .v) (start s .args .v) refl)
 
 known : (c : tie.After-n) → let s = c .before .before .before in Known (a s) (b s) (d s) (c .n .given .0 .0)
 known c = let s = c .before .before .before in known-of (a s) (b s) (d s) (axis s) (counts-are (c .before .before) (c .n .given .1))

@@ -84,7 +84,7 @@ put-marks-requires c κs =
     let e = n .before .before .before in
     let s = e .before .before in
     rw (s .steps .ensures .0, s .steps .ensures .1, s .steps .ensures .2)
-    (known n, some-marks (stepped whole (a s) (b s) (d s)) (start s .args .m) (n .n .given .0 .0) (served e) (counted whole (a s) (b s) (d s) (counts-are (n .before .before) (n .n .given .1)) .size))
+    (known n, some-marks (stepped whole (a s) (b s) (d s)) (start s .args .m) (n .n .given .0 .0) (served e) (sym (counted whole (a s) (b s) (d s) (counts-are (n .before .before) (n .n .given .1)) .all)))
 
 returns-3 : tie.Need-returns-3
 returns-3 c =

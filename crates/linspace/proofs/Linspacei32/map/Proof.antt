@@ -1,6 +1,7 @@
 -- `linspace::Linspacei32::map` meets its contract. Assumes nothing.
-use mathlib.Core.Path.{_≡_, sym, ap, _∙_}
+use mathlib.Core.Path.{_≡_, refl, sym, ap, _∙_}
 use mathlib.Core.Bool.{true}
+use Prim.Native.Nat.{ℕ}
 use borrow.Author.Tests.{not-true, not-false}
 use borrow.Author.Needs.{needs}
 use lib.IntN.{ℤ}
@@ -16,18 +17,6 @@ use Rattle.linspace.proofs.Rules.{counts, placeListed, place-refused, p
 use Rattle.linspace.proofs.WholeRules.{ends-place}
 use Rattle.linspace.proofs.Linspacei32.map.Statement.{statement}
 use Rattle.linspace.proofs.Linspacei32.map.Tie as tie
-
--- the place by the ends alone, then the list
-placed : (c : tie.After-map) {p : Place} → c .map .result ≡ p → let s = c .before .before .before .args in
-    placeListed (tellPlace p) (counts whole (s .self .inner .0) (s .self .inner .1) (s .self .step)) ≡ stepPlace whole (s .self .inner .0) (s .self .inner .1) (s .self .step) (s .v) (s .limit)
-placed c e =
-    let e1 = c .before in
-    let start = e1 .before .before in
-    let s = start .args in
-    let axis : axisAdmitted whole (s .self .inner .0) (s .self .inner .1) (s .self .step) ≡ true = sym (e1 .before .admitted .ensures) ∙ not-false _ (e1 .if1 .left) in
-    let by-ends : tellPlace (c .map .result) ≡ wholePlace (s .self .inner .0) (s .self .inner .1) (s .v) (s .limit) = rw (toZ-ofZ (start .fits .v)) at (c .map .ensures) in
-    ap (λ (r : Answer ℤ). placeListed r (counts whole (s .self .inner .0) (s .self .inner .1) (s .self .step))) (ap tellPlace (sym e) ∙ by-ends ∙ ends-place (s .self .inner .0) (s .self .inner .1) (s .self .step) axis (s .v) (s .limit))
-    ∙ place-is whole (s .self .inner .0) (s .self .inner .1) (s .self .step) axis (s .v) (s .limit)
 
 module _ (c : tie.After-steps) where
   abbrev start : tie.Start
@@ -47,6 +36,18 @@ module _ (c : tie.After-steps) where
 
 counts-are : (c : tie.After-counted) {r : Count} → c .counted .result ≡ r → let s = c .before in counts whole (a s) (b s) (d s) ≡ tellCount r
 counts-are c e = sym (rw (c .before .steps .ensures .0, c .before .steps .ensures .1, c .before .steps .ensures .2) at (c .counted .ensures)) ∙ ap tellCount e
+
+-- the place by the ends alone, then the list
+placed : (c : tie.After-map) {p : Place} → c .map .result ≡ p → {n : Answer ℕ}
+    → let s = c .before .before .before .args in counts whole (s .self .inner .0) (s .self .inner .1) (s .self .step) ≡ n → placeListed (tellPlace p) n ≡ stepPlace whole (s .self .inner .0) (s .self .inner .1) (s .self .step) (s .v) (s .limit)
+placed c e f =
+    let e1 = c .before in
+    let start = e1 .before .before in
+    let s = start .args in
+    let axis : axisAdmitted whole (s .self .inner .0) (s .self .inner .1) (s .self .step) ≡ true = sym (e1 .before .admitted .ensures) ∙ not-false _ (e1 .if1 .left) in
+    let by-ends : tellPlace (c .map .result) ≡ wholePlace (s .self .inner .0) (s .self .inner .1) (s .v) (s .limit) = rw (toZ-ofZ (start .fits .v)) at (c .map .ensures) in
+    place-is whole (s .self .inner .0) (s .self .inner .1) (s .self .step) axis f (s .v) (s .limit)
+    (sym (ap tellPlace (sym e) ∙ by-ends ∙ ends-place (s .self .inner .0) (s .self .inner .1) (s .self .step) axis (s .v) (s .limit)))
 
 admitted-requires : tie.Need-admitted-requires
 admitted-requires c κs = search needs
@@ -76,14 +77,14 @@ enum-told : tie.Need-enum-told
 enum-told c = search needs
 
 returns-2 : tie.Need-returns-2
-returns-2 c = placed (c .before .before .before) (c .before .r .given .1)
+returns-2 c = placed (c .before .before .before) (c .before .r .given .1) refl
 
 returns-3 : tie.Need-returns-3
 returns-3 c =
     let at = c .before .before .before in
     let s = at .before in
     let z = s .before .before in
-    ap (placeListed (given (z .z .given .0 .0))) (sym (counts-are at (c .before .r2 .given .1))) ∙ placed (z .before .before) (z .z .given .1)
+    placed (z .before .before) (z .z .given .1) (counts-are at (c .before .r2 .given .1))
 
 returns-4 : tie.Need-returns-4
 returns-4 c =
@@ -91,7 +92,7 @@ returns-4 c =
     let s = at .before in
     let z = s .before .before in
     rw (toZ-ofZ (record { sfits = s .before .known-told2 .given .0 .1 }))
-    (ap (placeListed (given (z .z .given .0 .0))) (sym (counts-are at (c .enum-told .given .1))) ∙ placed (z .before .before) (z .z .given .1))
+    (placed (z .before .before) (z .z .given .1) (counts-are at (c .enum-told .given .1)))
 
 pub map-spec : {M : Type 1} → statement M
 map-spec =

@@ -4,9 +4,8 @@ use mathlib.Core.Bool.{true}
 use borrow.Author.Tests.{not-true, not-false}
 use borrow.Author.Needs.{needs}
 use lib.IntN.{ℤ}
-use Rattle.numeric.specs.Whole.{tellCount}
 use Rattle.linspace.specs.List.{whole, axisAdmitted}
-use Rattle.linspace.proofs.Rules.{counts, size-refused, size-is}
+use Rattle.linspace.proofs.Rules.{size-refused, size-is}
 use Rattle.linspace.proofs.Linspacei32.size.Statement.{statement}
 use Rattle.linspace.proofs.Linspacei32.size.Tie as tie
 

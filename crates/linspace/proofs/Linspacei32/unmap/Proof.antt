@@ -2,14 +2,12 @@
 use mathlib.Core.Path.{_≡_, refl, sym, ap, _∙_}
 use mathlib.Core.Bool.{true, _&&_}
 use mathlib.Core.List.{List}
-use Prim.Native.Nat.{ℕ}
 use native.Mathlib.Omega.{arith}
 use borrow.Author.Tests.{not-true, not-false}
 use borrow.Author.Needs.{needs}
 use lib.IntN.{ℤ}
 use lib.ListN.{length}
 use mir.Facts.{toZ-ofZ}
-use Rattle.ranged1d.specs.Answer.{Answer}
 use Rattle.ranged1d.specs.Admitted.{pixelAdmitted, limitAdmitted}
 use Rattle.discrete.specs.Index.{tellPixelIndex, pixelIndex}
 use Rattle.discrete.specs.declared.PixelIndex.{PixelIndex}
@@ -20,7 +18,7 @@ use Rattle.numeric.specs.Calls.{element}
 use Rattle.linspace.specs.List.{whole, stepped, axisAdmitted}
 use Rattle.linspace.specs.Calls.{nth, nthOf, stepReading}
 use Rattle.linspace.specs.WholeSteps.{Known}
-use Rattle.linspace.proofs.Rules.{counts, onceListed, reading-refused, reading-outside, reading-is}
+use Rattle.linspace.proofs.Rules.{counts, reading-refused, reading-outside, reading-is}
 use Rattle.linspace.proofs.WholeList.{list-is}
 use Rattle.linspace.proofs.WholeRules.{known-of}
 use Rattle.linspace.proofs.Linspacei32.unmap.Statement.{statement}
@@ -54,10 +52,6 @@ module _ (c : tie.After-steps) where
   within : (pixelAdmitted (start .args .x) && limitAdmitted (start .args .limit)) ≡ true
   within = rw (x-yes (c .before .before .before), sym (c .before .before .admitted2 .ensures) ∙ not-false _ (c .before .if3 .left)) refl
 
-  -- what the pixel is read as
-  abbrev read : Answer ℤ
-  read = nthOf (stepped whole a b d) (pixelIndex (start .args .x) (start .args .limit) (length (stepped whole a b d)))
-
 counts-are : (c : tie.After-counted) {r : Count} → c .counted .result ≡ r → let s = c .before in counts whole (a s) (b s) (d s) ≡ tellCount r
 counts-are c e = sym (rw (c .before .steps .ensures .0, c .before .steps .ensures .1, c .before .steps .ensures .2) at (c .counted .ensures)) ∙ ap tellCount e
 
@@ -72,8 +66,7 @@ answers c e =
     let size : n .n .given .0 .0 ≡ length (stepped whole (a s) (b s) (d s)) = sym (length-of (element (a s) (d s)) (n .n .given .0 .0)) ∙ ap length (sym (list-is (known n))) in
     let index : tellPixelIndex (c .pixel-index .result) ≡ pixelIndex (start s .args .x) (start s .args .limit) (n .n .given .0 .0) = rw (toZ-ofZ (start s .fits .x)) at (c .pixel-index .ensures) in
     ap (nthOf (stepped whole (a s) (b s) (d s))) (ap tellPixelIndex (sym e) ∙ index ∙ ap (pixelIndex (start s .args .x) (start s .args .limit)) size)
-    ∙ ap (λ (m : Answer ℕ). onceListed m (read s)) (sym (counts-are (n .before .before) (n .n .given .1)))
-    ∙ reading-is whole (a s) (b s) (d s) (axis s) (start s .args .x) (start s .args .limit) (within s)
+    ∙ reading-is whole (a s) (b s) (d s) (axis s) (counts-are (n .before .before) (n .n .given .1)) (start s .args .x) (start s .args .limit) (within s)
 
 admitted-requires : tie.Need-admitted-requires
 admitted-requires c κs = search needs
@@ -133,7 +126,7 @@ returns-4 : tie.Need-returns-4
 returns-4 c =
     let at = c .before .before .before in
     let s = at .before in
-    ap (λ (n : Answer ℕ). onceListed n (read s)) (sym (counts-are at (c .before .r .given .1))) ∙ reading-is whole (a s) (b s) (d s) (axis s) (start s .args .x) (start s .args .limit) (within s)
+    reading-is whole (a s) (b s) (d s) (axis s) (counts-are at (c .before .r .given .1)) (start s .args .x) (start s .args .limit) (within s)
 
 returns-5 : tie.Need-returns-5
 returns-5 c = answers (c .before .before .before) (c .before .r2 .given .1)
