@@ -1,5 +1,5 @@
 -- A step that leads on: where a sum comes before b, so does every sum before it, and the walk to it may skip their tests. Assumes nothing.
-use mathlib.Core.Path.{_≡_, refl, sym, subst, _∙_}
+use mathlib.Core.Path.{_≡_, sym, subst}
 use mathlib.Core.Bool.{Bool, true, false}
 use Prim.Native.Nat.{ℕ, zero, suc, _≤_}
 use native.Mathlib.Numerals.{add-one}
@@ -7,6 +7,7 @@ use native.Mathlib.Omega.{arith}
 use lib.Dec.{T}
 use lib.Ieee.{Float, binary64, fits, lt, eq}
 use lib.Ieee.Fits.{add-fits}
+use Rattle.search.proofs.Orders.{past-too}
 use Rattle.linspace.specs.List.{real, toward, stepped, against}
 use Rattle.linspace.specs.Calls.{hasEntries}
 use Rattle.linspace.specs.RealSteps.{plusStep, after, Walked}
@@ -21,13 +22,9 @@ after-fits d a f (suc k) = add-fits binary64 (after (plusStep d) k a) d
 
 module _ (rises : Bool) (b d : Float) (on : Onward rises b d) where
   before-too : (x : Float) → T (fits binary64 x) → p rises b d (plusStep d x) ≡ true → p rises b d x ≡ true
-  before-too x f h = go (eq (plusStep d x) x) refl
-    where
-      go : (t : Bool) → eq (plusStep d x) x ≡ t → p rises b d x ≡ true
-      go true e = w rises b d .follow x (plusStep d x) b (w rises b d .even x (plusStep d x) ∙ e) h
-      go false e =
-          let number : eq (plusStep d x) (plusStep d x) ≡ true = w rises b d .left (plusStep d x) b h in
-          w rises b d .trans x (plusStep d x) b (w rises b d .total (plusStep d x) x number (augend x d number) (never-behind rises b d x f on) e) h
+  before-too x f h =
+      let number : eq (plusStep d x) (plusStep d x) ≡ true = w rises b d .left (plusStep d x) b h in
+      past-too (w rises b d) (plusStep d x) x b number (augend x d number) (never-behind rises b d x f on) h
 
   far : (most : ℕ) (a : Float) → T (fits binary64 a) → (k : ℕ) → k ≤ most → p rises b d (after (plusStep d) k a) ≡ true → Walked (p rises b d) (plusStep d) most a k (after (plusStep d) k a)
   unfolding after
@@ -41,4 +38,4 @@ pub walked-far : (a b d : Float) → T (fits binary64 a) → against real a b d 
     → toward real (lt a b) b x ≡ true → Walked (toward real (lt a b) b) (plusStep d) 65537 a k x
 walked-far a b d f e s k x l h t =
     subst (λ (y : Float). Walked (toward real (lt a b) b) (plusStep d) 65537 a k y) (sym h)
-    (far (lt a b) b d (onward a b d e s) 65537 a f k l (subst (λ (y : Float). toward real (lt a b) b y ≡ true) h t))
+    (far (lt a b) b d (onward a b d s e) 65537 a f k l (subst (λ (y : Float). toward real (lt a b) b y ≡ true) h t))

@@ -1,4 +1,4 @@
--- A real stepped axis: when its step leads away, which way its list runs, and what each call answers, return by return. Assumes nothing.
+-- A real stepped axis: which way its list runs, and what each call answers, return by return. Assumes nothing.
 use mathlib.Core.Path.{_≡_, refl, sym, ap, _∙_}
 use mathlib.Core.Bool.{Bool, true, false, true≢false}
 use mathlib.Core.List.{List, [], _∷_}
@@ -6,7 +6,7 @@ use Prim.Native.Nat.{ℕ, _+_, _-_, _≤_, _<_}
 use native.Mathlib.Omega.{arith}
 use borrow.Author.Tests.{lt-ltb, le-ltb}
 use lib.ListN.{length}
-use lib.Ieee.{Float, lt, le}
+use lib.Ieee.{Float, lt}
 use Rattle.ranged1d.specs.Answer.{Answer, given, refused}
 use Rattle.search.proofs.RealOrder.{real-order}
 use Rattle.linspace.specs.List.{real, entries, toward, run, stepped, against}
@@ -20,23 +20,9 @@ pub same-axis : {A : Type 0} (f : Float → Float → Float → A) {a a' b b' d 
 same-axis f e = rw (e .0, e .1, e .2) refl
 
 module _ (a b d : Float) where
-  -- ---- 6
-  pub against-up : lt a b ≡ true → le d (real .nil) ≡ against real a b d
-  unfolding le
-  against-up h = ways.against-up real real-order a b d h
-
-  pub against-down : lt a b ≡ false → lt b a ≡ true → le (real .nil) d ≡ against real a b d
-  unfolding le
-  against-down h k = ways.against-down real real-order a b d h k
-
   -- ---- the list, where it has entries and where it has none
   pub stepped-run : hasEntries (stepped real a b d) ≡ true → stepped real a b d ≡ run real a b d (lt a b)
-  stepped-run s = go (lt a b) refl (lt b a) refl
-    where
-      go : (t : Bool) → lt a b ≡ t → (u : Bool) → lt b a ≡ u → stepped real a b d ≡ run real a b d t
-      go true h u k = ways.stepped-up real real-order a b d h ∙ rw (ways.has-up real real-order a b d h ∙ s) refl
-      go false h true k = ways.stepped-down real real-order a b d h k ∙ rw (ways.has-down real real-order a b d h k ∙ s) refl
-      go false h false k = absurd (true≢false (sym (ways.has-level real real-order a b d h k ∙ s)))
+  stepped-run s = ways.stepped-run real real-order a b d s
 
   pub stepped-empty : hasEntries (stepped real a b d) ≡ false → stepped real a b d ≡ []
   stepped-empty s = go (stepped real a b d) s

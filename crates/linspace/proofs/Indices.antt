@@ -1,18 +1,17 @@
 -- What `index_of` on a real stepped axis answers, return by return. Assumes nothing.
 use mathlib.Core.Path.{_≡_, refl, sym, ap, subst, _∙_}
-use mathlib.Core.Bool.{Bool, true, false, true≢false, not, _&&_, _||_}
-use mathlib.Core.List.{List, [], _∷_}
+use mathlib.Core.Bool.{Bool, true, false, not, _||_, and-false}
+use mathlib.Core.List.{List, []}
 use Prim.Native.Nat.{ℕ, zero, suc, _≤_, _<_}
 use native.Mathlib.Omega.{arith}
 use borrow.Author.Tests.{lt-ltb, le-ltb}
 use lib.Dec.{T}
-use lib.IntN.{ℤ}
 use lib.ListN.{length, getD}
-use lib.Ieee.{Float, nan, inf, fin, binary64, fits, isNan, add, lt, le, eq}
-use Rattle.linspace.proofs.Ways.{has-up, has-down, has-level}
-use Rattle.ranged1d.specs.Answer.{Answer, refused, _when_, lowest}
+use lib.Ieee.{Float, nan, inf, fin, binary64, fits, isNan, add, lt, eq}
+use Rattle.linspace.proofs.Ways.{leading, runs}
+use Rattle.ranged1d.specs.Answer.{Answer, refused}
 use Rattle.ranged1d.specs.Numbers.{every}
-use Rattle.ranged1d.proofs.Bools.{both-false, or-right}
+use Rattle.ranged1d.proofs.Bools.{or-right}
 use Rattle.real.proofs.Exact.{eq-self}
 use Rattle.real.proofs.Signs.{zeroOf, zeros-equal}
 use Rattle.search.specs.Search.{reals}
@@ -25,6 +24,7 @@ use Rattle.search.specs.declared.RoundingMethod.{RoundingMethod}
 use Rattle.search.specs.declared.RoundingMethod.the-variants.{Exact, Ceil, Floor, Round}
 use Rattle.search.proofs.Orders.{Order, way}
 use Rattle.search.proofs.RealOrder.{real-order}
+use Rattle.search.proofs.Mirror.{add-comm-float}
 use Rattle.search.proofs.Settles.{settles}
 use Rattle.search.proofs.Lists.{sorted, ordinary}
 use Rattle.search.proofs.Halves.{enclosed, beneath}
@@ -33,57 +33,30 @@ use Rattle.linspace.specs.List.{real, entries, toward, stepped, against}
 use Rattle.linspace.specs.Calls.{hasEntries, stepIndexOf}
 use Rattle.linspace.specs.RealSteps.{plusStep, Parted}
 use Rattle.linspace.proofs.Walks.{entries-on, entries-off, entry-passes, entries-none}
-use Rattle.linspace.proofs.Axis.{against-up, against-down, stepped-run, stepped-empty, stepped-total}
+use Rattle.linspace.proofs.Axis.{stepped-run, stepped-empty, stepped-total}
 use Rattle.linspace.proofs.Counts.{entry-of}
 use Rattle.linspace.proofs.RealList.{run-ascends}
 
--- ---- a step that does not lead away, on a list with entries, leads on
-neither : (x y : Float) → le x y ≡ false → (lt x y ≡ false) × (eq x y ≡ false)
-unfolding le
-neither x y h = both-false (lt x y) (eq x y) h
-
--- a sum that is a number is one of numbers
-itself : (s : Bool) (m : ℕ) (e : ℤ) → eq (fin s m e) (fin s m e) ≡ true
-unfolding isNan
-itself s m e = eq-self (fin s m e) tt
-
-summand : (x d : Float) → eq (add binary64 x d) (add binary64 x d) ≡ true → eq d d ≡ true
-unfolding add eq
-summand nan nan h = h
-summand (inf s) nan h = h
-summand (fin s m e) nan h = h
-summand x (inf true) h = refl
-summand x (inf false) h = refl
-summand x (fin s m e) h = itself s m e
-
+-- ---- a sum that is a number is one of numbers
 pub augend : (x d : Float) → eq (add binary64 x d) (add binary64 x d) ≡ true → eq x x ≡ true
-unfolding add eq
+unfolding add eq isNan
 augend nan d h = h
 augend (inf true) d h = refl
 augend (inf false) d h = refl
-augend (fin s m e) d h = itself s m e
+augend (fin s m e) d h = eq-self (fin s m e) tt
 
-module _ (a b d : Float) where
-  pub onward : against real a b d ≡ false → hasEntries (stepped real a b d) ≡ true → search-steps.toward (lt a b) lt (zeroOf false) d ≡ true
-  onward e s = go (lt a b) refl (lt b a) refl
-    where
-      go : (t : Bool) → lt a b ≡ t → (u : Bool) → lt b a ≡ u → search-steps.toward t lt (zeroOf false) d ≡ true
-      go true h u k =
-          let n = neither d (zeroOf false) (against-up a b d h ∙ e) in
-          real-order .total d (zeroOf false) (summand a d (real-order .left (plusStep d a) b (has-up real real-order a b d h ∙ s))) (zeros-equal false false) (n .0) (n .1)
-      go false h true k =
-          let n = neither (zeroOf false) d (against-down a b d h k ∙ e) in
-          real-order .total (zeroOf false) d (zeros-equal false false) (summand a d (real-order .right b (plusStep d a) (has-down real real-order a b d h k ∙ s))) (n .0) (n .1)
-      go false h false k = absurd (true≢false (sym (has-level real real-order a b d h k ∙ s)))
+summand : (x d : Float) → eq (add binary64 x d) (add binary64 x d) ≡ true → eq d d ≡ true
+summand x d h = augend d x (subst (λ (z : Float). eq z z ≡ true) (add-comm-float x d) h)
 
-  -- where there is an entry, b is a number
-  pub end-number : hasEntries (stepped real a b d) ≡ true → eq b b ≡ true
-  end-number s = go (lt a b) refl (lt b a) refl
-    where
-      go : (t : Bool) → lt a b ≡ t → (u : Bool) → lt b a ≡ u → eq b b ≡ true
-      go true h u k = real-order .right a b h
-      go false h true k = real-order .left b a k
-      go false h false k = absurd (true≢false (sym (has-level real real-order a b d h k ∙ s)))
+-- ---- where there is an entry
+module _ (a b d : Float) (s : hasEntries (stepped real a b d) ≡ true) where
+  -- a step that does not lead away leads on
+  pub onward : against real a b d ≡ false → search-steps.toward (lt a b) lt (zeroOf false) d ≡ true
+  onward e = let r = runs real real-order a b d s in leading real real-order a b d (lt a b) (r .0) (summand a d (way real-order (lt a b) .left (plusStep d a) b (r .1))) (zeros-equal false false) e
+
+  -- b is a number
+  pub end-number : eq b b ≡ true
+  end-number = way real-order (lt a b) .right a b (runs real real-order a b d s .0)
 
 -- ---- every entry passes the test of the walk
 every-entry : {A : Type 0} (passes : A → Bool) (next : A → A) (q : A → Bool) → ((x : A) → passes x ≡ true → q x ≡ true) → (n : ℕ) (x : A) → every q (entries passes next n x) ≡ true
@@ -109,7 +82,7 @@ module _ (a b d : Float) where
     list-ascends : ascends (search-steps.toward rises lt) l ≡ true
     list-ascends =
         ap (ascends (search-steps.toward rises lt)) (stepped-run a b d s)
-        ∙ run-ascends rises b d 65537 a f (onward a b d e s) (omega (arith, few, stepped-total a b d s))
+        ∙ run-ascends rises b d 65537 a f (onward a b d s e) (omega (arith, few, stepped-total a b d s))
 
     list-own : every (λ z. eq z z) l ≡ true
     list-own =
@@ -168,14 +141,10 @@ module _ (a b d : Float) where
     -- an empty list
     pub index-empty : against real a b d ≡ false → hasEntries l ≡ false → settledNan method 0 ≡ stepIndexOf real a b d v method
     unfolding stepIndexOf settledNan
-    index-empty e s = rw (e, stepped-empty a b d s) (go method (not (eq v v)))
+    index-empty e s = rw (e, stepped-empty a b d s, and-false (not (eq v v))) (go method)
       where
-        go : (m : RoundingMethod) (t : Bool) → forNan m ≡ lowest (9 when (t && false) ∷ []) (rule.search reals v m [])
-        go Exact true = refl
-        go Exact false = refl
-        go Ceil true = refl
-        go Ceil false = refl
-        go Floor true = refl
-        go Floor false = refl
-        go Round true = refl
-        go Round false = refl
+        go : (m : RoundingMethod) → forNan m ≡ rule.search reals v m []
+        go Exact = refl
+        go Ceil = refl
+        go Floor = refl
+        go Round = refl

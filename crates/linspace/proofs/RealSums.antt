@@ -2,12 +2,12 @@
 -- the number that was added to stays there. Assumes nothing.
 use mathlib.Core.Path.{_≡_, refl, sym, ap, subst, _∙_}
 use mathlib.Core.Logic.{_⊎_, inl, inr}
-use mathlib.Core.Bool.{Bool, true, false, cond, true≢false, _&&_, _||_, Bool·beq}
+use mathlib.Core.Bool.{Bool, true, false, cond, true≢false, _&&_, _||_}
 use Prim.Native.Nat.{ℕ, zero, suc, _+_, _-_, _*_, _/_, _%_, _^_, _≤_, _<_}
 use native.Mathlib.Nat.{zero-mul, add-zero, sub-zero, one-mul, mul-one, mul-assoc, mul-comm, mul-right-comm, mul-pos, mul-le-mul-right, mul-lt-mul-of-pos-right, lt-of-mul-lt-mul-right}
 use native.Mathlib.Omega.{arith}
 use native.Mathlib.Decide.{decLe}
-use borrow.Author.Tests.{eqb-true, le-ltb}
+use borrow.Author.Tests.{le-ltb}
 use lib.Dec.{T, ltb, leb, eqb, ltb→lt, leb→le}
 use lib.IntN.{ℤ, pos, negsuc}
 use lib.Pow.{pow-pos, pow-add, pow-lt}
@@ -18,9 +18,10 @@ use lib.Ieee.Exact.{HasValue, round-exact}
 use lib.Ieee.Fits.{up-pos, down-pos, and-l, and-r, neg-fits, add-fits}
 use lib.Ieee.Order.{round-mono, le-of-values}
 use Rattle.rounding.proofs.Order.{eq-zero}
-use Rattle.rounding.proofs.Signs.{round-neg, lt-neg}
+use Rattle.rounding.proofs.Signs.{neg-fin, round-neg, lt-neg}
+use Rattle.rounding.proofs.Small.{Plus, plus-round}
 use Rattle.real.proofs.Signs.{zeroOf, Alike, neg-zero, same-through, turns-alike, add-turns}
-use Rattle.search.proofs.RealOrder.{never, real-order}
+use Rattle.search.proofs.RealOrder.{never, Level, signs, zeros, levelled, real-order}
 use Rattle.search.proofs.Mirror.{lt-zero}
 
 -- ---- numbers that fit are written in one way
@@ -57,24 +58,12 @@ eq-written (inf false) (inf false) f g h = inl refl
 eq-written (inf s) (fin t n d) f g h = never h
 eq-written (fin s m e) nan f g h = never h
 eq-written (fin s m e) (inf t) f g h = never h
-eq-written (fin s m e) (fin t n d) f g h = go (eqb (m * up e * down d) (n * up d * down e)) refl h
+eq-written (fin s m e) (fin t n d) f g h = go (levelled s t (m * up e * down d) (n * up d * down e) h)
   where
-    zeros : m * up e * down d ≡ n * up d * down e → m * up e * down d ≡ 0 → Alike (fin s m e) (fin t n d)
-    zeros q z =
-        let x : m ≡ 0 = eq-zero m (up e) (up-pos e) (eq-zero (m * up e) (down d) (down-pos d) z) in
-        let y : n ≡ 0 = eq-zero n (up d) (up-pos d) (eq-zero (n * up d) (down e) (down-pos e) (sym q ∙ z)) in
-        inr ((s, zero-written s m e x f), (t, zero-written t n d y g))
-
-    side : (s t : Bool) → T (fits binary64 (fin s m e)) → T (fits binary64 (fin t n d)) → (m * up e * down d ≡ 0 → Alike (fin s m e) (fin t n d)) → m * up e * down d ≡ n * up d * down e
-        → (Bool·beq s t || eqb (m * up e * down d) 0) ≡ true → Alike (fin s m e) (fin t n d)
-    side true true f g z q k = inl (same-written binary64 true m n e d f g q)
-    side true false f g z q k = z (eqb-true (m * up e * down d) 0 k)
-    side false true f g z q k = z (eqb-true (m * up e * down d) 0 k)
-    side false false f g z q k = inl (same-written binary64 false m n e d f g q)
-
-    go : (w : Bool) → eqb (m * up e * down d) (n * up d * down e) ≡ w → (w && (Bool·beq s t || eqb (m * up e * down d) 0)) ≡ true → Alike (fin s m e) (fin t n d)
-    go true q k = let p = eqb-true (m * up e * down d) (n * up d * down e) q in side s t f g (zeros p) p k
-    go false q k = never k
+    go : Level s t (m * up e * down d) (n * up d * down e) → Alike (fin s m e) (fin t n d)
+    go (signs e' q) = inl (subst (λ (u : Bool). T (fits binary64 (fin u n d)) → fin s m e ≡ fin u n d) e' (λ g. same-written binary64 s m n e d f g q) g)
+    go (zeros x y) =
+        inr ((s, zero-written s m e (eq-zero m (up e) (up-pos e) (eq-zero (m * up e) (down d) (down-pos d) x)) f), (t, zero-written t n d (eq-zero n (up d) (up-pos d) (eq-zero (n * up d) (down e) (down-pos e) y)) g))
 
 -- ---- a number that fits is its own rounding
 shift : (l : ℕ) (e : ℤ) → down e ≤ 2 ^ l → (j : ℕ) × (up e * 2 ^ l ≡ 2 ^ j * down e)
@@ -161,25 +150,15 @@ not-less x y z h k = go (lt z x) refl
     go true e = absurd (not-above y z k (below-on x y z e h))
     go false e = refl
 
-round-none : round binary64 false 0 1 ≡ zeroOf false
-unfolding round
-round-none = refl
-
 -- a rounded fraction is not below a negative number
-not-below : (q c : ℕ) → 0 < c → (m : ℕ) (e : ℤ) → lt (round binary64 false q c) (fin true m e) ≡ false
+not-below : (q c m : ℕ) (e : ℤ) → lt (round binary64 false q c) (fin true m e) ≡ false
 unfolding lt
-not-below q c h m e = go (lt (round binary64 false q c) (fin true m e)) refl
+not-below q c m e = go (round binary64 false q c) (plus-round binary64 q c)
   where
-    least : T (le (zeroOf false) (round binary64 false q c))
-    least = subst (λ (z : Float). T (le z (round binary64 false q c))) round-none (round-mono binary64 0 1 q c (omega arith) h (omega (arith, zero-mul c)))
-
-    past : (lt (zeroOf false) (round binary64 false q c) ≡ true) ⊎ (eq (zeroOf false) (round binary64 false q c) ≡ true) → lt (round binary64 false q c) (fin true m e) ≡ true → _≡_ {A = Bool} false true
-    past (inl w) k = real-order .trans (zeroOf false) (round binary64 false q c) (fin true m e) w k
-    past (inr w) k = real-order .follow (zeroOf false) (round binary64 false q c) (fin true m e) w k
-
-    go : (p : Bool) → lt (round binary64 false q c) (fin true m e) ≡ p → p ≡ false
-    go true k = never (past (le-cases (zeroOf false) (round binary64 false q c) least) k)
-    go false k = refl
+    go : (r : Float) → Plus r → lt r (fin true m e) ≡ false
+    go nan p = absurd p
+    go (inf s) p = p
+    go (fin s n d) p = rw p refl
 
 -- of a / c and (a + b) / c, for a number m · 2^e that fits and is a / c
 module _ (m : ℕ) (e : ℤ) (own : T (fits binary64 (fin false m e))) (g b : ℕ) (G : 0 < g) where
@@ -217,10 +196,6 @@ module _ (m : ℕ) (e : ℤ) (own : T (fits binary64 (fin false m e))) (g b : �
       let h : (a - b) * down e ≤ a * down e = mul-le-mul-right (down e) (omega arith) in
       not-less (round binary64 false (a - b) c) r x (round-mono binary64 (a - b) c (m * up e) (down e) C (down-pos e) (omega (arith, h, cross))) from-it
 
-neg-same : (m : ℕ) (e : ℤ) → neg (fin false m e) ≡ fin true m e
-unfolding neg
-neg-same m e = refl
-
 sign-off : (m : ℕ) (e : ℤ) → T (fits binary64 (fin true m e)) → T (fits binary64 (fin false m e))
 unfolding neg
 sign-off m e h = neg-fits binary64 (fin true m e) h
@@ -231,11 +206,11 @@ sum-back false m e f g b G = more m e f g b G
 sum-back true m e f g b G = go (ltb (m * up e * g) b) (ltb b (m * up e * g))
   where
     go : (t u : Bool) → lt (cond t (round binary64 false (b - m * up e * g) (down e * g)) (round binary64 u (m * up e * g - b) (down e * g))) (fin true m e) ≡ false
-    go true u = not-below (b - m * up e * g) (down e * g) (mul-pos (down-pos e) G) m e
-    go false false = not-below (m * up e * g - b) (down e * g) (mul-pos (down-pos e) G) m e
+    go true u = not-below (b - m * up e * g) (down e * g) m e
+    go false false = not-below (m * up e * g - b) (down e * g) m e
     go false true =
         ap (λ (z : Float). lt z (fin true m e)) (round-neg binary64 false (m * up e * g - b) (down e * g))
-        ∙ ap (lt (neg (round binary64 false (m * up e * g - b) (down e * g)))) (sym (neg-same m e))
+        ∙ ap (lt (neg (round binary64 false (m * up e * g - b) (down e * g)))) (neg-fin false m e)
         ∙ lt-neg (round binary64 false (m * up e * g - b) (down e * g)) (fin false m e)
         ∙ less m e (sign-off m e f) g b G
 

@@ -9,7 +9,7 @@ use lib.Dec.{T}
 use lib.Ieee.{Float, nan, binary64, fits, add, lt, eq}
 use lib.ListN.{getD}
 use Rattle.real.proofs.Signs.{zeroOf}
-use Rattle.search.proofs.Orders.{way}
+use Rattle.search.proofs.Orders.{past-too, turned, way}
 use Rattle.search.proofs.RealOrder.{real-order}
 use Rattle.linspace.specs.List.{real, toward}
 use Rattle.linspace.specs.RealSteps.{plusStep, after, Walked, nearest}
@@ -88,11 +88,7 @@ module _ (rises : Bool) (b t : Float) (number : eq b b ≡ true) (self : eq t t 
   before y x = toward real rises y x
 
   behind-first : before b t ≡ false → (x : Float) → before b x ≡ true → before t x ≡ true
-  behind-first e x h = go (eq t b) refl
-    where
-      go : (u : Bool) → eq t b ≡ u → before t x ≡ true
-      go true f = way real-order rises .lead x b t h (way real-order rises .even b t ∙ f)
-      go false f = way real-order rises .trans x b t h (way real-order rises .total t b self number e f)
+  behind-first e x h = past-too (turned (way real-order rises)) b t x number self e h
 
   pub before-both : (x : Float) → before (nearest rises b t) x ≡ true → (before b x ≡ true) × (before t x ≡ true)
   before-both x h = go (before b t) refl h

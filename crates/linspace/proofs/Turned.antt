@@ -1,9 +1,8 @@
 -- Stepped axes that mirror each other, of either kind of number. Assumes nothing.
-use mathlib.Core.Path.{_≡_, refl, sym, ap, subst, _∙_}
+use mathlib.Core.Path.{_≡_, refl, sym, subst, _∙_}
 use mathlib.Core.Bool.{Bool, true, false, cond, true≢false, not, _&&_, _||_, or-comm}
 use mathlib.Core.List.{List, [], _∷_, map}
 use Prim.Native.Nat.{ℕ, zero, suc, _-_}
-use lib.Dec.{ltb}
 use lib.ListN.{length, getD}
 use Rattle.ranged1d.specs.Answer.{BothLong}
 use Rattle.ranged1d.proofs.Bools.{both-true}
@@ -11,9 +10,11 @@ use Rattle.numeric.specs.Calls.{indexMarks}
 use Rattle.search.specs.Search as rule
 use Rattle.search.specs.Mirror.{turned, Each, end, more}
 use Rattle.search.specs.declared.RoundingMethod.{RoundingMethod}
+use Rattle.search.proofs.Orders.{Order}
 use Rattle.search.proofs.Turned.{Turns, each-length, search-turned, exact-stays}
-use Rattle.linspace.specs.List.{Kind, entries, most, toward, upward, downward, run, stepped, against, tooLong, axisAdmitted}
+use Rattle.linspace.specs.List.{Kind, entries, most, toward, upward, downward, run, stepped, against, axisAdmitted}
 use Rattle.linspace.specs.Calls.{hasEntries, marksOf, stepMarks, stepValues, stepSize, stepIndexOf, stepKeyPoints}
+use Rattle.linspace.proofs.Rules.{counts}
 
 -- y mirrors x
 pub record KindTurns {A : Type 0} (kind : Kind A) (R : A → A → Type 0) : Type 0 where
@@ -21,8 +22,7 @@ pub record KindTurns {A : Type 0} (kind : Kind A) (R : A → A → Type 0) : Typ
   pub plus-turns : {x x' y y' : A} → R x x' → R y y' → R (kind .plus x y) (kind .plus x' y')
   pub nil-turns : R (kind .nil) (kind .nil)
   pub admitted-turns : {x x' : A} → R x x' → kind .admitted x ≡ kind .admitted x'
-  pub one-way : (x y : A) → kind .numbers .less x y ≡ true → kind .numbers .less y x ≡ false
-  pub even : (x y : A) → kind .numbers .equal x y ≡ kind .numbers .equal y x
+  pub order : Order A (kind .numbers .less) (kind .numbers .equal)
 
 module _ {A : Type 0} (R : A → A → Type 0) (p p' : A → Bool) (next next' : A → A)
     (pp : (x x' : A) → R x x' → p x ≡ p' x') (nn : (x x' : A) → R x x' → R (next x) (next' x')) where
@@ -70,7 +70,7 @@ module _ {A : Type 0} (kind : Kind A) (R : A → A → Type 0) (K : KindTurns ki
     where
       -- an axis does not run both ways
       clash : upward kind a b d ≡ true → downward kind a b d ≡ true → ⊥
-      clash u v = true≢false (sym (both-true (N .less b a) (N .less b (kind .plus a d)) v .0) ∙ K .one-way a b (both-true (N .less a b) (N .less (kind .plus a d) b) u .0))
+      clash u v = true≢false (sym (both-true (N .less b a) (N .less b (kind .plus a d)) v .0) ∙ K .order .asym a b (both-true (N .less a b) (N .less (kind .plus a d) b) u .0))
 
       go : (u v : Bool) → upward kind a b d ≡ u → downward kind a b d ≡ v
           → Each R (cond (upward kind a b d) (run kind a b d true) (cond (downward kind a b d) (run kind a b d false) [])) (cond (upward kind a' b' d') (run kind a' b' d' true) (cond (downward kind a' b' d') (run kind a' b' d' false) []))
@@ -85,17 +85,14 @@ module _ {A : Type 0} (kind : Kind A) (R : A → A → Type 0) (K : KindTurns ki
   pub against-turned : against kind a b d ≡ against kind a' b' d'
   unfolding against
   against-turned =
-      rw (T .less-turns ra rb, T .less-turns rb ra, T .less-turns rd (K .nil-turns), T .less-turns (K .nil-turns) rd, T .equal-turns rd (K .nil-turns), T .equal-turns (K .nil-turns) rd, K .even (kind .nil) d')
+      rw (T .less-turns ra rb, T .less-turns rb ra, T .less-turns rd (K .nil-turns), T .less-turns (K .nil-turns) rd, T .equal-turns rd (K .nil-turns), T .equal-turns (K .nil-turns) rd, K .order .even (kind .nil) d')
       (or-comm (N .less b' a' && (N .less (kind .nil) d' || N .equal d' (kind .nil))) (N .less a' b' && (N .less d' (kind .nil) || N .equal d' (kind .nil))))
 
   pub admitted-turned : axisAdmitted kind a b d ≡ axisAdmitted kind a' b' d'
   admitted-turned = rw (K .admitted-turns ra, K .admitted-turns rb, K .admitted-turns rd) refl
 
-  pub long-turned : tooLong kind a b d ≡ tooLong kind a' b' d'
-  long-turned = ap (ltb most) same-length
-
-  entries-same : hasEntries (stepped kind a b d) ≡ hasEntries (stepped kind a' b' d')
-  entries-same = ap (ltb 0) same-length
+  pub counts-turned : counts kind a b d ≡ counts kind a' b' d'
+  counts-turned = rw (against-turned, same-length) refl
 
   pub marks-turned : (m : ℕ) → Each R (stepMarks kind a b d m) (stepMarks kind a' b' d' m)
   unfolding marksOf
@@ -120,7 +117,7 @@ module _ {A : Type 0} (kind : Kind A) (R : A → A → Type 0) (K : KindTurns ki
   unfolding stepKeyPoints
   key-points-turned m old old' h = rw (admitted-turned, against-turned, ← h, marks-same m, same-length) refl
 
-  pub searches-turned : (v v' : A) → R v v' → (method : RoundingMethod) → stepIndexOf kind a' b' d' v' (turned method) ≡ stepIndexOf kind a b d v method
+  pub searches-turned : (v v' : A) → R v v' → (method : RoundingMethod) → stepIndexOf kind a b d v (turned method) ≡ stepIndexOf kind a' b' d' v' method
   unfolding stepIndexOf
   searches-turned v v' r method =
-      rw (sym admitted-turned, sym (K .admitted-turns r), sym against-turned, sym same-length, sym (T .equal-turns r r), exact-stays method, search-turned N R T (stepped kind a b d) (stepped kind a' b' d') stepped-turned v v' r method) refl
+      rw (admitted-turned, K .admitted-turns r, against-turned, same-length, T .equal-turns r r, exact-stays method, search-turned N R T (stepped kind a b d) (stepped kind a' b' d') stepped-turned v v' r method) refl

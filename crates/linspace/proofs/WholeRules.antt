@@ -5,27 +5,31 @@ use Prim.Native.Nat.{ℕ, _+_, _-_, _/_, _≤_, _<_}
 use native.Mathlib.Decide.{decLt}
 use native.Mathlib.Omega.{arith}
 use borrow.Author.Tests.{le-leb, lt-leb}
-use lib.IntN.{ℤ, pos, natAbs, _-ℤ_, +ℤ-invr}
-use lib.Signed.{ltZ, leZ}
+use lib.IntN.{ℤ, natAbs, _-ℤ_, +ℤ-invr}
+use mir.Facts.{toZ-ofZ}
+use mir.Syntax.{w32}
+use mir.Val.{toZ, ofZ}
 use Rattle.ranged1d.specs.Answer.{Answer, given, refused}
 use Rattle.ranged1d.specs.declared.Limit.{Limit}
-use Rattle.ranged1d.proofs.Whole.{less-or-same}
+use Rattle.ranged1d.proofs.Whole.{fits32}
 use Rattle.real.specs.Place.{wholePlace}
-use Rattle.search.proofs.WholeOrder.{whole-order}
 use Rattle.linspace.specs.List.{whole, most, stepped, against, axisAdmitted}
 use Rattle.linspace.specs.WholeSteps.{wholeCount, Known}
-use Rattle.linspace.proofs.Ways as ways
 use Rattle.linspace.proofs.Rules.{counts, Counted, counted, endsPlace}
 use Rattle.linspace.proofs.WholeList.{sloped, too-long, not-long, length-is, admitted-near}
 
--- ---- 6
+-- ---- what is admitted keeps its number as an i32
+pub record Bits (a b d : ℤ) : Type 0 where
+  pub a-is : toZ w32 (ofZ w32 a) ≡ a
+  pub b-is : toZ w32 (ofZ w32 b) ≡ b
+  pub d-is : toZ w32 (ofZ w32 d) ≡ d
+
+pub bits-of : {a b d : ℤ} → axisAdmitted whole a b d ≡ true → Bits a b d
+bits-of {a} {b} {d} h =
+    let near = admitted-near a b d h in
+    record { a-is = toZ-ofZ (fits32 a (omega (arith, near .0))); b-is = toZ-ofZ (fits32 b (omega (arith, near .1))); d-is = toZ-ofZ (fits32 d (omega (arith, near .2))) }
+
 module _ (a b d : ℤ) where
-  pub against-up : ltZ a b ≡ true → leZ d (pos 0) ≡ against whole a b d
-  against-up e = less-or-same d (pos 0) ∙ ways.against-up whole whole-order a b d e
-
-  pub against-down : ltZ a b ≡ false → ltZ b a ≡ true → leZ (pos 0) d ≡ against whole a b d
-  against-down n e = less-or-same (pos 0) d ∙ ways.against-down whole whole-order a b d n e
-
   -- ---- the count
   module _ (p s : ℕ) (span : p ≡ natAbs (b -ℤ a)) (size : s ≡ natAbs d) where
     pub count-none : p ≤ s → 0 ≡ wholeCount a b d

@@ -104,7 +104,7 @@ lt-not (pos a) (negsuc b) h = absurd (subst T (sym h) tt)
 lt-not (negsuc a) (pos b) h = refl
 lt-not (negsuc a) (negsuc b) h = lt-leb a b (ltb-true b a h)
 
-lt-le : (x y : ℤ) → ltZ x y ≡ not (leZ y x)
+pub lt-le : (x y : ℤ) → ltZ x y ≡ not (leZ y x)
 lt-le x y = go (ltZ x y) refl
   where
     go : (b : Bool) → ltZ x y ≡ b → b ≡ not (leZ y x)

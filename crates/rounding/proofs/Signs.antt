@@ -85,7 +85,7 @@ sized-neg ceils false n d = refl
 sized-neg ceils true n d = refl
 sized-neg halves s n d = refl
 
-neg-fin : (s : Bool) (m : ℕ) (e : ℤ) → fin (not s) m e ≡ neg (fin s m e)
+pub neg-fin : (s : Bool) (m : ℕ) (e : ℤ) → fin (not s) m e ≡ neg (fin s m e)
 unfolding neg
 neg-fin s m e = refl
 

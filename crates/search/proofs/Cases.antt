@@ -1,11 +1,12 @@
 -- The rules of a settled search, case by case. Assumes nothing.
-use mathlib.Core.Path.{_≡_, refl, sym, ap}
-use mathlib.Core.Bool.{Bool, true, false, cond, true≢false, _&&_}
+use mathlib.Core.Path.{_≡_, refl, sym, ap, _∙_}
+use mathlib.Core.Bool.{Bool, true, false, true≢false, _&&_, and-false}
 use Prim.Native.Nat.{ℕ, zero, suc, _-_, _≤_, _<_}
 use native.Mathlib.Omega.{arith}
 use borrow.Author.Tests.{lt-ltb, le-ltb}
 use lib.Dec.{ltb}
 use Rattle.ranged1d.specs.Answer.{Answer, given, none, refused}
+use Rattle.ranged1d.proofs.Bools.{cond-same}
 use Rattle.search.specs.Search.{Numbers}
 use Rattle.search.specs.Settled.{behind, nearest, closer, unequal, settled, forNan, settledNan}
 use Rattle.search.specs.Lists.{isExact}
@@ -19,11 +20,7 @@ behind-is (suc i) h = ap given (omega arith)
 -- the nearest: the last before the target, or the next
 pub nearest-behind : (n i : ℕ) (c : Bool) → (i ≡ 0 → ⊥) → c ≡ true → given (i - 1) ≡ nearest n i c
 nearest-behind n zero c h e = absurd (h refl)
-nearest-behind n (suc i) c h e = rw e (go (ltb (suc i) n) (omega arith))
-  where
-    go : (b : Bool) → suc i - 1 ≡ i → given (suc i - 1) ≡ cond b (given i) (given i)
-    go true e = ap given e
-    go false e = ap given e
+nearest-behind n (suc i) c h e = let s : suc i - 1 ≡ i = omega arith in rw e (ap given s ∙ sym (cond-same (ltb (suc i) n) refl))
 
 pub nearest-ahead : (n i : ℕ) (c : Bool) → (i ≡ 0 → ⊥) → i < n → c ≡ false → given i ≡ nearest n i c
 nearest-ahead n zero c h l e = absurd (h refl)
@@ -49,11 +46,7 @@ nan-empty m n e = rw e (go m)
 
 pub nan-exact : (m : RoundingMethod) (n : ℕ) → isExact m ≡ true → _≡_ {A = Answer ℕ} none (settledNan m n)
 unfolding settledNan
-nan-exact Exact n e = go (ltb 0 n)
-  where
-    go : (b : Bool) → _≡_ {A = Answer ℕ} none (cond (b && false) (refused 9) none)
-    go true = refl
-    go false = refl
+nan-exact Exact n e = rw (and-false (ltb 0 n)) refl
 nan-exact Ceil n e = absurd (true≢false (sym e))
 nan-exact Floor n e = absurd (true≢false (sym e))
 nan-exact Round n e = absurd (true≢false (sym e))

@@ -2,7 +2,7 @@
 use mathlib.Core.Path.{_≡_, refl, sym, ap, subst, _∙_}
 use mathlib.Core.Bool.{Bool, true, false, cond, not, and-comm, Bool·beq}
 use mathlib.Core.Logic.{inl, inr}
-use mathlib.Core.List.{List, [], _∷_, map}
+use mathlib.Core.List.{List, [], map}
 use Prim.Native.Nat.{ℕ, _+_, _-_, _*_, _≤_, _<_}
 use native.Mathlib.Nat.{add-comm, mul-comm, zero-mul}
 use native.Mathlib.Omega.{arith}
@@ -13,16 +13,14 @@ use lib.IntN.{ℤ, negℤ, _+ℤ_, _-ℤ_, negℤ-negℤ, +ℤ-comm}
 use lib.Signed.{leZ}
 use lib.Ieee.{Float, nan, inf, fin, binary64, up, down, below, round, neg, sum, add, sub, lt}
 use Rattle.ranged1d.specs.Admitted.{wholeAdmitted}
-use Rattle.ranged1d.specs.Numbers.{every}
 use Rattle.ranged1d.proofs.Whole.{neg-le, neg-lt, admitted-neg}
 use Rattle.rounding.proofs.Signs.{neg-neg, lt-neg}
 use Rattle.real.proofs.Signs.{Alike, zeroOf, eq-neg, eq-alike, alike-on, alike-through, same-through, add-left}
-use Rattle.search.specs.Search.{wholes, reals, search}
+use Rattle.search.specs.Search.{wholes, reals}
 use Rattle.search.specs.Lists.{wholeSearch, realSearch}
-use Rattle.search.specs.Mirror.{turned, Mirrored, Each, end, more}
+use Rattle.search.specs.Mirror.{turned, Mirrored, Each}
 use Rattle.search.specs.declared.RoundingMethod.{RoundingMethod}
-use Rattle.search.specs.declared.RoundingMethod.the-variants.{Exact, Ceil, Floor, Round}
-use Rattle.search.proofs.Turned.{Turns, each-length, search-turned, searchable-turned, exact-stays}
+use Rattle.search.proofs.Turned.{Turns, each-mapped, each-length, every-turned, search-turned, searchable-turned, exact-stays}
 
 -- ---- whole numbers: each is the negation of the other
 abbrev pub Opposite : ℤ → ℤ → Type 0
@@ -126,39 +124,17 @@ real-turns = record {
 }
 
 -- ---- the theorem
-opposites : (l : List ℤ) → Each Opposite (map negℤ l) l
-opposites [] = end
-opposites (x ∷ xs) = more refl (opposites xs)
-
-across : (l : List Float) → Each Across (map neg l) l
-across [] = end
-across (x ∷ xs) = more (inl refl) (across xs)
-
-all-admitted : (l : List ℤ) → every wholeAdmitted (map negℤ l) ≡ every wholeAdmitted l
-all-admitted [] = refl
-all-admitted (x ∷ xs) = rw (admitted-neg x, all-admitted xs) refl
-
-pub turned-twice : (method : RoundingMethod) → turned (turned method) ≡ method
-turned-twice Exact = refl
-turned-twice Ceil = refl
-turned-twice Floor = refl
-turned-twice Round = refl
-
-whole-found : (l : List ℤ) (t : ℤ) (method : RoundingMethod) → search wholes (negℤ t) (turned method) (map negℤ l) ≡ search wholes t method l
-whole-found l t method = sym (search-turned wholes Opposite whole-turns (map negℤ l) l (opposites l) (negℤ t) t refl (turned method)) ∙ ap (λ (m : RoundingMethod). search wholes t m l) (turned-twice method)
-
-real-found : (l : List Float) (t : Float) (method : RoundingMethod) → search reals (neg t) (turned method) (map neg l) ≡ search reals t method l
-real-found l t method = sym (search-turned reals Across real-turns (map neg l) l (across l) (neg t) t (inl refl) (turned method)) ∙ ap (λ (m : RoundingMethod). search reals t m l) (turned-twice method)
-
 whole-searches : (l : List ℤ) (t : ℤ) (method : RoundingMethod) → wholeSearch (map negℤ l) (negℤ t) (turned method) ≡ wholeSearch l t method
 unfolding wholeSearch
 whole-searches l t method =
-    rw (all-admitted l, admitted-neg t, sym (searchable-turned wholes Opposite whole-turns (map negℤ l) l (opposites l)), whole-found l t method) refl
+    let e : Each Opposite (map negℤ l) l = each-mapped negℤ (λ x. refl) l in
+    rw (every-turned wholeAdmitted wholeAdmitted (λ x x' r. rw r (admitted-neg x')) (map negℤ l) l e, admitted-neg t, searchable-turned wholes Opposite whole-turns (map negℤ l) l e, search-turned wholes Opposite whole-turns (map negℤ l) l e (negℤ t) t refl method) refl
 
 real-searches : (l : List Float) (t : Float) (method : RoundingMethod) → realSearch (map neg l) (neg t) (turned method) ≡ realSearch l t method
 unfolding realSearch
 real-searches l t method =
-    rw (sym (searchable-turned reals Across real-turns (map neg l) l (across l)), eq-neg t t, each-length (map neg l) l (across l), exact-stays method, real-found l t method) refl
+    let e : Each Across (map neg l) l = each-mapped neg (λ x. inl refl) l in
+    rw (searchable-turned reals Across real-turns (map neg l) l e, eq-neg t t, each-length (map neg l) l e, exact-stays method, search-turned reals Across real-turns (map neg l) l e (neg t) t (inl refl) method) refl
 
 pub mirror : Mirrored
 mirror = record { whole-searches = whole-searches; real-searches = real-searches }

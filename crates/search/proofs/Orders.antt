@@ -23,6 +23,14 @@ not-itself {lt = lt} o x = go (lt x x) refl
     go true e = o .asym x x e
     go false e = e
 
+-- what x comes before, y comes before too, if x does not come before y
+pub past-too : {A : Type 0} {lt eq : A → A → Bool} → Order A lt eq → (x y z : A) → eq x x ≡ true → eq y y ≡ true → lt x y ≡ false → lt x z ≡ true → lt y z ≡ true
+past-too {lt = lt} {eq = eq} o x y z p q n h = go (eq x y) refl
+  where
+    go : (t : Bool) → eq x y ≡ t → lt y z ≡ true
+    go true e = o .follow y x z (o .even y x ∙ e) h
+    go false e = o .trans y x z (o .total x y p q n e) h
+
 -- the same order downward
 pub turned : {A : Type 0} {lt eq : A → A → Bool} → Order A lt eq → Order A (λ x y. lt y x) eq
 turned o = record {

@@ -1,8 +1,8 @@
 -- Floats are ordered by IEEE 754's comparisons, but for a NaN, which equals nothing. Assumes nothing.
 use mathlib.Core.Path.{_≡_, refl, sym, ap, subst, _∙_}
 use mathlib.Core.Bool.{Bool, true, false, true≢false, _&&_, _||_, not, Bool·beq}
-use Prim.Native.Nat.{ℕ, zero, suc, _+_, _*_, _≤_, _<_}
-use native.Mathlib.Nat.{mul-right-comm, zero-mul, mul-pos, lt-of-mul-lt-mul-right, mul-lt-mul-of-pos-right}
+use Prim.Native.Nat.{ℕ, zero, _+_, _*_, _≤_, _<_}
+use native.Mathlib.Nat.{le-of-lt, le-of-eq, mul-right-comm, zero-mul, mul-pos, lt-of-mul-lt-mul-right, mul-le-mul-right, mul-lt-mul-of-pos-right}
 use native.Mathlib.Omega.{arith}
 use native.Mathlib.Decide.{decLt}
 use borrow.Author.Tests.{lt-ltb, le-ltb, eq-eqb, ne-eqb, ltb-true, ltb-false, eqb-true, eqb-false}
@@ -10,6 +10,7 @@ use lib.Dec.{ltb, eqb, T}
 use lib.Ieee as Ieee
 use lib.Ieee.{Float, nan, inf, fin, up, down, below, level, lt, eq, neg}
 use lib.Ieee.Fits.{down-pos}
+use lib.Ieee.Positive.{first-pos}
 use Rattle.ranged1d.proofs.Bools.{both-true}
 use Rattle.rounding.proofs.Order.{eq-zero}
 use Rattle.rounding.proofs.Signs.{lt-neg}
@@ -21,23 +22,14 @@ pub never : {A : Type 0} → _≡_ {A = Bool} false true → A
 never e = absurd (true≢false (sym e))
 
 -- ---- fractions a ÷ p, b ÷ q, c ÷ r
-positive : (x y : ℕ) → 0 < x * y → 0 < x
-positive zero y h = absurd (omega (arith, h, zero-mul y))
-positive (suc x) y h = omega arith
-
 cleared : (a c p q r : ℕ) → a * q * r < c * q * p → a * r < c * p
 cleared a c p q r h = lt-of-mul-lt-mul-right q (omega (arith, h, mul-right-comm a q r, mul-right-comm c q p))
 
-less-across : (a b c p q r : ℕ) → 0 < p → 0 < r → a * q < b * p → b * r < c * q → a * r < c * p
-less-across a b c p q r P R h k =
-    let u : a * q * r < b * p * r = mul-lt-mul-of-pos-right h R in
+less-across : (a b c p q r : ℕ) → 0 < p → a * q ≤ b * p → b * r < c * q → a * r < c * p
+less-across a b c p q r P h k =
+    let u : a * q * r ≤ b * p * r = mul-le-mul-right r h in
     let v : b * r * p < c * q * p = mul-lt-mul-of-pos-right k P in
     cleared a c p q r (omega (arith, u, v, mul-right-comm b p r))
-
-same-across : (a b c p q r : ℕ) → 0 < p → a * q ≡ b * p → b * r < c * q → a * r < c * p
-same-across a b c p q r P h k =
-    let v : b * r * p < c * q * p = mul-lt-mul-of-pos-right k P in
-    cleared a c p q r (omega (arith, v, ap (λ (z : ℕ). z * r) h, mul-right-comm b p r))
 
 same-above : (a b c p q r : ℕ) → 0 < p → a * q ≡ b * p → c * q < b * r → c * p < a * r
 same-above a b c p q r P h k =
@@ -46,17 +38,17 @@ same-above a b c p q r P h k =
 
 -- ---- with their signs
 below-trans : (s t u : Bool) (a b c p q r : ℕ) → 0 < p → 0 < q → 0 < r → below s (a * q) t (b * p) ≡ true → below t (b * r) u (c * q) ≡ true → below s (a * r) u (c * p) ≡ true
-below-trans false false false a b c p q r P Q R h k = lt-ltb (a * r) (c * p) (less-across a b c p q r P R (ltb-true (a * q) (b * p) h) (ltb-true (b * r) (c * q) k))
+below-trans false false false a b c p q r P Q R h k = lt-ltb (a * r) (c * p) (less-across a b c p q r P (le-of-lt (ltb-true (a * q) (b * p) h)) (ltb-true (b * r) (c * q) k))
 below-trans false false true a b c p q r P Q R h k = never k
 below-trans false true u a b c p q r P Q R h k = never h
 below-trans true false false a b c p q r P Q R h k =
-    let m : 0 < c * p = mul-pos (positive c q (omega (arith, ltb-true (b * r) (c * q) k))) P in
+    let m : 0 < c * p = mul-pos (first-pos c q (omega (arith, ltb-true (b * r) (c * q) k))) P in
     lt-ltb 0 (a * r + c * p) (omega (arith, m))
 below-trans true false true a b c p q r P Q R h k = never k
 below-trans true true false a b c p q r P Q R h k =
-    let m : 0 < a * r = mul-pos (positive a q (omega (arith, ltb-true (b * p) (a * q) h))) R in
+    let m : 0 < a * r = mul-pos (first-pos a q (omega (arith, ltb-true (b * p) (a * q) h))) R in
     lt-ltb 0 (a * r + c * p) (omega (arith, m))
-below-trans true true true a b c p q r P Q R h k = lt-ltb (c * p) (a * r) (less-across c b a r q p R P (ltb-true (c * q) (b * r) k) (ltb-true (b * p) (a * q) h))
+below-trans true true true a b c p q r P Q R h k = lt-ltb (c * p) (a * r) (less-across c b a r q p R (le-of-lt (ltb-true (c * q) (b * r) k)) (ltb-true (b * p) (a * q) h))
 
 below-asym : (s t : Bool) (a b : ℕ) → below s a t b ≡ true → below t b s a ≡ false
 below-asym false false a b h = let l : a < b = ltb-true a b h in le-ltb b a (omega (arith, l))
@@ -91,11 +83,11 @@ level-even s t a b = go (eqb a b) refl
     go false e = rw (e, ne-eqb b a (λ d. eqb-false a b e (sym d))) refl
 
 -- the signs of equal fractions are equal, or both are zero
-data Level (s t : Bool) (x y : ℕ) : Type 0 where
+pub data Level (s t : Bool) (x y : ℕ) : Type 0 where
   signs : s ≡ t → x ≡ y → Level s t x y
   zeros : x ≡ 0 → y ≡ 0 → Level s t x y
 
-levelled : (s t : Bool) (x y : ℕ) → level s x t y ≡ true → Level s t x y
+pub levelled : (s t : Bool) (x y : ℕ) → level s x t y ≡ true → Level s t x y
 levelled s t x y h = go (eqb x y) refl h
   where
     side : (s t : Bool) → x ≡ y → (Bool·beq s t || eqb x 0) ≡ true → Level s t x y
@@ -112,7 +104,7 @@ level-follow : (s t u : Bool) (a b c p q r : ℕ) → 0 < p → 0 < q → 0 < r 
 level-follow s t u a b c p q r P Q R h k = go (levelled s t (a * q) (b * p) h)
   where
     like : (t u : Bool) → a * q ≡ b * p → below t (b * r) u (c * q) ≡ true → below t (a * r) u (c * p) ≡ true
-    like false false e k = lt-ltb (a * r) (c * p) (same-across a b c p q r P e (ltb-true (b * r) (c * q) k))
+    like false false e k = lt-ltb (a * r) (c * p) (less-across a b c p q r P (le-of-eq e) (ltb-true (b * r) (c * q) k))
     like false true e k = never k
     like true false e k = some (decLt 0 c)
       where
@@ -121,18 +113,18 @@ level-follow s t u a b c p q r P Q R h k = go (levelled s t (a * q) (b * p) h)
         some (no g) =
             let z : c ≡ 0 = omega (arith, g) in
             let y : c * q ≡ 0 = ap (λ (w : ℕ). w * q) z ∙ zero-mul q in
-            let m : 0 < b * p = mul-pos (positive b r (omega (arith, ltb-true 0 (b * r + c * q) k, y))) P in
-            let n : 0 < a * r = mul-pos (positive a q (omega (arith, m, e))) R in
+            let m : 0 < b * p = mul-pos (first-pos b r (omega (arith, ltb-true 0 (b * r + c * q) k, y))) P in
+            let n : 0 < a * r = mul-pos (first-pos a q (omega (arith, m, e))) R in
             lt-ltb 0 (a * r + c * p) (omega (arith, n))
     like true true e k = lt-ltb (c * p) (a * r) (same-above a b c p q r P e (ltb-true (c * q) (b * r) k))
 
     -- both zero: what lies past one lies past the other
     zero-to : (t u : Bool) → a ≡ 0 → b ≡ 0 → below t (b * r) u (c * q) ≡ true → (u ≡ false) × (0 < c)
-    zero-to false false x y k = (refl, positive c q (omega (arith, ltb-true (b * r) (c * q) k)))
+    zero-to false false x y k = (refl, first-pos c q (omega (arith, ltb-true (b * r) (c * q) k)))
     zero-to false true x y k = never k
     zero-to true false x y k =
         let z : b * r ≡ 0 = ap (λ (w : ℕ). w * r) y ∙ zero-mul r in
-        (refl, positive c q (omega (arith, ltb-true 0 (b * r + c * q) k, z)))
+        (refl, first-pos c q (omega (arith, ltb-true 0 (b * r + c * q) k, z)))
     zero-to true true x y k =
         let z : b * r ≡ 0 = ap (λ (w : ℕ). w * r) y ∙ zero-mul r in
         absurd (omega (arith, ltb-true (c * q) (b * r) k, z))
@@ -171,7 +163,7 @@ below-total true false a b h k =
 below-total true true a b h k = lt-ltb a b (omega (arith, ltb-false b a h, unlevel a b k))
 
 -- ---- floats
--- eq-zero lies past infinity
+-- nothing lies past infinity
 past-top : (t : Bool) (z : Float) → not t ≡ true → lt (inf t) z ≡ true → ⊥
 unfolding lt
 past-top true z h k = never h

@@ -1,6 +1,6 @@
 -- The searches of lent lists, return by return. Assumes nothing.
 use mathlib.Core.Path.{_≡_, refl, sym, _∙_}
-use mathlib.Core.Bool.{Bool, true, false, cond, not, _&&_}
+use mathlib.Core.Bool.{Bool, true, false, _&&_, and-false}
 use mathlib.Core.List.{List, [], _∷_}
 use Prim.Native.Nat.{ℕ, suc, _-_, _<_}
 use native.Mathlib.Omega.{arith}
@@ -69,11 +69,7 @@ module _ (l : List ℤ) (t : ℤ) (method : RoundingMethod) where
 
   pub whole-target-refused : wholeAdmitted t ≡ false → _≡_ {A = Answer ℕ} (refused 1) (wholeSearch l t method)
   unfolding wholeSearch
-  whole-target-refused h = go (every wholeAdmitted l)
-    where
-      go : (b : Bool) → _≡_ {A = Answer ℕ} (refused 1) (cond (not (b && wholeAdmitted t)) (refused 1) (cond (not (searchable wholes l)) (refused 8) (search wholes t method l)))
-      go true = rw h refl
-      go false = refl
+  whole-target-refused h = rw (h, and-false (every wholeAdmitted l)) refl
 
   module _ (e : every wholeAdmitted l ≡ true) (a : wholeAdmitted t ≡ true) where
     pub whole-order-refused : searchable wholes l ≡ false → _≡_ {A = Answer ℕ} (refused 8) (wholeSearch l t method)

@@ -1,6 +1,6 @@
 -- The four searches, by the place of the target in an ordered list. Assumes nothing.
 use mathlib.Core.Path.{_≡_, refl, sym, ap, subst, _∙_}
-use mathlib.Core.Bool.{Bool, true, false, cond, true≢false, _||_}
+use mathlib.Core.Bool.{Bool, true, false, cond, true≢false, _&&_, _||_}
 use mathlib.Core.List.{List}
 use Prim.Native.Nat.{ℕ, zero, suc, _≤_, _<_}
 use native.Mathlib.Omega.{arith}
@@ -11,12 +11,12 @@ use lib.ListN.{length, getD}
 use Rattle.ranged1d.specs.Answer.{Answer, given, none}
 use Rattle.ranged1d.proofs.Bools.{or-right, cond-same}
 use Rattle.search.specs.Search.{Numbers, best, exact, up, down, between, indexOf, search}
-use Rattle.search.specs.Settled.{closer, unequal, settled}
+use Rattle.search.specs.Settled.{ahead, behind, nearest, closer, unequal, settled}
 use Rattle.search.specs.Steps.{toward, PlaceOf}
 use Rattle.search.specs.declared.RoundingMethod.{RoundingMethod}
 use Rattle.search.specs.declared.RoundingMethod.the-variants.{Exact, Ceil, Floor, Round}
 use Rattle.search.proofs.Best.{Beats, best-none, best-is}
-use Rattle.search.proofs.Orders.{Order, way}
+use Rattle.search.proofs.Orders.{Order, past-too, way}
 
 -- each entry comes before every later one
 abbrev pub Sorted : {A : Type 0} → (A → A → Bool) → List A → A → Type 0
@@ -49,11 +49,7 @@ module _ {A : Type 0} {lt eq : A → A → Bool} (o : Order A lt eq) (l : List A
 
   -- past an entry that equals the target, and past one that is past it
   after : (k : ℕ) → i < k → k < length l → lt t (e k) ≡ true
-  after k h m = go (eq (e i) t) refl
-    where
-      go : (b : Bool) → eq (e i) t ≡ b → lt t (e k) ≡ true
-      go true q = o .follow t (e i) (e k) (o .even t (e i) ∙ q) (sorted i k h m)
-      go false q = o .trans t (e i) (e k) (o .total (e i) t (ordinary i (omega (arith, h, m))) self (at .from i (omega arith) (omega (arith, h, m))) q) (sorted i k h m)
+  after k h m = let n : i < length l = omega (arith, h, m) in past-too o (e i) t (e k) (ordinary i n) self (at .from i (omega arith) n) (sorted i k h m)
 
   after-unequal : (k : ℕ) → i < k → k < length l → eq (e k) t ≡ false
   after-unequal k h m = o .even (e k) t ∙ o .apart t (e k) (after k h m)
@@ -164,67 +160,46 @@ module _ {A : Type 0} (num : Numbers A) (t : A) where
       go true Round = ap given (tie (ltb i i) (num .less (num .minus t y) (num .minus y t)) (num .less (num .minus y t) (num .minus t y)))
       go false Round = ap given (tie (ltb i i) (num .less (num .minus t y) (num .minus y t)) (num .less (num .minus y t) (num .minus t y)))
 
-  -- a target between two entries
+  -- a target that is no entry, by what is found ahead of it and behind it
+  from-parts : (rises : Bool) (method : RoundingMethod) (n i : ℕ) (x y : A) (a b : Answer (ℕ × A)) → (ltb i n && num .equal y t) ≡ false → indexOf num t a ≡ ahead n i → indexOf num t b ≡ behind i
+      → between num t b a ≡ nearest n i (closer num true x t y) → between num t a b ≡ nearest n i (closer num false x t y) → from rises method none a b ≡ settled num method rises n i x t y
+  unfolding settled
+  from-parts rises method n i x y a b e p q r u = go rises method ∙ rw e refl
+    where
+      go : (rises : Bool) (method : RoundingMethod) → from rises method none a b ≡ unequal method rises n i (closer num rises x t y)
+      go rises Exact = refl
+      go true Ceil = p
+      go false Ceil = q
+      go true Floor = q
+      go false Floor = p
+      go true Round = r
+      go false Round = u
+
+  -- between two entries
   from-between : (rises : Bool) (method : RoundingMethod) (n j : ℕ) (x y : A) → suc j < n → num .equal y t ≡ false
       → from rises method none (given (suc j, y)) (given (j, x)) ≡ settled num method rises n (suc j) x t y
-  unfolding settled
-  from-between rises method n j x y h q = go rises method ∙ rw (lt-ltb _ _ h, q) refl
+  from-between rises method n j x y h q =
+      let b : j < suc j = omega arith in
+      from-parts rises method n (suc j) x y (given (suc j, y)) (given (j, x)) (rw (lt-ltb _ _ h, q) refl) (rw (lt-ltb _ _ h) refl) refl
+      (rw (lt-ltb _ _ h, lt-ltb _ _ b) (pair (num .less (num .minus t x) (num .minus y t)) j (suc j)))
+      (rw (lt-ltb _ _ h, le-ltb (suc j) j (omega arith)) (pair (num .less (num .minus x t) (num .minus t y)) j (suc j)))
     where
       pair : (c : Bool) (u v : ℕ) → given (cond c u v) ≡ cond c (given u) (given v)
       pair true u v = refl
       pair false u v = refl
 
-      go : (rises : Bool) (method : RoundingMethod) → from rises method none (given (suc j, y)) (given (j, x)) ≡ unequal method rises n (suc j) (closer num rises x t y)
-      go rises Exact = refl
-      go true Ceil = rw (lt-ltb _ _ h) refl
-      go false Ceil = refl
-      go true Floor = refl
-      go false Floor = rw (lt-ltb _ _ h) refl
-      go true Round = let b : j < suc j = omega arith in rw (lt-ltb _ _ h, lt-ltb _ _ b) (pair (num .less (num .minus t x) (num .minus y t)) j (suc j))
-      go false Round = let b : j ≤ suc j = omega arith in rw (lt-ltb _ _ h, le-ltb _ _ b) (pair (num .less (num .minus x t) (num .minus t y)) j (suc j))
-
   -- before the first entry
   from-first : (rises : Bool) (method : RoundingMethod) (n : ℕ) (x y : A) → 0 < n → num .equal y t ≡ false
       → from rises method none (given (0, y)) none ≡ settled num method rises n 0 x t y
-  unfolding settled
-  from-first rises method n x y h q = go rises method ∙ rw (lt-ltb _ _ h, q) refl
-    where
-      go : (rises : Bool) (method : RoundingMethod) → from rises method none (given (0, y)) none ≡ unequal method rises n 0 (closer num rises x t y)
-      go rises Exact = refl
-      go true Ceil = rw (lt-ltb _ _ h) refl
-      go false Ceil = refl
-      go true Floor = refl
-      go false Floor = rw (lt-ltb _ _ h) refl
-      go true Round = refl
-      go false Round = refl
+  from-first rises method n x y h q = from-parts rises method n 0 x y (given (0, y)) none (rw (lt-ltb _ _ h, q) refl) (rw (lt-ltb _ _ h) refl) refl refl refl
 
   -- past the last entry
   from-last : (rises : Bool) (method : RoundingMethod) (n j : ℕ) (x y : A) → n ≤ suc j → from rises method none none (given (j, x)) ≡ settled num method rises n (suc j) x t y
-  unfolding settled
-  from-last rises method n j x y h = go rises method ∙ rw (le-ltb _ _ h) refl
-    where
-      go : (rises : Bool) (method : RoundingMethod) → from rises method none none (given (j, x)) ≡ unequal method rises n (suc j) (closer num rises x t y)
-      go rises Exact = refl
-      go true Ceil = rw (le-ltb _ _ h) refl
-      go false Ceil = refl
-      go true Floor = refl
-      go false Floor = rw (le-ltb _ _ h) refl
-      go true Round = rw (le-ltb _ _ h) refl
-      go false Round = rw (le-ltb _ _ h) refl
+  from-last rises method n j x y h = let z = le-ltb (suc j) n h in from-parts rises method n (suc j) x y none (given (j, x)) (rw z refl) (rw z refl) refl (rw z refl) (rw z refl)
 
-  -- an empty list
+  -- in an empty list
   from-none : (rises : Bool) (method : RoundingMethod) (n : ℕ) (x y : A) → n ≡ 0 → from rises method none none none ≡ settled num method rises n 0 x t y
-  unfolding settled
-  from-none rises method n x y h = rw h (go rises method)
-    where
-      go : (rises : Bool) (method : RoundingMethod) → from rises method none none none ≡ unequal method rises 0 0 (closer num rises x t y)
-      go rises Exact = refl
-      go true Ceil = refl
-      go false Ceil = refl
-      go true Floor = refl
-      go false Floor = refl
-      go true Round = refl
-      go false Round = refl
+  from-none rises method n x y h = let z = le-ltb 0 n (omega (arith, h)) in from-parts rises method n 0 x y none none (rw z refl) (rw z refl) refl refl refl
 
   -- ---- the search of an ordered list, by the target's place in it
   module _ (o : Order A (num .less) (num .equal)) where

@@ -1,8 +1,8 @@
 -- A search of two lists that mirror each other. What mirrors what is any relation that turns comparisons round. Assumes nothing.
 use mathlib.Core.Path.{_≡_, refl, sym, ap, subst, _∙_}
 use mathlib.Core.Bool.{Bool, true, false, cond, _&&_, _||_, or-comm}
-use mathlib.Core.List.{List, [], _∷_}
-use Prim.Native.Nat.{ℕ, suc, _≤_, _<_}
+use mathlib.Core.List.{List, [], _∷_, map}
+use Prim.Native.Nat.{ℕ, suc, _<_}
 use native.Mathlib.Omega.{arith}
 use native.Mathlib.Decide.{decLt}
 use borrow.Author.Tests.{lt-ltb, le-ltb}
@@ -32,6 +32,11 @@ pub data Both {A : Type 0} (R : A → A → Type 0) : Answer (ℕ × A) → Answ
 pub each-map : {A : Type 0} {R S : A → A → Type 0} → ((x y : A) → R x y → S x y) → (l l' : List A) → Each R l l' → Each S l l'
 each-map f [] [] end = end
 each-map f (x ∷ xs) (y ∷ ys) (more r e) = more (f x y r) (each-map f xs ys e)
+
+-- a list that is mapped entry for entry
+pub each-mapped : {A : Type 0} {R : A → A → Type 0} (f : A → A) → ((x : A) → R (f x) x) → (l : List A) → Each R (map f l) l
+each-mapped f r [] = end
+each-mapped f r (x ∷ xs) = more (r x) (each-mapped f r xs)
 
 pub each-length : {A : Type 0} {R : A → A → Type 0} (l l' : List A) → Each R l l' → length l ≡ length l'
 each-length [] [] end = refl
@@ -73,38 +78,32 @@ module _ {A : Type 0} (num : Numbers A) (R : A → A → Type 0) (T : Turns num 
   down-turned : Both R (down num t l) (up num t' l')
   down-turned = best-turned R (λ x. num .less x t || num .equal x t) (λ x. num .less t' x || num .equal x t') (λ x y. num .less y x) (num .less) before (λ x y z w r s. T .less-turns s r) l l' each
 
-  index-turned : (f f' : Answer (ℕ × A)) → Both R f f' → indexOf num t' f' ≡ indexOf num t f
+  index-turned : (f f' : Answer (ℕ × A)) → Both R f f' → indexOf num t f ≡ indexOf num t' f'
   index-turned (given (k, x)) (given (k', y)) (givens r) = refl
   index-turned none none nones = refl
 
   -- which of two neighbours is nearer: i below the target at x, j above it at y
   module _ (i j : ℕ) (x x' y y' : A) (rx : R x x') (ry : R y y') where
-    under : num .less (num .minus t' y') (num .minus x' t') ≡ num .less (num .minus y t) (num .minus t x)
-    under = sym (T .apart-turns ry rt rt rx)
-
-    over : num .less (num .minus x' t') (num .minus t' y') ≡ num .less (num .minus t x) (num .minus y t)
-    over = sym (T .apart-turns rt rx ry rt)
-
-    nearer-turned : nearer num t' (j, y') (i, x') ≡ nearer num t (i, x) (j, y)
-    nearer-turned = rw (under, over) (go (decLt i j) (decLt j i) (num .less (num .minus t x) (num .minus y t)) (num .less (num .minus y t) (num .minus t x)))
+    nearer-turned : nearer num t (i, x) (j, y) ≡ nearer num t' (j, y') (i, x')
+    nearer-turned = rw (T .apart-turns rt rx ry rt, T .apart-turns ry rt rt rx) (go (decLt i j) (decLt j i) (num .less (num .minus x' t') (num .minus t' y')) (num .less (num .minus t' y') (num .minus x' t')))
       where
-        go : Dec (i < j) → Dec (j < i) → (u v : Bool) → cond (ltb j i) (cond v j i) (cond u i j) ≡ cond (ltb i j) (cond u i j) (cond v j i)
-        go (yes h) k u v = let n : j ≤ j = omega arith in rw (lt-ltb i j h, le-ltb j i (omega (arith, h))) refl
+        go : Dec (i < j) → Dec (j < i) → (u v : Bool) → cond (ltb i j) (cond u i j) (cond v j i) ≡ cond (ltb j i) (cond v j i) (cond u i j)
+        go (yes h) k u v = rw (lt-ltb i j h, le-ltb j i (omega (arith, h))) refl
         go (no h) (yes k) u v = rw (lt-ltb j i k, le-ltb i j (omega (arith, h))) refl
         go (no h) (no k) u v =
             let e : i ≡ j = omega (arith, h, k) in
-            rw (le-ltb j i (omega (arith, k)), le-ltb i j (omega (arith, h))) (cond-same u e ∙ sym (cond-same v (sym e) ∙ e))
+            rw (le-ltb j i (omega (arith, k)), le-ltb i j (omega (arith, h))) (cond-same v (sym e) ∙ e ∙ sym (cond-same u e))
 
-  between-turned : (f f' g g' : Answer (ℕ × A)) → Both R f f' → Both R g g' → between num t' g' f' ≡ between num t f g
+  between-turned : (f f' g g' : Answer (ℕ × A)) → Both R f f' → Both R g g' → between num t f g ≡ between num t' g' f'
   between-turned (given (i, x)) (given (i', x')) (given (j, y)) (given (j', y')) (givens r) (givens s) = ap given (nearer-turned i j x x' y y' r s)
   between-turned (given (i, x)) (given (i', x')) none none (givens r) nones = refl
   between-turned none none (given (j, y)) (given (j', y')) nones (givens s) = refl
   between-turned none none none none nones nones = refl
 
-  pub search-turned : (method : RoundingMethod) → search num t' (turned method) l' ≡ search num t method l
+  pub search-turned : (method : RoundingMethod) → search num t (turned method) l ≡ search num t' method l'
   search-turned Exact = index-turned (exact num t l) (exact num t' l') exact-turned
-  search-turned Ceil = index-turned (up num t l) (down num t' l') up-turned
-  search-turned Floor = index-turned (down num t l) (up num t' l') down-turned
+  search-turned Ceil = index-turned (down num t l) (up num t' l') down-turned
+  search-turned Floor = index-turned (up num t l) (down num t' l') up-turned
   search-turned Round = between-turned (down num t l) (up num t' l') (up num t l) (down num t' l') down-turned up-turned
 
 pub exact-stays : (method : RoundingMethod) → isExact (turned method) ≡ isExact method
@@ -114,21 +113,21 @@ exact-stays Floor = refl
 exact-stays Round = refl
 
 -- ---- 8: a list can be searched where its mirror can
-module _ {A : Type 0} (num : Numbers A) (R : A → A → Type 0) (T : Turns num R) where
-  every-turned : (l l' : List A) → Each R l l' → every (λ x. num .equal x x) l' ≡ every (λ x. num .equal x x) l
-  every-turned [] [] end = refl
-  every-turned (x ∷ xs) (y ∷ ys) (more r e) = rw (T .equal-turns r r, every-turned xs ys e) refl
+pub every-turned : {A : Type 0} {R : A → A → Type 0} (p p' : A → Bool) → ((x x' : A) → R x x' → p x ≡ p' x') → (l l' : List A) → Each R l l' → every p l ≡ every p' l'
+every-turned p p' h [] [] end = refl
+every-turned p p' h (x ∷ xs) (y ∷ ys) (more r e) = rw (h x y r, every-turned p p' h xs ys e) refl
 
-  goes-turned : (a b : A → A → Bool) → ((x x' y y' : A) → R x x' → R y y' → a x y ≡ b x' y') → (x x' : A) (l l' : List A) → R x x' → Each R l l' → goesOn b x' l' ≡ goesOn a x l
+module _ {A : Type 0} (num : Numbers A) (R : A → A → Type 0) (T : Turns num R) where
+  goes-turned : (a b : A → A → Bool) → ((x x' y y' : A) → R x x' → R y y' → a x y ≡ b x' y') → (x x' : A) (l l' : List A) → R x x' → Each R l l' → goesOn a x l ≡ goesOn b x' l'
   goes-turned a b h x x' [] [] r end = refl
   goes-turned a b h x x' (y ∷ ys) (y' ∷ ys') r (more s e) = rw (h x x' y y' r s, goes-turned a b h y y' ys ys' s e) refl
 
-  ascends-turned : (a b : A → A → Bool) → ((x x' y y' : A) → R x x' → R y y' → a x y ≡ b x' y') → (l l' : List A) → Each R l l' → ascends b l' ≡ ascends a l
+  ascends-turned : (a b : A → A → Bool) → ((x x' y y' : A) → R x x' → R y y' → a x y ≡ b x' y') → (l l' : List A) → Each R l l' → ascends a l ≡ ascends b l'
   ascends-turned a b h [] [] end = refl
   ascends-turned a b h (x ∷ xs) (x' ∷ xs') (more r e) = goes-turned a b h x x' xs xs' r e
 
-  pub searchable-turned : (l l' : List A) → Each R l l' → searchable num l' ≡ searchable num l
+  pub searchable-turned : (l l' : List A) → Each R l l' → searchable num l ≡ searchable num l'
   unfolding searchable
   searchable-turned l l' e =
-      rw (every-turned l l' e, ascends-turned (λ x y. num .less y x) (num .less) (λ x x' y y' r s. T .less-turns s r) l l' e, ascends-turned (num .less) (λ x y. num .less y x) (λ x x' y y' r s. T .less-turns r s) l l' e)
-      (ap (λ (b : Bool). every (λ x. num .equal x x) l && b) (or-comm (ascends (λ x y. num .less y x) l) (ascends (num .less) l)))
+      rw (every-turned (λ x. num .equal x x) (λ x. num .equal x x) (λ x x' r. T .equal-turns r r) l l' e, ascends-turned (λ x y. num .less y x) (num .less) (λ x x' y y' r s. T .less-turns s r) l l' e, ascends-turned (num .less) (λ x y. num .less y x) (λ x x' y y' r s. T .less-turns r s) l l' e)
+      (ap (λ (b : Bool). every (λ x. num .equal x x) l' && b) (or-comm (ascends (λ x y. num .less y x) l') (ascends (num .less) l')))

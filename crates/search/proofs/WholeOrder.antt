@@ -1,6 +1,6 @@
 -- Whole numbers are ordered. Assumes nothing.
 use mathlib.Core.Path.{_≡_, refl, sym, ap, subst, _∙_}
-use mathlib.Core.Bool.{Bool, true, false, true≢false, and-comm}
+use mathlib.Core.Bool.{Bool, true, false, not, and-comm, and-true}
 use Prim.Native.Nat.{ℕ}
 use borrow.Author.Tests.{eqb-true, eqb-false, leb-true, le-leb}
 use lib.Dec.{eqb, leb}
@@ -8,38 +8,24 @@ use lib.IntN.{ℤ, natAbs}
 use mir.Facts.{toZ-ofZ}
 use mir.Syntax.{w32}
 use mir.Val.{SFits, toZ, ofZ}
-use lib.Signed.{ltZ, leZ, <ℤ-≤ℤ-trans, clashℤ}
+use lib.Signed.{ltZ, leZ, <ℤ-≤ℤ-trans}
 use Rattle.real.proofs.Cases.{between-far}
 use Rattle.ranged1d.specs.Numbers.{same}
-use Rattle.ranged1d.proofs.Whole.{not-lt, lt-not, same-yes, same-no, same-is, less-not-above}
+use Rattle.ranged1d.proofs.Whole.{not-lt, lt-le, lt-not, same-yes, same-no, same-is, less-not-above}
 use Rattle.numeric.proofs.Signs.{yes-le, yes-lt, lt-yes}
 use Rattle.search.proofs.Orders.{Order, Between}
-
-no-less : (x y : ℤ) → ltZ x y ≡ true → ltZ y x ≡ false
-no-less x y p = go (ltZ y x) refl
-  where
-    go : (b : Bool) → ltZ y x ≡ b → ltZ y x ≡ false
-    go true q = clashℤ {a = x} {b = y} (yes-lt p) (yes-le (less-not-above y x q))
-    go false q = q
-
-one-less : (x y : ℤ) → ltZ x y ≡ false → same x y ≡ false → ltZ y x ≡ true
-one-less x y p q = go (ltZ y x) refl
-  where
-    go : (b : Bool) → ltZ y x ≡ b → ltZ y x ≡ true
-    go true e = e
-    go false e = absurd (true≢false (sym (rw (not-lt y x e, not-lt x y p) refl) ∙ q))
 
 pub whole-order : Order ℤ ltZ same
 whole-order = record {
   trans = λ x y z p q. lt-yes {x = x} {y = z} (<ℤ-≤ℤ-trans {a = x} {b = y} {c = z} (yes-lt p) (yes-le (less-not-above y z q)));
-  asym = no-less;
+  asym = λ x y p. lt-le y x ∙ ap not (less-not-above x y p);
   apart = λ x y p. rw (lt-not x y p, less-not-above x y p) refl;
   even = λ x y. and-comm (leZ x y) (leZ y x);
   follow = λ x y z p q. subst (λ (w : ℤ). ltZ w z ≡ true) (sym (same-is x y p)) q;
   lead = λ x y z p q. subst (λ (w : ℤ). ltZ x w ≡ true) (same-is y z q) p;
   left = λ x y p. same-yes x x refl;
   right = λ x y p. same-yes y y refl;
-  total = λ x y p q l e. one-less x y l e;
+  total = λ x y p q l e. lt-le y x ∙ ap not (sym (and-true (leZ x y)) ∙ (rw (not-lt x y l) at e));
 }
 
 -- two i32 have the same bits exactly where they are equal

@@ -23,7 +23,7 @@ use Rattle.search.specs.Search as rule
 use Rattle.search.specs.Mirror.{turned, Each, end, more}
 use Rattle.search.specs.declared.RoundingMethod.{RoundingMethod}
 use Rattle.search.proofs.Turned.{each-length, search-turned, exact-stays}
-use Rattle.search.proofs.Mirror.{Opposite, Across, turned-twice}
+use Rattle.search.proofs.Mirror.{Opposite, Across}
 use Rattle.linspace.specs.List.{Kind, whole, real, stepped, against, axisAdmitted}
 use Rattle.linspace.specs.Calls.{nth, stepSpot}
 use Rattle.linspace.specs.Mirror as steps
@@ -104,9 +104,7 @@ module _ {A : Type 0} (kind : Kind A) (R : A → A → Type 0) (K : KindTurns ki
   leads = against-turned kind R K (opposite a) (opposite b) (opposite d) a b d (opp a) (opp b) (opp d)
 
   finds : (method : RoundingMethod) (v : A) → rule.search (kind .numbers) (opposite v) (turned method) far ≡ rule.search (kind .numbers) v method near
-  finds method v =
-      sym (search-turned (kind .numbers) R (K .turns) far near entries (opposite v) v (opp v) (turned method))
-      ∙ ap (λ (m : RoundingMethod). rule.search (kind .numbers) v m near) (turned-twice method)
+  finds method v = search-turned (kind .numbers) R (K .turns) far near entries (opposite v) v (opp v) method
 
   lacks : (method : RoundingMethod) (v : A) → findThere kind opposite a b d method .unsought (opposite v) ≡ findHere kind opposite a b d method .unsought v
   lacks method v = rw (K .turns .equal-turns (opp v) (opp v), lengths, exact-stays method) refl

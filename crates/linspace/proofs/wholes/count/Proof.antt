@@ -7,22 +7,16 @@ use borrow.Author.Needs.{needs}
 use lib.IntN.{natAbs, _-ℤ_}
 use mir.Facts.{toZ-ofZ}
 use mir.Syntax.{w32}
-use mir.Val.{SFits, toZ, ofZ}
+use mir.Val.{SFits}
 use Rattle.ranged1d.proofs.Whole.{fits32, minus-far}
 use Rattle.linspace.proofs.WholeList.{admitted-near}
-use Rattle.linspace.proofs.WholeRules.{count-none, count-some, step-some}
+use Rattle.linspace.proofs.WholeRules.{Bits, bits-of, count-none, count-some, step-some}
 use Rattle.linspace.proofs.wholes.count.Statement.{statement}
 use Rattle.linspace.proofs.wholes.count.Tie as tie
 
 module _ (s : tie.Start) where
-  a-is : toZ w32 (ofZ w32 (s .args .s .a)) ≡ s .args .s .a
-  a-is = toZ-ofZ (fits32 _ (omega (arith, admitted-near (s .args .s .a) (s .args .s .b) (s .args .s .d) (s .pre .0) .0)))
-
-  b-is : toZ w32 (ofZ w32 (s .args .s .b)) ≡ s .args .s .b
-  b-is = toZ-ofZ (fits32 _ (omega (arith, admitted-near (s .args .s .a) (s .args .s .b) (s .args .s .d) (s .pre .0) .1)))
-
-  d-is : toZ w32 (ofZ w32 (s .args .s .d)) ≡ s .args .s .d
-  d-is = toZ-ofZ (fits32 _ (omega (arith, admitted-near (s .args .s .a) (s .args .s .b) (s .args .s .d) (s .pre .0) .2)))
+  bits : Bits (s .args .s .a) (s .args .s .b) (s .args .s .d)
+  bits = bits-of (s .pre .0)
 
   span-fits : SFits w32 (s .args .s .b -ℤ s .args .s .a)
   span-fits =
@@ -34,13 +28,13 @@ module _ (c : tie.After-unsigned-abs2) where
   start = c .before .before .before .before .before
 
   span-is : c .before .before .unsigned-abs .result ≡ natAbs (start .args .s .b -ℤ start .args .s .a)
-  span-is = rw (a-is start, b-is start, toZ-ofZ (span-fits start)) at (c .before .before .unsigned-abs .ensures)
+  span-is = rw (bits start .a-is, bits start .b-is, toZ-ofZ (span-fits start)) at (c .before .before .unsigned-abs .ensures)
 
   size-is : c .unsigned-abs2 .result ≡ natAbs (start .args .s .d)
-  size-is = rw (d-is start) at (c .unsigned-abs2 .ensures)
+  size-is = rw (bits start .d-is) at (c .unsigned-abs2 .ensures)
 
 sub-unsigned-abs : tie.Need-sub-unsigned-abs
-sub-unsigned-abs c = let s = c .before .before in rw (a-is s, b-is s) (span-fits s)
+sub-unsigned-abs c = let s = c .before .before in rw (bits s .a-is, bits s .b-is) (span-fits s)
 
 unsigned-abs-requires : tie.Need-unsigned-abs-requires
 unsigned-abs-requires c κs = search needs

@@ -1,12 +1,10 @@
 -- `linspace::wholes::find` meets its contract. Assumes nothing.
 use mathlib.Core.Path.{_≡_, _∙_}
-use native.Mathlib.Omega.{arith}
 use borrow.Author.Needs.{needs}
 use mir.Facts.{toZ-ofZ}
 use mir.Syntax.{w32}
 use mir.Val.{toZ, ofZ}
-use Rattle.ranged1d.proofs.Whole.{fits32}
-use Rattle.linspace.proofs.WholeList.{admitted-near}
+use Rattle.linspace.proofs.WholeRules.{Bits, bits-of}
 use Rattle.linspace.proofs.WholeFind.{found}
 use Rattle.linspace.proofs.wholes.find.Statement.{statement}
 use Rattle.linspace.proofs.wholes.find.Tie as tie
@@ -29,16 +27,14 @@ settle-whole-requires c κs = search needs
 returns : tie.Need-returns
 returns c =
     let s = c .before .before .before .before .before .before in
-    let near = admitted-near (s .args .s .a) (s .args .s .b) (s .args .s .d) (s .pre .0 .admitted) in
-    let a-is : toZ w32 (ofZ w32 (s .args .s .a)) ≡ s .args .s .a = toZ-ofZ (fits32 _ (omega (arith, near .0))) in
-    let b-is : toZ w32 (ofZ w32 (s .args .s .b)) ≡ s .args .s .b = toZ-ofZ (fits32 _ (omega (arith, near .1))) in
+    let bits : Bits (s .args .s .a) (s .args .s .b) (s .args .s .d) = bits-of (s .pre .0 .admitted) in
     let v-is : toZ w32 (ofZ w32 (s .args .v)) ≡ s .args .v = toZ-ofZ (s .fits .v) in
     let back = c .before .before .before .before .entry-before in
     let next = c .before .before .before .entry-or in
     let x-is : toZ w32 (ofZ w32 (back .result)) ≡ back .result = toZ-ofZ (record { sfits = back .ok }) in
     let y-is : toZ w32 (ofZ w32 (next .result)) ≡ next .result = toZ-ofZ (record { sfits = next .ok }) in
     let place = c .before .before .before .before .before .position in
-    rw (a-is, b-is, x-is, v-is, y-is) at (c .settle-whole .ensures)
+    rw (bits .a-is, bits .b-is, x-is, v-is, y-is) at (c .settle-whole .ensures)
     ∙ found (s .args .v) (s .args .method) (place .result) (back .result) (next .result) (s .pre .0) (rw v-is at (place .ensures)) (rw v-is at (back .ensures)) (rw v-is at (next .ensures))
 
 pub find-spec : {M : Type 1} → statement M

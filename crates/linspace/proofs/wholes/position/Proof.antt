@@ -10,9 +10,8 @@ use lib.Signed.{leZ}
 use mir.Facts.{toZ-ofZ}
 use mir.Syntax.{w32}
 use mir.Val.{toZ, ofZ}
-use Rattle.ranged1d.proofs.Whole.{fits32}
 use Rattle.linspace.specs.WholeSteps.{past}
-use Rattle.linspace.proofs.WholeList.{admitted-near}
+use Rattle.linspace.proofs.WholeRules.{Bits, bits-of}
 use Rattle.linspace.proofs.WholeFind.{some-past, past-near, position-behind, position-still, position-inside, position-end}
 use Rattle.linspace.proofs.wholes.position.Statement.{statement}
 use Rattle.linspace.proofs.wholes.position.Tie as tie
@@ -41,7 +40,7 @@ module _ (c : tie.After-unsigned-abs2) where
   far-some = rw far-is (some-past p ahead .1)
 
   size-is : c .unsigned-abs2 .result ≡ natAbs (start .args .s .d)
-  size-is = rw (toZ-ofZ (fits32 (start .args .s .d) (omega (arith, admitted-near (start .args .s .a) (start .args .s .b) (start .args .s .d) (start .pre .0) .2)))) at (c .unsigned-abs2 .ensures)
+  size-is = let bits : Bits (start .args .s .a) (start .args .s .b) (start .args .s .d) = bits-of (start .pre .0) in rw (bits .d-is) at (c .unsigned-abs2 .ensures)
 
 past-of-requires : tie.Need-past-of-requires
 past-of-requires c κs = search needs
