@@ -9,10 +9,10 @@ use lib.ListN.{length}
 use lib.Ieee.{Float, lt}
 use Rattle.ranged1d.specs.Answer.{Answer, given, refused}
 use Rattle.search.proofs.RealOrder.{real-order}
-use Rattle.linspace.specs.List.{real, entries, toward, run, stepped, against}
+use Rattle.linspace.specs.List.{real, entries, toward, stepped, against}
 use Rattle.linspace.specs.Calls.{hasEntries, stepSize}
 use Rattle.linspace.specs.RealSteps.{plusStep, Walked}
-use Rattle.linspace.proofs.Ways as ways
+use Rattle.linspace.proofs.Ways.{stepped-run}
 use Rattle.linspace.proofs.Walks.{entries-few}
 
 -- the same axis told twice
@@ -20,10 +20,7 @@ pub same-axis : {A : Type 0} (f : Float → Float → Float → A) {a a' b b' d 
 same-axis f e = rw (e .0, e .1, e .2) refl
 
 module _ (a b d : Float) where
-  -- ---- the list, where it has entries and where it has none
-  pub stepped-run : hasEntries (stepped real a b d) ≡ true → stepped real a b d ≡ run real a b d (lt a b)
-  stepped-run s = ways.stepped-run real real-order a b d s
-
+  -- ---- the list: where it has no entry, and how long it is
   pub stepped-empty : hasEntries (stepped real a b d) ≡ false → stepped real a b d ≡ []
   stepped-empty s = go (stepped real a b d) s
     where
@@ -32,13 +29,13 @@ module _ (a b d : Float) where
       go (x ∷ xs) e = absurd (true≢false (sym (lt-ltb 0 (length (x ∷ xs)) (omega arith)) ∙ e))
 
   pub stepped-total : hasEntries (stepped real a b d) ≡ true → length (stepped real a b d) ≡ length (entries (toward real (lt a b) b) (plusStep d) 65537 a)
-  stepped-total s = ap length (stepped-run s)
+  stepped-total s = ap length (stepped-run real real-order a b d s)
 
   pub stepped-few : length (stepped real a b d) ≤ 65537
   stepped-few = go (hasEntries (stepped real a b d)) refl
     where
       go : (t : Bool) → hasEntries (stepped real a b d) ≡ t → length (stepped real a b d) ≤ 65537
-      go true s = rw (stepped-run s) (entries-few (toward real (lt a b) b) (plusStep d) 65537 a)
+      go true s = rw (stepped-run real real-order a b d s) (entries-few (toward real (lt a b) b) (plusStep d) 65537 a)
       go false s = rw (stepped-empty s) (omega arith)
 
   -- a walk's count is the list's

@@ -16,6 +16,7 @@ use Rattle.ranged1d.specs.Admitted.{pixelAdmitted, limitAdmitted}
 use Rattle.ranged1d.specs.declared.Limit.{Limit}
 use Rattle.real.specs.Place.{realPlace}
 use Rattle.discrete.specs.Index.{noIndex, indexBy, indexFor, pixelIndex}
+use Rattle.search.proofs.RealOrder.{real-order}
 use Rattle.numeric.specs.Marks.{listOf}
 use Rattle.numeric.proofs.Lists.{entry, list-ext}
 use Rattle.linspace.specs.List.{real, toward, stepped, against}
@@ -23,7 +24,8 @@ use Rattle.linspace.specs.Calls.{hasEntries, nth, nthOf, stepSize, stepF
 use Rattle.linspace.specs.RealSteps.{plusStep, after, all, Shares}
 use Rattle.linspace.proofs.Walks.{nth-is, nth-past, entries-are}
 use Rattle.linspace.proofs.Axis as axis
-use Rattle.linspace.proofs.Axis.{stepped-run, stepped-empty, stepped-few}
+use Rattle.linspace.proofs.Axis.{stepped-empty, stepped-few}
+use Rattle.linspace.proofs.Ways.{stepped-run}
 use Rattle.linspace.proofs.Rules as rules
 use Rattle.linspace.proofs.Rules.{onceListed, placeListed}
 
@@ -41,7 +43,7 @@ module _ (a b d : Float) where
   stepped-are = go (hasEntries l) refl
     where
       go : (t : Bool) → hasEntries l ≡ t → l ≡ listOf (λ k. after (plusStep d) k a) (length l)
-      go true s = rw (stepped-run a b d s) (entries-are (toward real (lt a b) b) (plusStep d) 65537 a)
+      go true s = rw (stepped-run real real-order a b d s) (entries-are (toward real (lt a b) b) (plusStep d) 65537 a)
       go false s = rw (stepped-empty a b d s) refl
 
   pub entry-of : (z : Float) (k : ℕ) → k < length l → getD l k z ≡ after (plusStep d) k a

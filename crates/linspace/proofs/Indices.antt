@@ -8,7 +8,7 @@ use borrow.Author.Tests.{lt-ltb, le-ltb}
 use lib.Dec.{T}
 use lib.ListN.{length, getD}
 use lib.Ieee.{Float, nan, inf, fin, binary64, fits, isNan, add, lt, eq}
-use Rattle.linspace.proofs.Ways.{leading, runs}
+use Rattle.linspace.proofs.Ways.{leading, runs, stepped-run}
 use Rattle.ranged1d.specs.Answer.{Answer, refused}
 use Rattle.ranged1d.specs.Numbers.{every}
 use Rattle.ranged1d.proofs.Bools.{or-right}
@@ -33,7 +33,7 @@ use Rattle.linspace.specs.List.{real, entries, toward, stepped, against}
 use Rattle.linspace.specs.Calls.{hasEntries, stepIndexOf}
 use Rattle.linspace.specs.RealSteps.{plusStep, Parted}
 use Rattle.linspace.proofs.Walks.{entries-on, entries-off, entry-passes, entries-none}
-use Rattle.linspace.proofs.Axis.{stepped-run, stepped-empty, stepped-total}
+use Rattle.linspace.proofs.Axis.{stepped-empty, stepped-total}
 use Rattle.linspace.proofs.Counts.{entry-of}
 use Rattle.linspace.proofs.RealList.{run-ascends}
 
@@ -81,12 +81,12 @@ module _ (a b d : Float) where
   module _ (f : T (fits binary64 a)) (e : against real a b d ≡ false) (s : hasEntries l ≡ true) (few : length l ≤ 65536) where
     list-ascends : ascends (search-steps.toward rises lt) l ≡ true
     list-ascends =
-        ap (ascends (search-steps.toward rises lt)) (stepped-run a b d s)
+        ap (ascends (search-steps.toward rises lt)) (stepped-run real real-order a b d s)
         ∙ run-ascends rises b d 65537 a f (onward a b d s e) (omega (arith, few, stepped-total a b d s))
 
     list-own : every (λ z. eq z z) l ≡ true
     list-own =
-        ap (every (λ z. eq z z)) (stepped-run a b d s)
+        ap (every (λ z. eq z z)) (stepped-run real real-order a b d s)
         ∙ every-entry (toward real rises b) (plusStep d) (λ z. eq z z) (λ x p. w .left x b p) 65537 a
 
     list-searched : searchable reals l ≡ true
