@@ -89,19 +89,11 @@ module _ (a b d : Float) where
   from-empty e s k = rw (e, stepped-empty a b d s) refl
 
   -- ---- `values`
-  module _ (old : List Float) where
-    pub values-refused : {k : ℕ} → stepSize real a b d ≡ refused k → stepValues real a b d old ≡ (refused k, old)
-    values-refused e = sym (rules.values-stopped real a b d refl old (counts-are ∙ e))
-
-    module _ {n : ℕ} (e : stepSize real a b d ≡ given n) where
-      pub values-short : length old < n → stepValues real a b d old ≡ (refused 7, old)
-      values-short h = sym (rules.values-short real a b d refl old (counts-are ∙ e) h)
-
-      pub values-written : n ≤ length old → stepValues real a b d old ≡ (given n, listOf (λ k. after (plusStep d) (k * 1) a) n ++ drop n old)
-      values-written h =
-          sym (rules.values-written real a b d refl old (counts-are ∙ e) h)
-          ∙ ap (λ (z : List Float). (given n, z ++ drop n old)) (stepped-are ∙ list-ext (λ k. after (plusStep d) k a) (λ k. after (plusStep d) (k * 1) a) (length l) (λ k g. rw (mul-one k) refl))
-          ∙ ap (λ (z : ℕ). (given n, listOf (λ k. after (plusStep d) (k * 1) a) z ++ drop n old)) (sym (sized e .all))
+  pub values-written : (old : List Float) {n : ℕ} → stepSize real a b d ≡ given n → n ≤ length old → stepValues real a b d old ≡ (given n, listOf (λ k. after (plusStep d) (k * 1) a) n ++ drop n old)
+  values-written old {n} e h =
+      sym (rules.values-written real a b d refl old (counts-are ∙ e) h)
+      ∙ ap (λ (z : List Float). (given n, z ++ drop n old)) (stepped-are ∙ list-ext (λ k. after (plusStep d) k a) (λ k. after (plusStep d) (k * 1) a) (length l) (λ k g. rw (mul-one k) refl))
+      ∙ ap (λ (z : ℕ). (given n, listOf (λ k. after (plusStep d) (k * 1) a) z ++ drop n old)) (sym (sized e .all))
 
   -- ---- `map`
   module _ (v : Float) (limit : Limit) where

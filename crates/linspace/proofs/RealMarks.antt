@@ -16,7 +16,7 @@ use Rattle.numeric.specs.Marks.{listOf}
 use Rattle.numeric.specs.Calls.{wholePlan}
 use Rattle.numeric.proofs.Lists.{entry, length-of, list-ext}
 use Rattle.linspace.specs.List.{real, stepped, against}
-use Rattle.linspace.specs.Calls.{hasEntries, marksOf, stepMarks, stepSize, stepKeyPoints}
+use Rattle.linspace.specs.Calls.{hasEntries, marksOf, stepMarks, stepKeyPoints}
 use Rattle.linspace.specs.RealSteps.{plusStep, after}
 use Rattle.linspace.proofs.Axis.{size-is}
 use Rattle.linspace.proofs.Counts.{stepped-are}
@@ -49,13 +49,7 @@ module _ (a b d : Float) (m : ℕ) where
 
   -- ---- `key_points`
   module _ (old : List Float) where
-    pub points-none : (eqb m 0 && hasEntries l) ≡ true → stepKeyPoints real a b d m old ≡ (refused 3, old)
-    points-none z = sym (rules.points-none real a b d refl m old z)
-
     module _ (z : (eqb m 0 && hasEntries l) ≡ false) where
-      pub points-refused : {k : ℕ} → stepSize real a b d ≡ refused k → stepKeyPoints real a b d m old ≡ (refused k, old)
-      points-refused e = sym (rules.points-stopped real a b d refl m old z (rules.size-is real a b d refl ∙ e))
-
       module _ (on : against real a b d ≡ false) (few : length l ≤ 65536) where
         counted : listWritten marked old ≡ stepKeyPoints real a b d m old
         counted = rules.points-is real a b d refl m old z (rules.size-is real a b d refl ∙ sym (size-is a b d on few))

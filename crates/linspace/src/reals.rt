@@ -118,13 +118,6 @@ fn has_entries(s: Steps) -> bool
     false
 }
 
-// Whether x comes before b in the axis's direction.
-fn precedes(rises: bool, x: f64, b: f64) -> bool
-    ensures { λ r. ⌜ r ≡ toward real rises b x ⌝ }
-{
-    if rises { x < b } else { b < x }
-}
-
 // The track of a list that stands at x.
 fn track_at(rises: bool, s: Steps, x: f64) -> Track
     ensures { λ r. ⌜ Tracked rises (s .b) (s .d) x r ⌝ }
@@ -213,7 +206,7 @@ fn reach(rises: bool, s: Steps, k: u64) -> Spot
 fn nearer(rises: bool, t: f64, b: f64) -> f64
     ensures { λ r. ⌜ r ≡ nearest rises b t ⌝ }
 {
-    if precedes(rises, t, b) { t } else { b }
+    if search::precedes(rises, t, b) { t } else { b }
 }
 
 // Walks to the first entry that does not come before t.
@@ -298,7 +291,7 @@ fn count(s: Steps, x: f64, k: usize) -> usize
         return 0;
     }
     let rises = s.a < s.b;
-    if precedes(rises, x, s.b) {
+    if search::precedes(rises, x, s.b) {
         return count_on(rises, s, x, k);
     }
     count_on(rises, s, s.a, 0)

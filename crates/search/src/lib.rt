@@ -10,6 +10,7 @@ mod wholes;
 
 use numeric::Index;
 use ranged1d::Refusal;
+pub use reals::precedes;
 pub use reals::search_real;
 pub use reals::settle_real;
 pub use wholes::search_whole;

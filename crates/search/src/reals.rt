@@ -20,7 +20,7 @@ use numeric::Index;
 use ranged1d::Refusal;
 
 // Whether x comes before y in a list that rises or falls.
-fn precedes(rises: bool, x: f64, y: f64) -> bool
+pub fn precedes(rises: bool, x: f64, y: f64) -> bool
     ensures { λ r. ⌜ r ≡ toward rises Ieee.lt x y ⌝ }
 {
     if rises { x < y } else { y < x }

@@ -1,5 +1,5 @@
 -- `linspace::Linspacef64::key_points` meets its contract. Assumes nothing.
-use mathlib.Core.Path.{_≡_, sym, ap, subst, _∙_}
+use mathlib.Core.Path.{_≡_, refl, sym, ap, subst, _∙_}
 use mathlib.Core.Bool.{false, _&&_}
 use lib.Dec.{eqb}
 use Rattle.linspace.specs.List.{real, stepped}
@@ -8,8 +8,8 @@ use Rattle.linspace.specs.RealSteps.{plusStep}
 use Rattle.linspace.specs.Walks.{tellWalk, PassedBy}
 use Rattle.linspace.specs.declared.reals.Walk.{Walk}
 use Rattle.linspace.proofs.Axis.{same-axis}
-use Rattle.linspace.proofs.Counts.{sized}
-use Rattle.linspace.proofs.RealMarks.{points-none, points-refused}
+use Rattle.linspace.proofs.Counts.{counts-are, sized}
+use Rattle.linspace.proofs.Rules.{points-none, points-stopped}
 use borrow.Author.Needs.{needs}
 use Rattle.linspace.proofs.Linspacef64.key_points.Statement.{statement}
 use Rattle.linspace.proofs.Linspacef64.key_points.Tie as tie
@@ -41,7 +41,7 @@ returns c =
     let at = c .before .before in
     let s = at .before .before .args in
     let r = at .steps .result in
-    sym (points-none (r .a) (r .b) (r .d) (s .m) (s .out .now) (sym (c .before .no-step .ensures) ∙ c .if1 .taken)) ∙ told at
+    points-none real (r .a) (r .b) (r .d) refl (s .m) (s .out .now) (sym (c .before .no-step .ensures) ∙ c .if1 .taken) ∙ told at
 
 mark-quarter-requires : tie.Need-mark-quarter-requires
 mark-quarter-requires c κs = search needs
@@ -70,7 +70,7 @@ returns-2 c =
     let along = arm .before .before in
     let s = at along .before .before .args in
     let r = at along .steps .result in
-    sym (points-refused (r .a) (r .b) (r .d) (s .m) (s .out .now) (allowed along) (size-is along ∙ ap tellWalk (arm .r .given .1))) ∙ told (at along)
+    points-stopped real (r .a) (r .b) (r .d) refl (s .m) (s .out .now) (allowed along) (counts-are (r .a) (r .b) (r .d) ∙ size-is along ∙ ap tellWalk (arm .r .given .1)) ∙ told (at along)
 
 same-length : tie.Need-same-length
 same-length c = search needs

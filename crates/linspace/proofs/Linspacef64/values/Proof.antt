@@ -1,5 +1,5 @@
 -- `linspace::Linspacef64::values` meets its contract. Assumes nothing.
-use mathlib.Core.Path.{_≡_, sym, ap, subst, _∙_}
+use mathlib.Core.Path.{_≡_, refl, sym, ap, subst, _∙_}
 use mathlib.Core.List.{List, _++_}
 use Prim.Native.Nat.{_*_}
 use lib.Ieee.{Float}
@@ -12,7 +12,8 @@ use Rattle.linspace.specs.Calls.{stepSize}
 use Rattle.linspace.specs.RealSteps.{plusStep, after}
 use Rattle.linspace.specs.Walks.{tellWalk, PassedBy}
 use Rattle.linspace.proofs.Axis.{same-axis}
-use Rattle.linspace.proofs.Counts.{values-refused, values-short, values-written}
+use Rattle.linspace.proofs.Counts.{counts-are, values-written}
+use Rattle.linspace.proofs.Rules.{values-stopped, values-short}
 use borrow.Author.Needs.{needs}
 use Rattle.linspace.proofs.Linspacef64.values.Statement.{statement}
 use Rattle.linspace.proofs.Linspacef64.values.Tie as tie
@@ -44,7 +45,7 @@ returns c =
     let arm = c .before .before in
     let at = arm .before .before in
     let s = start at .args in
-    sym (values-short (s .self .inner .0) (s .self .inner .1) (s .self .step) (s .out .now) (size-is at ∙ ap tellWalk (arm .w .given .1)) (c .if1 .taken))
+    values-short real (s .self .inner .0) (s .self .inner .1) (s .self .step) refl (s .out .now) (counts-are (s .self .inner .0) (s .self .inner .1) (s .self .step) ∙ size-is at ∙ ap tellWalk (arm .w .given .1)) (c .if1 .taken)
 
 put-all-requires : tie.Need-put-all-requires
 put-all-requires c κs =
@@ -58,7 +59,7 @@ returns-2 c =
     let arm = c .before in
     let at = arm .before .before in
     let s = start at .args in
-    sym (values-refused (s .self .inner .0) (s .self .inner .1) (s .self .step) (s .out .now) (size-is at ∙ ap tellWalk (arm .r .given .1)))
+    values-stopped real (s .self .inner .0) (s .self .inner .1) (s .self .step) refl (s .out .now) (counts-are (s .self .inner .0) (s .self .inner .1) (s .self .step) ∙ size-is at ∙ ap tellWalk (arm .r .given .1))
 
 same-length : tie.Need-same-length
 same-length c = search needs
