@@ -13,7 +13,7 @@ use borrow.Rule.Slice.PartMut.{midOf, postOf, putMid, mid-len, post-is}
 use Rattle.numeric.specs.Marks.{listOf}
 use Rattle.numeric.proofs.Lists.{length-of}
 use Rattle.linspace.specs.RealSteps.{after, Passed, oneRun, fourRuns}
-use Rattle.linspace.proofs.Walks.{after-more}
+use Rattle.linspace.proofs.Walks.{after-more, after-on}
 
 -- `e` is any element: it stands where a list has none
 module _ {A : Type 0} (e : A) where
@@ -177,7 +177,7 @@ module _ {A : Type 0} (next : A → A) (by : ℕ) (a : A) where
   pub four-behind : (g : ℕ) (x1 x2 x3 r : A) → Passed next a (g * by) x1 x2 x3 → r ≡ after next (g * by) x3 → r ≡ after next (4 * g * by) a
   four-behind g x1 x2 x3 r w e =
       let all : g * by + 3 * (g * by) ≡ 4 * g * by = omega (arith, mul-assoc 4 g by) in
-      e ∙ ap (after next (g * by)) (w .three) ∙ after-more next (g * by) (3 * (g * by)) a ∙ ap (λ (k : ℕ). after next k a) all
+      after-on next (g * by) (3 * (g * by)) a all e (w .three)
 
   -- the first m are there, and those from m to n are put behind them
   pub rest-put : (m n : ℕ) (o l y : List A) (x : A) → m ≤ n → n ≤ length o → l ≡ listOf F m ++ drop m o → x ≡ after next (m * by) a

@@ -30,9 +30,9 @@ module _ {A : Type 0} where
 
 -- ---- steps
 module _ {A : Type 0} (next : A → A) where
-  pub after-step : (k : ℕ) (x : A) → next (after next k x) ≡ after next (k + 1) x
+  pub after-step : (k : ℕ) (x : A) {y : A} → y ≡ after next k x → next y ≡ after next (k + 1) x
   unfolding after
-  after-step k x = rw (add-one k) refl
+  after-step k x e = rw (add-one k) (ap next e)
 
   pub after-front : (k : ℕ) (x : A) → after next (suc k) x ≡ after next k (next x)
   unfolding after
@@ -44,13 +44,17 @@ module _ {A : Type 0} (next : A → A) where
   after-more zero n x = rw (zero-add n) refl
   after-more (suc m) n x = rw (suc-add m n) (ap next (after-more m n x))
 
+  -- m steps on from where n have led
+  pub after-on : (m n : ℕ) {k : ℕ} (x : A) {y z : A} → m + n ≡ k → z ≡ after next m y → y ≡ after next n x → z ≡ after next k x
+  after-on m n x e p q = p ∙ ap (after next m) q ∙ after-more m n x ∙ ap (λ (k : ℕ). after next k x) e
+
   -- so many steps at a time
   pub after-none : (by : ℕ) (x : A) → x ≡ after next (0 * by) x
   unfolding after
   after-none by x = rw (zero-mul by) refl
 
-  pub after-turn : (by k : ℕ) (x : A) → after next by (after next (k * by) x) ≡ after next ((k + 1) * by) x
-  after-turn by k x = after-more by (k * by) x ∙ ap (λ (n : ℕ). after next n x) (omega (arith, suc-mul k by, ap (λ (n : ℕ). n * by) (add-one k)))
+  pub after-turn : (by k : ℕ) (x : A) {y z : A} → z ≡ after next by y → y ≡ after next (k * by) x → z ≡ after next ((k + 1) * by) x
+  after-turn by k x e h = after-on by (k * by) x (omega (arith, suc-mul k by, ap (λ (n : ℕ). n * by) (add-one k))) e h
 
 steps-cons : {A : Type 0} (next : A → A) (x : A) (l : ℕ) → x ∷ listOf (λ k. after next (suc k) x) l ≡ listOf (λ k. after next k x) (suc l)
 unfolding after
@@ -136,7 +140,7 @@ module _ {A : Type 0} (passes : A → Bool) (next : A → A) where
       walk-starts = record { at = refl; within = omega arith; rest = sym (total-starts a) }
 
       pub walk-on : (n : ℕ) (x : A) → Walked passes next most a n x → n < most → passes x ≡ true → Walked passes next most a (n + 1) (next x)
-      walk-on n x w h p = record { at = ap next (w .at) ∙ after-step next n a; within = omega (arith, h); rest = w .rest ∙ total-on n x h p }
+      walk-on n x w h p = record { at = after-step next n a (w .at); within = omega (arith, h); rest = w .rest ∙ total-on n x h p }
 
       -- a walk to entry k stands there, if the list has it
       pub reached-at : (k n : ℕ) (x : A) → Reached passes next most a k n x → k < total n x → x ≡ after next k a

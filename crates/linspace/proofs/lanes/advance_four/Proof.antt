@@ -1,6 +1,6 @@
 -- `linspace::lanes::advance_four` meets its contract. Assumes nothing.
 use mathlib.Core.Path.{_≡_, refl, ap, _∙_}
-use Prim.Native.Nat.{ℕ, _+_, _≤_, _-_}
+use Prim.Native.Nat.{ℕ, _≤_, _-_}
 use native.Mathlib.Omega.{arith}
 use lib.Ieee.{Float}
 use Rattle.linspace.specs.RealSteps.{plusStep, after}
@@ -14,9 +14,6 @@ Inv-loop d k x0₀ x1₀ x2₀ x3₀ i₀ x0 x1 x2 x3 i =
 
 abbrev μ-loop : tie.MeasureT-loop
 μ-loop d k x0₀ x1₀ x2₀ x3₀ i₀ x0 x1 x2 x3 i = k - i
-
-turn : (d : Float) (i : ℕ) (x : Float) {y : Float} → y ≡ after (plusStep d) i x → plusStep d y ≡ after (plusStep d) (i + 1) x
-turn d i x e = ap (plusStep d) e ∙ after-step (plusStep d) i x
 
 stop : (d : Float) {i k : ℕ} (x : Float) {y : Float} → i ≡ k → y ≡ after (plusStep d) i x → y ≡ after (plusStep d) k x
 stop d x h e = e ∙ ap (λ (i : ℕ). after (plusStep d) i x) h
@@ -35,7 +32,7 @@ loop-again : tie.Need-loop-again Inv-loop μ-loop
 loop-again c =
     let s = c .before .before .args in
     let at = c .before .loop in
-    (omega arith, turn (s .d) (at .i) (s .q .x0) (at .inv .1), turn (s .d) (at .i) (s .q .x1) (at .inv .2), turn (s .d) (at .i) (s .q .x2) (at .inv .3), turn (s .d) (at .i) (s .q .x3) (at .inv .4))
+    (omega arith, after-step (plusStep (s .d)) (at .i) (s .q .x0) (at .inv .1), after-step (plusStep (s .d)) (at .i) (s .q .x1) (at .inv .2), after-step (plusStep (s .d)) (at .i) (s .q .x2) (at .inv .3), after-step (plusStep (s .d)) (at .i) (s .q .x3) (at .inv .4))
 
 returns : tie.Need-returns Inv-loop μ-loop
 returns c =

@@ -69,7 +69,7 @@ loop-again c =
     let f = sums (s .d) (s .by) (s .x) in
     let one : k - 1 + 1 ≡ k = omega arith in
     let back : k ≡ k + 1 - 1 = omega arith in
-    let next : c .advance .result ≡ f k = c .advance .ensures ∙ ap (after (plusStep (s .d)) (s .by)) (at .loop .inv .4) ∙ after-turn (plusStep (s .d)) (s .by) (k - 1) (s .x) ∙ ap f one in (
+    let next : c .advance .result ≡ f k = after-turn (plusStep (s .d)) (s .by) (k - 1) (s .x) (c .advance .ensures) (at .loop .inv .4) ∙ ap f one in (
       omega arith,
       omega arith,
       ap₂ (λ (l : List Float) (z : Float). set l k z) (at .loop .inv .2) next ∙ write-more f nan k (set (s .out .now) 0 (s .x)) (omega arith),

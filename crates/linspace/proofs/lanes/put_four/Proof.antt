@@ -1,6 +1,6 @@
 -- `linspace::lanes::put_four` meets its contract: the first k of each run are written, and y has the next of each. Assumes nothing.
 use mathlib.Core.Path.{_≡_, ap, subst, _∙_}
-use Prim.Native.Nat.{ℕ, _+_, _-_, _≤_, _*_}
+use Prim.Native.Nat.{ℕ, _-_, _≤_, _*_}
 use native.Mathlib.Omega.{arith}
 use borrow.Author.Needs.{needs}
 use lib.Ieee.{Float, nan}
@@ -26,10 +26,6 @@ Inv-loop out₀ d by g y₀ k₀ out y k =
 
 abbrev μ-loop : tie.MeasureT-loop
 μ-loop out₀ d by g y₀ k₀ out y k = g - k
-
--- one more of a run
-turn : (d : Float) (by k : ℕ) (x : Float) {y z : Float} → z ≡ after (plusStep d) by y → y ≡ run d by x k → z ≡ run d by x (k + 1)
-turn d by k x e h = e ∙ ap (after (plusStep d) by) h ∙ after-turn (plusStep d) by k x
 
 loop-holds : tie.Need-loop-holds Inv-loop μ-loop
 loop-holds c =
@@ -94,10 +90,10 @@ loop-again c =
       omega arith,
       at .inv .1,
       four-turn nan (s .out .now) (s .g) (at .inv .1) _ _ _ _ (at .inv .2) (omega arith) (at .y .x0) (at .y .x1) (at .y .x2) (at .y .x3) (at .inv .3) (at .inv .4) (at .inv .5) (at .inv .6),
-      turn (s .d) (s .by) (at .k) (s .q .x0) (q .0) (at .inv .3),
-      turn (s .d) (s .by) (at .k) (s .q .x1) (q .1) (at .inv .4),
-      turn (s .d) (s .by) (at .k) (s .q .x2) (q .2) (at .inv .5),
-      turn (s .d) (s .by) (at .k) (s .q .x3) (q .3) (at .inv .6),
+      after-turn (plusStep (s .d)) (s .by) (at .k) (s .q .x0) (q .0) (at .inv .3),
+      after-turn (plusStep (s .d)) (s .by) (at .k) (s .q .x1) (q .1) (at .inv .4),
+      after-turn (plusStep (s .d)) (s .by) (at .k) (s .q .x2) (q .2) (at .inv .5),
+      after-turn (plusStep (s .d)) (s .by) (at .k) (s .q .x3) (q .3) (at .inv .6),
     )
 
 same-length : tie.Need-same-length Inv-loop μ-loop

@@ -26,7 +26,7 @@ loop-less c = omega arith
 loop-again : tie.Need-loop-again Inv-loop μ-loop
 loop-again c =
     let s = c .before .before .args in
-    (omega arith, ap (plusStep (s .d)) (c .before .loop .inv .1) ∙ after-step (plusStep (s .d)) (c .before .loop .i) (s .x))
+    (omega arith, after-step (plusStep (s .d)) (c .before .loop .i) (s .x) (c .before .loop .inv .1))
 
 returns : tie.Need-returns Inv-loop μ-loop
 returns c =

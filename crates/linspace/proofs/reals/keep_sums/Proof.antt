@@ -1,23 +1,18 @@
 -- `linspace::reals::keep_sums` meets its contract. Assumes nothing.
-use mathlib.Core.Path.{_≡_, ap, _∙_}
-use Prim.Native.Nat.{ℕ, _*_, _+_}
+use mathlib.Core.Path.{_≡_}
+use Prim.Native.Nat.{_*_}
 use native.Mathlib.Omega.{arith}
 use Rattle.linspace.specs.RealSteps.{plusStep, after}
-use Rattle.linspace.proofs.Walks.{after-more}
-use lib.Ieee.{Float}
+use Rattle.linspace.proofs.Walks.{after-on}
 use borrow.Author.Needs.{needs}
 use Rattle.linspace.proofs.reals.keep_sums.Statement.{statement}
 use Rattle.linspace.proofs.reals.keep_sums.Tie as tie
 
--- h steps on from the sum after m
-on : (d a : Float) (h m n : ℕ) {x y : Float} → h + m ≡ n → y ≡ after (plusStep d) h x → x ≡ after (plusStep d) m a → y ≡ after (plusStep d) n a
-on d a h m n e p q = p ∙ ap (after (plusStep d) h) q ∙ after-more (plusStep d) h m a ∙ ap (λ (k : ℕ). after (plusStep d) k a) e
-
 two : (c : tie.After-advance2) → let s = c .before .before .args in c .advance2 .result ≡ after (plusStep (s .s .d)) (2 * s .h) (s .s .a)
-two c = let s = c .before .before .args in on (s .s .d) (s .s .a) (s .h) (s .h) (2 * s .h) (omega arith) (c .advance2 .ensures) (c .before .advance .ensures)
+two c = let s = c .before .before .args in after-on (plusStep (s .s .d)) (s .h) (s .h) (s .s .a) (omega arith) (c .advance2 .ensures) (c .before .advance .ensures)
 
 three : (c : tie.After-advance3) → let s = c .before .before .before .args in c .advance3 .result ≡ after (plusStep (s .s .d)) (3 * s .h) (s .s .a)
-three c = let s = c .before .before .before .args in on (s .s .d) (s .s .a) (s .h) (2 * s .h) (3 * s .h) (omega arith) (c .advance3 .ensures) (two (c .before))
+three c = let s = c .before .before .before .args in after-on (plusStep (s .s .d)) (s .h) (2 * s .h) (s .s .a) (omega arith) (c .advance3 .ensures) (two (c .before))
 
 advance-requires : tie.Need-advance-requires
 advance-requires c κs = search needs

@@ -12,7 +12,7 @@ use lib.ListN.{length}
 use Rattle.linspace.specs.List.{real, toward, entries}
 use Rattle.linspace.specs.RealSteps.{plusStep, after, all, Walked, Behind}
 use Rattle.linspace.specs.Walks.{headOf}
-use Rattle.linspace.proofs.Walks.{total-ends, total-full, after-more}
+use Rattle.linspace.proofs.Walks.{total-ends, total-full, after-on}
 use Rattle.linspace.proofs.Tracks.{Along, along-starts, along-on, Runs, runs-test}
 use Rattle.linspace.proofs.reals.walk_both.Statement.{statement}
 use Rattle.linspace.proofs.reals.walk_both.Tie as tie
@@ -90,7 +90,7 @@ loop-again c =
       i .1,
       gone,
       r .ensures .whole,
-      r .ensures .sum ∙ ap (after next (r .result .k - at .loop .y .k)) (i .4) ∙ after-more next (r .result .k - at .loop .y .k) (at .loop .y .k) (s .s .a) ∙ ap (λ (n : ℕ). after next n (s .s .a)) k,
+      after-on next (r .result .k - at .loop .y .k) (at .loop .y .k) (s .s .a) k (r .ensures .sum) (i .4),
       along-on (s .rises) (at .before .track-at .result) (at .loop .n) (at .loop .t) (on .step-on .result) (i .5) (into .loop-test .taken) (not-false _ (no .if1 .left)) (on .step-on .ensures),
     )
 
