@@ -1,7 +1,7 @@
 -- Demand 3, whole: every clause of specs/Mirror, from the mirror theorems of the crates below. Assumes nothing.
 use mathlib.Core.Path.{_≡_, refl, sym, ap, _∙_}
 use mathlib.Core.Bool.{true, false, not, _&&_, _||_}
-use mathlib.Core.List.{List, [], _∷_, map}
+use mathlib.Core.List.{List, [], _∷_, _++_, map}
 use Prim.Native.Nat.{ℕ}
 use lib.Dec.{ltb, eqb}
 use lib.IntN.{ℤ, pos, negℤ}
@@ -24,45 +24,40 @@ use Rattle.linspace.specs.Calls.{hasEntries, stepValues, stepMarks, stepKeyPoin
 use Rattle.linspace.specs.Mirror as step
 use Rattle.linspace.specs.Mirror.{Negated}
 use Rattle.linspace.proofs.Mirror as steps
-use Rattle.segmented.specs.Segments.{noSegments, segmentKeyPoints}
+use Rattle.segmented.specs.Segments.{unlisted, segmentKeyPoints}
 use Rattle.segmented.specs.Axes.{steppedAxis}
 use Rattle.segmented.specs.Mirror as segment
 use Rattle.segmented.proofs.Mirror as segments
 use Rattle.ruler.specs.Rule.{rulerBytes, rulerWrite, hasRuler}
 use Rattle.ruler.specs.Mirror.{accepted, verdict}
 use Rattle.ruler.proofs.Mirror as rulers-mirror
-use Rattle.mirror.specs.Mirror.{wrote, ruling, rulingBack, Rulers, marking, markingBack, Marks, Stepped, DemandThree}
-use Rattle.mirror.proofs.Written.{first-reason, accepted-is, wrote-is, turned-wrote}
+use Rattle.mirror.specs.Mirror.{wrote, ruling, rulingBack, Rulers, marking, markingBack, Marks, Lists, StepMarks, SegmentMarks, Stepped, DemandThree}
+use Rattle.mirror.proofs.Written.{accepted-is, accepted-tests, wrote-is, turned-wrote}
 
 -- ---- rulers
 module _ (a b : ℤ) (limit : Limit) (m : ℕ) where
   abbrev numbers : ℕ × ℕ
   numbers = (length (rulerBytes a b limit m), length (marks a b m))
 
-  -- the writer's reasons, from the last
-  abbrev short : List ℕ → List Reason
-  short old = 13 when ltb (length old) (length (rulerBytes a b limit m)) ∷ []
-
-  abbrev stepless : List ℕ → List Reason
-  stepless old = 3 when noStep a b m ∷ short old
-
-  abbrev off-film : List ℕ → List Reason
-  off-film old = 2 when not (limitAdmitted limit) ∷ stepless old
+  abbrev writer-reasons : List ℕ → List Reason
+  writer-reasons old =
+      1 when not (wholeAdmitted a && wholeAdmitted b)
+      ∷ 2 when not (limitAdmitted limit)
+      ∷ 3 when noStep a b m
+      ∷ 13 when ltb (length old) (length (rulerBytes a b limit m))
+      ∷ []
 
   -- an accepted writer has a ruler, and has written its bytes
   ruled : (old : List ℕ) → verdict (rulerWrite a b limit m old .0) ≡ accepted → hasRuler a b limit m ≡ true
   unfolding rulerWrite hasRuler
   ruled old e =
-      let one = first-reason numbers (1 when not (wholeAdmitted a && wholeAdmitted b)) (off-film old) e in
-      let two = first-reason numbers (2 when not (limitAdmitted limit)) (stepless old) (one .1) in
-      let three = first-reason numbers (3 when noStep a b m) (short old) (two .1) in
-      rw (not-false (wholeAdmitted a && wholeAdmitted b) (one .0), not-false (limitAdmitted limit) (two .0), three .0)
+      let tests = accepted-tests numbers (writer-reasons old) e in
+      rw (not-false (wholeAdmitted a && wholeAdmitted b) (tests .0), not-false (limitAdmitted limit) (tests .1 .0), tests .1 .1 .0)
 
   bytes-written : (old : List ℕ) → verdict (rulerWrite a b limit m old .0) ≡ accepted → wrote (λ x. x .0) (rulerWrite a b limit m old) ≡ rulerBytes a b limit m
   unfolding rulerWrite
   bytes-written old e =
-      let rs = 1 when not (wholeAdmitted a && wholeAdmitted b) ∷ off-film old in
-      wrote-is {A = ℕ × ℕ} (λ x. x .0) (lowest rs (given numbers)) numbers (rulerBytes a b limit m) old refl (accepted-is numbers rs e)
+      wrote-is {A = ℕ × ℕ} (λ x. x .0) (lowest (writer-reasons old) (given numbers)) numbers (rulerBytes a b limit m) old refl (accepted-is numbers (writer-reasons old) e)
 
 module _ (a b : ℤ) (limit : Limit) (m : ℕ) (old old' : List ℕ) (alike : BothLong (length (rulerBytes a b limit m)) old (length (rulerBytes (negℤ a) (negℤ b) (film.mirrored limit) m)) old') where
   verdicts : verdict (rulingBack a b limit m old old' .0) ≡ verdict (ruling a b limit m old old' .0)
@@ -91,21 +86,17 @@ module _ (a b : ℤ) (m : ℕ) where
   abbrev told : ℤ × ℕ
   told = (pos (stepOf a b m), length (marks a b m))
 
-  abbrev few : List ℤ → List Reason
-  few old = 13 when ltb (length old) (length (marks a b m)) ∷ []
-
-  abbrev without-step : List ℤ → List Reason
-  without-step old = 3 when noStep a b m ∷ few old
+  abbrev marker-reasons : List ℤ → List Reason
+  marker-reasons old = 1 when not (wholeAdmitted a && wholeAdmitted b) ∷ 3 when noStep a b m ∷ 13 when ltb (length old) (length (marks a b m)) ∷ []
 
   served : (old : List ℤ) → verdict (wholeKeyPoints a b m old .0) ≡ accepted → noStep a b m ≡ false
   unfolding wholeKeyPoints
-  served old e = first-reason told (3 when noStep a b m) (few old) (first-reason told (1 when not (wholeAdmitted a && wholeAdmitted b)) (without-step old) e .1) .0
+  served old e = accepted-tests told (marker-reasons old) e .1 .0
 
   marks-written : (old : List ℤ) → verdict (wholeKeyPoints a b m old .0) ≡ accepted → wrote (λ x. x .1) (wholeKeyPoints a b m old) ≡ marks a b m
   unfolding wholeKeyPoints
   marks-written old e =
-      let rs = 1 when not (wholeAdmitted a && wholeAdmitted b) ∷ without-step old in
-      wrote-is {A = ℤ × ℕ} (λ x. x .1) (lowest rs (given told)) told (marks a b m) old refl (accepted-is told rs e)
+      wrote-is {A = ℤ × ℕ} (λ x. x .1) (lowest (marker-reasons old) (given told)) told (marks a b m) old refl (accepted-is told (marker-reasons old) e)
 
 module _ (a b : ℤ) (m : ℕ) (old old' : List ℤ) (alike : BothLong (length (marks a b m)) old (length (marks (negℤ a) (negℤ b) m)) old') where
   same-step : stepOnly (markingBack a b m old old' .0) ≡ stepOnly (marking a b m old old' .0)
@@ -135,8 +126,7 @@ module _ {A : Type 0} (kind : Kind A) (opposite : A → A) (Turned : List A → 
       ∷ []
 
   list-entries : (old old' : List A) → Turned (stepped kind (opposite a) (opposite b) (opposite d)) (stepped kind a b d)
-      → stepValues kind (opposite a) (opposite b) (opposite d) old' .0 ≡ stepValues kind a b d old .0
-      → Turned (wrote (λ n. n) (stepValues kind (opposite a) (opposite b) (opposite d) old')) (wrote (λ n. n) (stepValues kind a b d old))
+      → stepValues kind (opposite a) (opposite b) (opposite d) old' .0 ≡ stepValues kind a b d old .0 → Lists kind opposite Turned a b d old old'
   unfolding stepValues
   list-entries old old' t e =
       turned-wrote Turned nothing (values-reasons a b d old) (values-reasons (opposite a) (opposite b) (opposite d) old') (stepped kind a b d) (stepped kind (opposite a) (opposite b) (opposite d)) old old' t e
@@ -151,8 +141,7 @@ module _ {A : Type 0} (kind : Kind A) (opposite : A → A) (Turned : List A → 
       ∷ []
 
   mark-entries : (m : ℕ) (old old' : List A) → Turned (stepMarks kind (opposite a) (opposite b) (opposite d) m) (stepMarks kind a b d m)
-      → stepKeyPoints kind (opposite a) (opposite b) (opposite d) m old' .0 ≡ stepKeyPoints kind a b d m old .0
-      → Turned (wrote (λ n. n) (stepKeyPoints kind (opposite a) (opposite b) (opposite d) m old')) (wrote (λ n. n) (stepKeyPoints kind a b d m old))
+      → stepKeyPoints kind (opposite a) (opposite b) (opposite d) m old' .0 ≡ stepKeyPoints kind a b d m old .0 → StepMarks kind opposite Turned a b d m old old'
   unfolding stepKeyPoints marks-reasons
   mark-entries m old old' t e =
       turned-wrote Turned nothing (marks-reasons a b d m old) (marks-reasons (opposite a) (opposite b) (opposite d) m old') (stepMarks kind a b d m) (stepMarks kind (opposite a) (opposite b) (opposite d) m) old old' t e
@@ -160,20 +149,11 @@ module _ {A : Type 0} (kind : Kind A) (opposite : A → A) (Turned : List A → 
   segment-reasons : A → A → A → ℕ → List A → List Reason
   segment-reasons a b d m old =
       let axis = steppedAxis kind a b d in
-      1 when not (axis .admitted)
-      ∷ 3 when axis .noStep m
-      ∷ 4 when noSegments axis
-      ∷ 6 when axis .against
-      ∷ 7 when axis .tooLong
-      ∷ 13 when ltb (length old) (length (axis .marks m))
-      ∷ []
+      1 when not (axis .admitted) ∷ 3 when axis .noStep m ∷ unlisted axis ++ (13 when ltb (length old) (length (axis .marks m)) ∷ [])
 
   segment-entries : (m : ℕ) (old old' : List A) → Turned (stepMarks kind (opposite a) (opposite b) (opposite d) m) (stepMarks kind a b d m)
       → segmentKeyPoints (steppedAxis kind (opposite a) (opposite b) (opposite d)) (length (stepMarks kind (opposite a) (opposite b) (opposite d) m)) m old' .0
-      ≡ segmentKeyPoints (steppedAxis kind a b d) (length (stepMarks kind a b d m)) m old .0
-      → Turned
-      (wrote (λ n. n) (segmentKeyPoints (steppedAxis kind (opposite a) (opposite b) (opposite d)) (length (stepMarks kind (opposite a) (opposite b) (opposite d) m)) m old'))
-      (wrote (λ n. n) (segmentKeyPoints (steppedAxis kind a b d) (length (stepMarks kind a b d m)) m old))
+      ≡ segmentKeyPoints (steppedAxis kind a b d) (length (stepMarks kind a b d m)) m old .0 → SegmentMarks kind opposite Turned a b d m old old'
   unfolding segmentKeyPoints segment-reasons
   segment-entries m old old' t e =
       turned-wrote Turned nothing (segment-reasons a b d m old) (segment-reasons (opposite a) (opposite b) (opposite d) m old') (stepMarks kind a b d m) (stepMarks kind (opposite a) (opposite b) (opposite d) m) old old' t e
@@ -182,13 +162,13 @@ module _ {A : Type 0} (kind : Kind A) (opposite : A → A) (Turned : List A → 
 stepped-axis : {A : Type 0} (kind : Kind A) (opposite : A → A) (Turned : List A → List A → Type 0) → Turned [] [] → (a b d : A) → step.Mirrored kind opposite Turned a b d → segment.Mirrored kind opposite a b d Turned → Stepped kind opposite Turned a b d
 stepped-axis kind opposite Turned nothing a b d k s =
     record {
-      lists = λ old old' h. let v = k .values old old' h in record { verdicts = v; entries = list-entries kind opposite Turned nothing a b d old old' (k .lists) v };
-      step-marks = λ m old old' h. let v = k .key-points m old old' h in record { verdicts = v; entries = mark-entries kind opposite Turned nothing a b d m old old' (k .marks m) v };
+      lists = λ old old' h. list-entries kind opposite Turned nothing a b d old old' (k .lists) (k .values old old' h);
+      step-marks = λ m old old' h. mark-entries kind opposite Turned nothing a b d m old old' (k .marks m) (k .key-points m old old' h);
       places = k .places;
       searches = k .searches;
       segment-indices = s .indices;
       segment-places = s .places;
-      segment-marks = λ m old old' h. let v = s .key-points m old old' h in record { verdicts = v; entries = segment-entries kind opposite Turned nothing a b d m old old' (s .marks m) v };
+      segment-marks = λ m old old' h. segment-entries kind opposite Turned nothing a b d m old old' (s .marks m) (s .key-points m old old' h);
     }
 
 whole-steps : (a b d : ℤ) → Stepped whole negℤ (λ new old. new ≡ map negℤ old) a b d

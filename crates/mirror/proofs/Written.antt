@@ -1,7 +1,7 @@
 -- What a call with lent memory has written, and that of its mirror, by their answers. Assumes nothing.
-use mathlib.Core.Path.{_≡_, refl, sym, ap, _∙_, subst}
-use mathlib.Core.Bool.{Bool, true, false, cond}
-use mathlib.Core.List.{List, [], _∷_}
+use mathlib.Core.Path.{_≡_, sym, ap, _∙_, subst}
+use mathlib.Core.Bool.{Bool, true, false}
+use mathlib.Core.List.{List, []}
 use mathlib.Core.Logic.{_⊎_, inl, inr}
 use Prim.Native.Nat.{ℕ}
 use lib.Dec.{T}
@@ -9,8 +9,9 @@ use lib.ListN.{length, drop}
 use lib.Seq.{take-append-seam}
 use Rattle.ranged1d.specs.Answer.{Answer, given, refused, Reason, lowest, written}
 use Rattle.ranged1d.proofs.Answers.{not-both}
+use Rattle.ranged1d.proofs.Lowest.{NoneOf, given-tests, either}
 use Rattle.ruler.specs.Mirror.{Verdict, accepted, empty, stopped, verdict}
-use Rattle.mirror.specs.Mirror.{wrote}
+use Rattle.mirror.specs.Mirror.{wrote, Alike}
 
 -- a refusal is no answer
 abbrev isAccepted : Verdict → Bool
@@ -18,45 +19,31 @@ isAccepted accepted = true
 isAccepted empty = false
 isAccepted (stopped n) = false
 
-pub not-stopped : {C : Type 0} (n : ℕ) → stopped n ≡ accepted → C
-not-stopped n e = absurd (subst T (sym (ap isAccepted e)) tt)
+not-stopped : (n : ℕ) → stopped n ≡ accepted → ⊥
+not-stopped n e = subst T (sym (ap isAccepted e)) tt
 
--- of an accepted call no reason applies, and the answer is the one that is given then
-module _ {A : Type 0} (x : A) where
-  pub first-reason : (r : Reason) (rs : List Reason) → verdict (lowest (r ∷ rs) (given x)) ≡ accepted → (r .applies ≡ false) × (verdict (lowest rs (given x)) ≡ accepted)
-  first-reason r rs e = go (r .applies) refl e
-    where
-      go : (t : Bool) → r .applies ≡ t → verdict (cond t (refused (r .number)) (lowest rs (given x))) ≡ accepted → (r .applies ≡ false) × (verdict (lowest rs (given x)) ≡ accepted)
-      go true h e = not-stopped (r .number) e
-      go false h e = (h, e)
+-- an accepted call gives the answer behind its reasons
+pub accepted-is : {A : Type 0} (x : A) (rs : List Reason) → verdict (lowest rs (given x)) ≡ accepted → lowest rs (given x) ≡ given x
+accepted-is x rs e = go (either x rs)
+  where
+    go : (lowest rs (given x) ≡ given x) ⊎ ((n : ℕ) × (lowest rs (given x) ≡ refused n)) → lowest rs (given x) ≡ given x
+    go (inl h) = h
+    go (inr h) = absurd (not-stopped (h .0) (sym (ap verdict (h .1)) ∙ e))
 
-  pub accepted-is : (rs : List Reason) → verdict (lowest rs (given x)) ≡ accepted → lowest rs (given x) ≡ given x
-  accepted-is [] e = refl
-  accepted-is (r ∷ rs) e = let w = first-reason r rs e in rw (w .0) (accepted-is rs (w .1))
-
-  -- there is an answer, or a refusal
-  pub either : (rs : List Reason) → (lowest rs (given x) ≡ given x) ⊎ ((n : ℕ) × (lowest rs (given x) ≡ refused n))
-  either [] = inl refl
-  either (r ∷ rs) = go (r .applies) (either rs)
-    where
-      go : (t : Bool) → (lowest rs (given x) ≡ given x) ⊎ ((n : ℕ) × (lowest rs (given x) ≡ refused n))
-          → (cond t (refused (r .number)) (lowest rs (given x)) ≡ given x) ⊎ ((n : ℕ) × (cond t (refused (r .number)) (lowest rs (given x)) ≡ refused n))
-      go true w = inr (r .number, refl)
-      go false w = w
+-- so that no reason applies
+pub accepted-tests : {A : Type 0} (x : A) (rs : List Reason) → verdict (lowest rs (given x)) ≡ accepted → NoneOf rs
+accepted-tests x rs e = given-tests rs (given x) (accepted-is x rs e) .0
 
 -- ---- what was written
 pub wrote-is : {A B : Type 0} (many : A → ℕ) (answer : Answer A) (x : A) (new old : List B) → many x ≡ length new → answer ≡ given x → wrote many (written answer new old) ≡ new
 wrote-is many answer x new old n e = rw (e, n) (take-append-seam new (drop (length new) old))
 
-pub wrote-none : {A B : Type 0} (many : A → ℕ) (answer : Answer A) (k : ℕ) (new old : List B) → answer ≡ refused k → wrote many (written answer new old) ≡ []
-wrote-none many answer k new old e = rw e refl
-
 -- a list and its mirror, written by calls that answer alike
 module _ {B : Type 0} (Turned : List B → List B → Type 0) (nothing : Turned [] []) where
   pub turned-wrote : (rs rs' : List Reason) (new new' old old' : List B) → Turned new' new
       → lowest rs' (given (length new')) ≡ lowest rs (given (length new))
-      → Turned (wrote (λ n. n) (written (lowest rs' (given (length new'))) new' old')) (wrote (λ n. n) (written (lowest rs (given (length new))) new old))
-  turned-wrote rs rs' new new' old old' t e = go (either (length new) rs) (either (length new') rs')
+      → Alike Turned (written (lowest rs' (given (length new'))) new' old') (written (lowest rs (given (length new))) new old)
+  turned-wrote rs rs' new new' old old' t e = record { verdicts = e; entries = go (either (length new) rs) (either (length new') rs') }
     where
       go : (lowest rs (given (length new)) ≡ given (length new)) ⊎ ((n : ℕ) × (lowest rs (given (length new)) ≡ refused n))
           → (lowest rs' (given (length new')) ≡ given (length new')) ⊎ ((n : ℕ) × (lowest rs' (given (length new')) ≡ refused n))

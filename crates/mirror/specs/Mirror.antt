@@ -91,26 +91,25 @@ module _ (a b : ℤ) (m : ℕ) (old old' : List ℤ) where
 
 -- ---- demand 3, the second half, and the rest of 01's section: what is said of stepped axes, over either kind of numbers, `opposite` negating one. A list
 -- and its mirror are negated entry for entry in the same order: `Turned old new` says so.
-module _ {A : Type 0} (kind : Kind A) (opposite : A → A) (Turned : List A → List A → Type 0) (a b d : A) where
-  -- the list, and its marks, as the calls write them, where the memory is long enough on both sides or on neither: negated entry for entry,
-  -- and both are refused with the same number or neither is
-  pub record Lists (old old' : List A) : Type 0 where
-    pub verdicts : stepValues kind (opposite a) (opposite b) (opposite d) old' .0 ≡ stepValues kind a b d old .0
-    pub entries : Turned (wrote (λ n. n) (stepValues kind (opposite a) (opposite b) (opposite d) old')) (wrote (λ n. n) (stepValues kind a b d old))
+-- What a call and its mirror have done: both are refused with the same number or neither is, and what they wrote is negated entry for entry.
+pub record Alike {A : Type 0} (Turned : List A → List A → Type 0) (back here : Answer ℕ × List A) : Type 0 where
+  pub verdicts : back .0 ≡ here .0
+  pub entries : Turned (wrote (λ n. n) back) (wrote (λ n. n) here)
 
-  pub record StepMarks (m : ℕ) (old old' : List A) : Type 0 where
-    pub verdicts : stepKeyPoints kind (opposite a) (opposite b) (opposite d) m old' .0 ≡ stepKeyPoints kind a b d m old .0
-    pub entries : Turned (wrote (λ n. n) (stepKeyPoints kind (opposite a) (opposite b) (opposite d) m old')) (wrote (λ n. n) (stepKeyPoints kind a b d m old))
+module _ {A : Type 0} (kind : Kind A) (opposite : A → A) (Turned : List A → List A → Type 0) (a b d : A) where
+  -- the list, and its marks, as the calls write them, where the memory is long enough on both sides or on neither
+  abbrev pub Lists : List A → List A → Type 0
+  Lists old old' = Alike Turned (stepValues kind (opposite a) (opposite b) (opposite d) old') (stepValues kind a b d old)
+
+  abbrev pub StepMarks : ℕ → List A → List A → Type 0
+  StepMarks m old old' = Alike Turned (stepKeyPoints kind (opposite a) (opposite b) (opposite d) m old') (stepKeyPoints kind a b d m old)
 
   -- the marks of segments over it
-  pub record SegmentMarks (m : ℕ) (old old' : List A) : Type 0 where
-    pub verdicts :
-        segmentKeyPoints (steppedAxis kind (opposite a) (opposite b) (opposite d)) (length (stepMarks kind (opposite a) (opposite b) (opposite d) m)) m old' .0
-        ≡ segmentKeyPoints (steppedAxis kind a b d) (length (stepMarks kind a b d m)) m old .0
-    pub entries :
-        Turned
-        (wrote (λ n. n) (segmentKeyPoints (steppedAxis kind (opposite a) (opposite b) (opposite d)) (length (stepMarks kind (opposite a) (opposite b) (opposite d) m)) m old'))
-        (wrote (λ n. n) (segmentKeyPoints (steppedAxis kind a b d) (length (stepMarks kind a b d m)) m old))
+  abbrev pub SegmentMarks : ℕ → List A → List A → Type 0
+  SegmentMarks m old old' =
+      Alike Turned
+      (segmentKeyPoints (steppedAxis kind (opposite a) (opposite b) (opposite d)) (length (stepMarks kind (opposite a) (opposite b) (opposite d) m)) m old')
+      (segmentKeyPoints (steppedAxis kind a b d) (length (stepMarks kind a b d m)) m old)
 
   pub record Stepped : Type 0 where
     pub lists : (old old' : List A) → BothLong (length (stepped kind a b d)) old (length (stepped kind (opposite a) (opposite b) (opposite d))) old' → Lists old old'

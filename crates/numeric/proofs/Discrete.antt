@@ -10,12 +10,13 @@ use lib.Dec.{T}
 use lib.Ieee.Bits.{is-true}
 use lib.IntN.{ℤ, pos, negsuc, natAbs, _+ℤ_, _-ℤ_, +ℤ-idr, +ℤ-comm, +ℤ-negℤ-cancel, -ℤ-+ℤ-cancel}
 use lib.Signed.{ltZ, leZ, _≤ℤ_, pos-natAbs}
-use borrow.Author.Tests.{leb-true, le-leb, le-ltb}
+use borrow.Author.Tests.{leb-true, le-leb, le-ltb, not-false}
 use mir.Facts.{and-yes}
 use Rattle.ranged1d.specs.Answer.{given, none, _when_, lowest}
 use Rattle.ranged1d.specs.Admitted.{wholeAdmitted, pixelAdmitted, limitAdmitted}
 use Rattle.ranged1d.specs.declared.Limit.{Limit}
-use Rattle.ranged1d.proofs.Answers.{given-is, not-both, not-none}
+use Rattle.ranged1d.proofs.Answers.{given-is, not-both, not-none, choice}
+use Rattle.ranged1d.proofs.Lowest.{given-tests}
 use Rattle.ranged1d.proofs.Whole.{sub-cases, minus-far, not-lt, ordered}
 use Rattle.discrete.specs.Index.{noIndex}
 use Rattle.discrete.proofs.Index.{not-zero}
@@ -45,12 +46,6 @@ index-tests true false e = (refl, refl, given-is e)
 index-tests true true e = absurd (not-none e)
 index-tests false u e = absurd (not-both (sym e))
 
-value-tests : {w v : ℤ} (t i h : Bool) → lowest (1 when not t ∷ 10 when (i && h) ∷ []) (cond i (given w) none) ≡ given v → (t ≡ true) × (w ≡ v)
-value-tests true true false e = (refl, given-is e)
-value-tests true true true e = absurd (not-both (sym e))
-value-tests true false h e = absurd (not-none e)
-value-tests false i h e = absurd (not-both (sym e))
-
 -- ---- from a value to its index and back
 module _ (a b v : ℤ) where
   pub index-given : endsAdmitted a b ≡ true → wholeAdmitted v ≡ true → a ≤ℤ v → wholeIndexOf a b v ≡ given (natAbs (v -ℤ a))
@@ -73,8 +68,8 @@ module _ (a b v : ℤ) where
 pub index-of-value : (a b : ℤ) (k : ℕ) {v : ℤ} → wholeFromIndex a b k ≡ given v → wholeAdmitted v ≡ true → wholeIndexOf a b v ≡ given k
 unfolding wholeIndexOf wholeFromIndex
 index-of-value a b k e h =
-    let tests = value-tests (endsAdmitted a b) (isIndex k) (ltZ (pos 2147483647) (a +ℤ pos k)) e in
-    rw (tests .0, h, ← tests .1, not-before a k, back-to-start a k)
+    let told = given-tests (1 when not (endsAdmitted a b) ∷ 10 when (isIndex k && ltZ (pos 2147483647) (a +ℤ pos k)) ∷ []) (cond (isIndex k) (given (a +ℤ pos k)) none) e in
+    rw (not-false (endsAdmitted a b) (told .0 .0), h, ← choice (isIndex k) (a +ℤ pos k) _ (told .1) .1, not-before a k, back-to-start a k)
 
 -- ---- a pixel between the limits
 -- an index up to the count: it is one, and the value there is an i32

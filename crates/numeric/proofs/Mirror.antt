@@ -12,8 +12,9 @@ use lib.Dec.{T, leb, ltb, eqb}
 use lib.IntN.{ℤ, pos, negsuc, negℤ, natAbs, _+ℤ_, _*ℤ_, +ℤ-comm, negℤ-negℤ}
 use lib.ListN.{length, length-append, length-map, length-reverse}
 use lib.Signed.{leZ, ltZ, quotZ, _<ℤ_}
-use Rattle.ranged1d.specs.Answer.{Answer, given, _when_, lowest, BothLong}
+use Rattle.ranged1d.specs.Answer.{Answer, given, Reason, _when_, lowest, BothLong}
 use Rattle.ranged1d.specs.Admitted.{wholeAdmitted}
+use Rattle.ranged1d.proofs.Lowest.{lowest-then}
 use Rattle.ranged1d.proofs.Whole.{neg-far, other-way, both-ways, neg-le, neg-lt, neg-times}
 use Rattle.numeric.specs.Marks.{low, high, distance, stepAt, chosen, ceilDiv, firstIndex, lastIndex, multiple, multiples, noStepFor, stepFor, marksFor, noStep, stepOf, marks}
 use Rattle.numeric.specs.Calls.{wholeKeyPoints}
@@ -161,13 +162,6 @@ pub distance-neg : (lo hi : ℤ) → distance (negℤ hi) (negℤ lo) ≡ distan
 distance-neg lo hi = ap natAbs (ap (λ (z : ℤ). negℤ lo +ℤ z) (negℤ-negℤ hi) ∙ +ℤ-comm (negℤ lo) hi)
 
 -- ---- the axis with the ends a and b
--- an answer without its count goes by the same tests
-strip : (t u v : Bool) (z : ℤ) (n : ℕ) → stepOnly (lowest (1 when t ∷ 3 when u ∷ 13 when v ∷ []) (given (z, n))) ≡ lowest (1 when t ∷ 3 when u ∷ 13 when v ∷ []) (given z)
-strip true u v z n = refl
-strip false true v z n = refl
-strip false false true z n = refl
-strip false false false z n = refl
-
 pub length-mirrored : (l : List ℤ) → length (mirrored l) ≡ length l
 length-mirrored l = length-reverse (map negℤ l) ∙ length-map l negℤ
 
@@ -190,6 +184,13 @@ nearest-below : (lo hi : ℤ) → leZ lo hi ≡ true → hi <ℤ pos 0 → neare
 nearest-below lo (pos q) l h = absurd (omega (arith, ltb-true q 0 (lt-yes h)))
 nearest-below (pos p) (negsuc q) l h = absurd (subst T (sym l) tt)
 nearest-below (negsuc p) (negsuc q) l h = refl
+
+-- the reasons of `key_points`, and its answer without the count
+abbrev reasons : Bool → Bool → Bool → List Reason
+reasons t u v = 1 when t ∷ 3 when u ∷ 13 when v ∷ []
+
+abbrev by : Bool → Bool → Bool → ℕ → Answer ℤ
+by t u v n = lowest (reasons t u v) (given (pos n))
 
 module _ (a b : ℤ) (m : ℕ) where
   lo : ℤ
@@ -220,14 +221,11 @@ module _ (a b : ℤ) (m : ℕ) where
   verdict : (old old′ : List ℤ) → BothLong (length (marks a b m)) old (length (marks (negℤ a) (negℤ b) m)) old′ → stepOnly (wholeKeyPoints (negℤ a) (negℤ b) m old′ .0) ≡ stepOnly (wholeKeyPoints a b m old .0)
   unfolding wholeKeyPoints
   verdict old old′ e =
-      strip (not (wholeAdmitted (negℤ a) && wholeAdmitted (negℤ b))) (noStep (negℤ a) (negℤ b) m) (ltb (length old′) (length (marks (negℤ a) (negℤ b) m))) (pos (stepOf (negℤ a) (negℤ b) m)) _
+      lowest-then (reasons (not (wholeAdmitted (negℤ a) && wholeAdmitted (negℤ b))) (noStep (negℤ a) (negℤ b) m) (ltb (length old′) (length (marks (negℤ a) (negℤ b) m)))) _ (λ x. given (x .0))
       ∙ ap₂ (λ (x y : ℕ). by (not (leb x 1_000_000_000 && leb y 1_000_000_000)) (noStep (negℤ a) (negℤ b) m) (ltb (length old′) (length (marks (negℤ a) (negℤ b) m))) (stepOf (negℤ a) (negℤ b) m)) (neg-far a) (neg-far b)
       ∙ ap₂ (λ (u : Bool) (n : ℕ). by (not (wholeAdmitted a && wholeAdmitted b)) u (ltb (length old′) (length (marks (negℤ a) (negℤ b) m))) n) no-step-neg step-neg
       ∙ ap (λ (v : Bool). by (not (wholeAdmitted a && wholeAdmitted b)) (noStep a b m) v (stepOf a b m)) (sym e)
-      ∙ sym (strip (not (wholeAdmitted a && wholeAdmitted b)) (noStep a b m) (ltb (length old) (length (marks a b m))) (pos (stepOf a b m)) _)
-    where
-      by : Bool → Bool → Bool → ℕ → Answer ℤ
-      by t u v n = lowest (1 when t ∷ 3 when u ∷ 13 when v ∷ []) (given (pos n))
+      ∙ sym (lowest-then (reasons (not (wholeAdmitted a && wholeAdmitted b)) (noStep a b m) (ltb (length old) (length (marks a b m)))) _ (λ x. given (x .0)))
 
   -- where a step serves
   module _ (served : noStep a b m ≡ false) where

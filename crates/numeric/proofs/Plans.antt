@@ -8,13 +8,16 @@ use lib.Dec.{T, leb, ltb}
 use lib.IntN.{ℤ, pos, negsuc, natAbs, _*ℤ_, pos-ne-negsuc}
 use lib.ListN.{length, drop, length-map}
 use lib.Signed.{leZ, nonNeg}
-use borrow.Author.Tests.{leb-true, leb-false, lt-ltb, le-ltb}
-use Rattle.ranged1d.specs.Answer.{Answer, given, none, refused, _when_, lowest, written}
+use borrow.Author.Tests.{leb-false, lt-ltb, le-ltb, not-false}
+use Rattle.ranged1d.specs.Answer.{Answer, given, refused, _when_, lowest, written, andThen}
 use Rattle.ranged1d.specs.Admitted.{wholeAdmitted}
+use Rattle.ranged1d.proofs.Answers.{given-is}
 use Rattle.ranged1d.proofs.Bools as tests
+use Rattle.ranged1d.proofs.Lowest.{given-tests, lowest-then}
+use Rattle.ranged1d.proofs.Whole.{both-near}
 use Rattle.numeric.specs.declared.KeyPoints.{KeyPoints}
 use Rattle.numeric.specs.Marks.{low, high, distance, chosen, stepAt, firstIndex, lastIndex, howMany, listOf, multiple, noStepFor, noStep, stepFor, stepOf, marksFor, marks}
-use Rattle.numeric.specs.Calls.{wholeKeyPoints, wholePlan, planOf, element, indexMarks, indexKeyPoints}
+use Rattle.numeric.specs.Calls.{keyPointsBy, wholeKeyPoints, wholePlan, planOf, element, indexMarks, indexKeyPoints}
 use Rattle.numeric.proofs.Lists.{length-of, list-ext, map-list}
 use Rattle.numeric.proofs.Steps.{step-pos, step-top}
 use Rattle.numeric.proofs.Bounds.{multiple-element, marks-near, count-near}
@@ -56,50 +59,27 @@ module _ (a b : ℤ) (m : ℕ) where
             (omega (arith, both .0), rw (← multiple-element i s j) (both .1));
       }
 
-  GoodPlan : Answer KeyPoints → Type 0
-  GoodPlan (given p) = Good a b m p
-  GoodPlan none = Unit {0}
-  GoodPlan (refused n) = Unit {0}
-
-  all-good : GoodPlan (wholePlan a b m)
-  unfolding GoodPlan wholePlan noStepFor
-  all-good = go (wholeAdmitted a) refl (wholeAdmitted b) refl (leb 28 (chosen (distance (low a b) (high a b)) m)) refl
-    where
-      go : (ta : Bool) → wholeAdmitted a ≡ ta → (tb : Bool) → wholeAdmitted b ≡ tb → (t : Bool) → leb 28 (chosen (distance (low a b) (high a b)) m) ≡ t
-          → GoodPlan (lowest (1 when not (ta && tb) ∷ 3 when t ∷ []) (given (planOf a b m)))
-      go true ea true eb false et = good-plan (leb-true _ _ ea) (leb-true _ _ eb) (leb-false _ _ et)
-      go true ea true eb true et = tt
-      go true ea false eb t et = tt
-      go false ea tb eb t et = tt
-
   pub planned-good : {p : KeyPoints} → wholePlan a b m ≡ given p → Good a b m p
-  unfolding GoodPlan
-  planned-good e = subst GoodPlan e all-good
+  unfolding wholePlan noStepFor
+  planned-good e =
+      let told = given-tests (1 when not (wholeAdmitted a && wholeAdmitted b) ∷ 3 when noStep a b m ∷ []) (given (planOf a b m)) e in
+      let near = both-near 1_000_000_000 a b (not-false (wholeAdmitted a && wholeAdmitted b) (told .0 .0)) in
+      subst (Good a b m) (given-is (told .1)) (good-plan (near .0) (near .1) (leb-false _ _ (told .0 .1 .0)))
 
 -- What `key_points` does, by the plan: one law for every element type A, with f from whole numbers to A and `new` the marks as A has
 -- them. The rules of specs/Calls are `ruleBy` at f = λ z. z and at f = natAbs.
 module _ {A : Type 0} (f : ℤ → A) (a b : ℤ) (m : ℕ) (new old : List A) (same : length new ≡ length (marks a b m)) where
   abbrev pub ruleBy : Answer (A × ℕ) × List A
-  ruleBy =
-      written
-      (lowest (1 when not (wholeAdmitted a && wholeAdmitted b) ∷ 3 when noStep a b m ∷ 13 when ltb (length old) (length new) ∷ []) (given (f (pos (stepOf a b m)), length new)))
-      new
-      old
+  ruleBy = keyPointsBy (wholeAdmitted a && wholeAdmitted b) (f (pos (stepOf a b m))) a b m new old
 
+  -- the plan's count and step, put behind its own reasons
   byPlan : Answer KeyPoints → Answer (A × ℕ) × List A
-  byPlan (given p) = written (lowest (13 when ltb (length old) (p .count) ∷ []) (given (f (p .step), p .count))) new old
-  byPlan none = (none, old)
-  byPlan (refused n) = (refused n, old)
+  byPlan r = written (andThen r (λ p. lowest (13 when ltb (length old) (p .count) ∷ []) (given (f (p .step), p .count)))) new old
 
   by-plan : ruleBy ≡ byPlan (wholePlan a b m)
   unfolding wholePlan byPlan
-  by-plan = rw same (go (not (wholeAdmitted a && wholeAdmitted b)) (noStep a b m))
-    where
-      go : (t u : Bool) → written (lowest (1 when t ∷ 3 when u ∷ 13 when ltb (length old) (length (marks a b m)) ∷ []) (given (f (pos (stepOf a b m)), length (marks a b m)))) new old
-          ≡ byPlan (lowest (1 when t ∷ 3 when u ∷ []) (given (planOf a b m)))
-      go true u = refl
-      go false true = refl
-      go false false = refl
+  by-plan = rw same (ap (λ (r : Answer (A × ℕ)). written r new old)
+      (sym (lowest-then (1 when not (wholeAdmitted a && wholeAdmitted b) ∷ 3 when noStep a b m ∷ []) (given (planOf a b m)) (λ p. lowest (13 when ltb (length old) (p .count) ∷ []) (given (f (p .step), p .count))))))
 
   pub plan-refused : {n : ℕ} → wholePlan a b m ≡ refused n → ruleBy ≡ (refused n, old)
   unfolding byPlan

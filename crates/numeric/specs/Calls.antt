@@ -1,7 +1,7 @@
 -- What each call of numeric answers, on every input, and what the list lent to it holds afterwards: 01 "Marks on a whole axis" with the
 -- refusals of 01 "Why a call stops". Assumes nothing.
 use Prim.Native.Nat.{ℕ}
-use mathlib.Core.Bool.{cond, not, _&&_}
+use mathlib.Core.Bool.{Bool, cond, not, _&&_}
 use mathlib.Core.List.{List, [], _∷_, map}
 use lib.Dec.{ltb}
 use lib.IntN.{ℤ, pos, natAbs, _+ℤ_, _*ℤ_}
@@ -38,20 +38,19 @@ abbrev pub tellPoint : Point → Answer ℤ
 tellPoint (point-is.At v) = given v
 tellPoint point-is.Nothing = none
 
--- ---- RangedCoordi32
--- `key_points`: 1 where an end is not admitted, 3 where no step serves, 13 where the lent list is too short; else the step and the
--- number of marks, which is the length of their list, and the marks at the start of the lent list
-unfoldable pub wholeKeyPoints : ℤ → ℤ → ℕ → List ℤ → Answer (ℤ × ℕ) × List ℤ
-wholeKeyPoints a b m old =
+-- ---- `key_points`, of either kind of axis, from whether its ends are admitted, the step and the list of marks as it has them: 1 where
+-- an end is not admitted, 3 where no step serves, 13 where the lent list is too short; else the step and the number of marks, which is the
+-- length of their list, and the marks at the start of the lent list
+abbrev pub keyPointsBy : {A : Type 0} → Bool → A → ℤ → ℤ → ℕ → List A → List A → Answer (A × ℕ) × List A
+keyPointsBy admitted step a b m new old =
     written
-    (lowest (
-    1 when not (wholeAdmitted a && wholeAdmitted b)
-    ∷ 3 when noStep a b m
-    ∷ 13 when ltb (length old) (length (marks a b m))
-    ∷ []
-    ) (given (pos (stepOf a b m), length (marks a b m))))
-    (marks a b m)
+    (lowest (1 when not admitted ∷ 3 when noStep a b m ∷ 13 when ltb (length old) (length new) ∷ []) (given (step, length new)))
+    new
     old
+
+-- ---- RangedCoordi32
+unfoldable pub wholeKeyPoints : ℤ → ℤ → ℕ → List ℤ → Answer (ℤ × ℕ) × List ℤ
+wholeKeyPoints a b m old = keyPointsBy (wholeAdmitted a && wholeAdmitted b) (pos (stepOf a b m)) a b m (marks a b m) old
 
 -- `plan`: the same marks unwritten: where the first of them lies, the step to the next, and how many they are. Where there is no
 -- mark, `first` is the multiple that would be the first.
@@ -80,13 +79,4 @@ abbrev pub indexMarks : ℕ → ℕ → ℕ → List ℕ
 indexMarks a b m = map natAbs (marks (pos a) (pos b) m)
 
 unfoldable pub indexKeyPoints : ℕ → ℕ → ℕ → List ℕ → Answer (ℕ × ℕ) × List ℕ
-indexKeyPoints a b m old =
-    written
-    (lowest (
-    1 when not (indexAdmitted a && indexAdmitted b)
-    ∷ 3 when noStep (pos a) (pos b) m
-    ∷ 13 when ltb (length old) (length (indexMarks a b m))
-    ∷ []
-    ) (given (stepOf (pos a) (pos b) m, length (indexMarks a b m))))
-    (indexMarks a b m)
-    old
+indexKeyPoints a b m old = keyPointsBy (indexAdmitted a && indexAdmitted b) (stepOf (pos a) (pos b) m) (pos a) (pos b) m (indexMarks a b m) old

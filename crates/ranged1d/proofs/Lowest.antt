@@ -1,14 +1,16 @@
 -- What `lowest` returns, where the reasons are listed with rising numbers: if a reason applies, a refusal whose number is no higher
--- than that reason's; if none does, the answer. Assumes nothing.
+-- than that reason's; if none does, the answer. Then what a given answer and a refusal say of the reasons, and of more of them.
+-- Assumes nothing.
 use mathlib.Core.Path.{_≡_, refl, sym, ap, _∙_, subst}
 use mathlib.Core.Bool.{Bool, true, false, cond, _&&_}
-use mathlib.Core.List.{List, [], _∷_, List·Memᴰ, List·Memᴰ·head, List·Memᴰ·tail, List·Memᴰ·cases-cons, List·Memᴰ·not-nil}
+use mathlib.Core.List.{List, [], _∷_, _++_, List·Memᴰ, List·Memᴰ·head, List·Memᴰ·tail, List·Memᴰ·cases-cons, List·Memᴰ·not-nil}
 use mathlib.Core.Logic.{_⊎_, inl, inr}
 use Prim.Native.Nat.{ℕ, _≤_, _<_}
 use native.Mathlib.Omega.{arith}
 use lib.Dec.{T, ltb, ltb→lt}
 use mir.Facts.{and-yes}
-use Rattle.ranged1d.specs.Answer.{Answer, refused, Reason, lowest}
+use Rattle.ranged1d.specs.Answer.{Answer, given, refused, Reason, lowest, andThen}
+use Rattle.ranged1d.proofs.Answers.{not-both, one-refusal}
 
 -- the numbers rise, from above k
 abbrev pub rising : ℕ → List Reason → Bool
@@ -38,3 +40,47 @@ module _ {A : Type 0} (a : Answer A) where
   pub none-applies : (rs : List Reason) → ((r : Reason) → List·Memᴰ r rs → r .applies ≡ false) → lowest rs a ≡ a
   none-applies [] h = refl
   none-applies (x ∷ rs) h = rw (h x (List·Memᴰ·head refl)) (none-applies rs (λ r m. h r (List·Memᴰ·tail m)))
+
+-- no reason of the list applies
+abbrev pub NoneOf : List Reason → Type 0
+NoneOf [] = Unit {0}
+NoneOf (r ∷ rs) = (r .applies ≡ false) × NoneOf rs
+
+module _ {A : Type 0} where
+  -- where an answer is given no reason applies, and it is the one behind the reasons
+  pub given-tests : (rs : List Reason) (a : Answer A) {y : A} → lowest rs a ≡ given y → NoneOf rs × (a ≡ given y)
+  given-tests [] a e = (tt, e)
+  given-tests (r ∷ rs) a {y} e = go (r .applies) refl (given-tests rs a) e
+    where
+      go : (t : Bool) → r .applies ≡ t → (lowest rs a ≡ given y → NoneOf rs × (a ≡ given y)) → cond t (refused (r .number)) (lowest rs a) ≡ given y → NoneOf (r ∷ rs) × (a ≡ given y)
+      go true h rest e = absurd (not-both (sym e))
+      go false h rest e = let w = rest e in ((h, w .0), w .1)
+
+  -- there is an answer, or a refusal
+  pub either : (x : A) (rs : List Reason) → (lowest rs (given x) ≡ given x) ⊎ ((n : ℕ) × (lowest rs (given x) ≡ refused n))
+  either x [] = inl refl
+  either x (r ∷ rs) = go (r .applies) (either x rs)
+    where
+      go : (t : Bool) → (lowest rs (given x) ≡ given x) ⊎ ((n : ℕ) × (lowest rs (given x) ≡ refused n))
+          → (cond t (refused (r .number)) (lowest rs (given x)) ≡ given x) ⊎ ((n : ℕ) × (cond t (refused (r .number)) (lowest rs (given x)) ≡ refused n))
+      go true w = inr (r .number, refl)
+      go false w = w
+
+module _ {A B : Type 0} where
+  -- what is refused stays refused with more reasons behind, whatever the answer would be
+  pub stops : (rs more : List Reason) (b : Answer B) (x : A) {n : ℕ} → lowest rs (given x) ≡ refused n → lowest (rs ++ more) b ≡ refused n
+  stops [] more b x e = absurd (not-both e)
+  stops (r ∷ rs) more b x {n} e = go (r .applies) (stops rs more b x) e
+    where
+      go : (t : Bool) → (lowest rs (given x) ≡ refused n → lowest (rs ++ more) b ≡ refused n) → cond t (refused (r .number)) (lowest rs (given x)) ≡ refused n → cond t (refused (r .number)) (lowest (rs ++ more) b) ≡ refused n
+      go true rest e = one-refusal e
+      go false rest e = rest e
+
+  -- what is done with an answer is done behind the reasons
+  pub lowest-then : (rs : List Reason) (a : Answer A) (f : A → Answer B) → andThen (lowest rs a) f ≡ lowest rs (andThen a f)
+  lowest-then [] a f = refl
+  lowest-then (r ∷ rs) a f = go (r .applies) (lowest-then rs a f)
+    where
+      go : (t : Bool) → andThen (lowest rs a) f ≡ lowest rs (andThen a f) → andThen (cond t (refused (r .number)) (lowest rs a)) f ≡ cond t (refused (r .number)) (lowest rs (andThen a f))
+      go true e = refl
+      go false e = e

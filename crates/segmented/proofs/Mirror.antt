@@ -1,5 +1,5 @@
 -- The mirror theorem for segments over stepped axes, once over a kind of numbers. Assumes nothing.
-use mathlib.Core.Path.{_≡_, refl, sym, ap, subst, _∙_}
+use mathlib.Core.Path.{_≡_, refl, sym, ap, ap₂, subst, _∙_}
 use mathlib.Core.Logic.{_⊎_, inl, inr}
 use mathlib.Core.Bool.{Bool, true, false, cond, _&&_, _||_}
 use mathlib.Core.List.{List, [], _∷_}
@@ -12,6 +12,7 @@ use Rattle.ranged1d.specs.Admitted.{wholeAdmitted, limitAdmitted}
 use Rattle.ranged1d.specs.declared.Limit.{Limit}
 use Rattle.ranged1d.proofs.Answers.{not-none, not-both}
 use Rattle.ranged1d.proofs.Bools.{both-true}
+use Rattle.ranged1d.proofs.Lowest.{lowest-then}
 use Rattle.rounding.specs.declared.Whole.{Whole}
 use Rattle.rounding.specs.declared.Whole.the-variants.{Number, Beyond}
 use Rattle.rounding.proofs.Signs as place
@@ -60,12 +61,7 @@ alone-neg x m = ap (λ (z : ℤ). negℤ x +ℤ z) (half-neg m) ∙ sym (negℤ-
 -- 5, then 9, then the place
 by-parts : (f f' u u' : Bool) (r r' : Answer ℤ) → f ≡ f' → u ≡ u' → r ≡ negated r'
     → lowest (5 when f ∷ 9 when u ∷ []) r ≡ negated (lowest (5 when f' ∷ 9 when u' ∷ []) r')
-by-parts f f' u u' r r' e g h = rw (e, g, h) (go f' u')
-  where
-    go : (f u : Bool) → lowest (5 when f ∷ 9 when u ∷ []) (negated r') ≡ negated (lowest (5 when f ∷ 9 when u ∷ []) r')
-    go true u = refl
-    go false true = refl
-    go false false = refl
+by-parts f f' u u' r r' e g h = rw (e, g, h) (sym (lowest-then (5 when f' ∷ 9 when u' ∷ []) r' (λ z. given (negℤ z))))
 
 -- ---- an entry and its mirror, or none of both
 data Paired {A : Type 0} (R : A → A → Type 0) : Answer A → Answer A → Type 0 where
@@ -205,12 +201,9 @@ module _ {A : Type 0} (kind : Kind A) (R : A → A → Type 0) (K : KindTurns ki
           (findHere kind opposite a b d method .unsought v)
           (middle M (opposite v) (mirrored limit) x)
           (middle H v limit y)
-          (either _ _ _ _ (ap isBeyond (begun v f) ∙ beyond-neg (start H v limit)) (afters v f x y (succeeds method v) (next-fit method v)))
+          (ap₂ (λ (t u : Bool). t || u) (ap isBeyond (begun v f) ∙ beyond-neg (start H v limit)) (afters v f x y (succeeds method v) (next-fit method v)))
           (lacks method v)
           (middles v f x y (succeeds method v) (next-fit method v))
-        where
-          either : (t t' u u' : Bool) → t ≡ t' → u ≡ u' → (t || u) ≡ (t' || u')
-          either t t' u u' e g = rw (e, g) refl
       placed-turned method last f = refl
 
     module _ (method : RoundingMethod) (x : Segment A) (limit : Limit) where
@@ -227,16 +220,16 @@ module _ {A : Type 0} (kind : Kind A) (R : A → A → Type 0) (K : KindTurns ki
       places : Place
       places = go (H .admitted && fitIn H x) refl (limitAdmitted limit) refl
         where
-          listed : (f : (H .admitted && fitIn H x) ≡ true) → limitAdmitted limit ≡ true → ((n : ℕ) × (countAnswer H ≡ refused n)) ⊎ ((n : ℕ) × (countAnswer H ≡ given n)) → Place
+          listed : (f : (H .admitted && fitIn H x) ≡ true) → limitAdmitted limit ≡ true → (countAnswer H ≡ given (H .count)) ⊎ ((n : ℕ) × (countAnswer H ≡ refused n)) → Place
           listed f l (inl c) =
+              sym (place-is M (findThere kind opposite a b d method) (across opposite x) (mirrored limit) (same-fit ∙ f) (limit-neg limit ∙ l) (stepped-stands kind (opposite a) (opposite b) (opposite d) (counts ∙ c)))
+              ∙ placed-turned (stepped-stands kind a b d c) limit method x (both-true (H .admitted) (fitIn H x) f .1)
+              ∙ ap negated (place-is H (findHere kind opposite a b d method) x limit f l (stepped-stands kind a b d c))
+          listed f l (inr c) =
               let ok = both-true (H .admitted) (fitIn H x) f .0 in
               alike
               (place-stopped M (findThere kind opposite a b d method) (across opposite x) (mirrored limit) (same-fit ∙ f) (limit-neg limit ∙ l) (admits ∙ ok) (counts ∙ c .1))
               (place-stopped H (findHere kind opposite a b d method) x limit f l ok (c .1))
-          listed f l (inr c) =
-              sym (place-is M (findThere kind opposite a b d method) (across opposite x) (mirrored limit) (same-fit ∙ f) (limit-neg limit ∙ l) (stepped-stands kind (opposite a) (opposite b) (opposite d) (counts ∙ c .1)))
-              ∙ placed-turned (stepped-stands kind a b d (c .1)) limit method x (both-true (H .admitted) (fitIn H x) f .1)
-              ∙ ap negated (place-is H (findHere kind opposite a b d method) x limit f l (stepped-stands kind a b d (c .1)))
 
           go : (t : Bool) → (H .admitted && fitIn H x) ≡ t → (u : Bool) → limitAdmitted limit ≡ u → Place
           go false f u l =

@@ -1,12 +1,12 @@
 -- The rules of the calls, return by return, over any axis, and over a stepped one of either kind of numbers. Assumes nothing.
 use mathlib.Core.Path.{_≡_, refl, sym, ap, _∙_}
-use mathlib.Core.Logic.{_⊎_, inl, inr}
-use mathlib.Core.Bool.{Bool, true, false, cond, not, _&&_, _||_, and-false}
+use mathlib.Core.Logic.{_⊎_}
+use mathlib.Core.Bool.{Bool, true, false, cond, not, _&&_, _||_, and-false, and-true}
 use mathlib.Core.List.{List, [], _∷_}
 use Prim.Native.Nat.{ℕ, suc, _+_, _≤_}
 use native.Mathlib.Numerals.{add-one}
 use native.Mathlib.Omega.{arith}
-use borrow.Author.Tests.{eq-eqb, ne-eqb, eqb-true, eqb-false, ltb-true, ltb-false}
+use borrow.Author.Tests.{eq-eqb, ne-eqb, eqb-true, eqb-false, ltb-true, ltb-false, not-false}
 use lib.Dec.{ltb, eqb}
 use lib.IntN.{ℤ, _+ℤ_, _-ℤ_}
 use lib.ListN.{length}
@@ -15,6 +15,8 @@ use Rattle.ranged1d.specs.Answer.{Answer, given, none, refused, Reason, _when_,
 use Rattle.ranged1d.specs.Admitted.{wholeAdmitted, pixelAdmitted, limitAdmitted}
 use Rattle.ranged1d.specs.declared.Limit.{Limit}
 use Rattle.ranged1d.proofs.Answers.{one-refusal, given-is, not-both}
+use Rattle.ranged1d.proofs.Bools.{both-false}
+use Rattle.ranged1d.proofs.Lowest.{given-tests, either, stops}
 use Rattle.rounding.specs.declared.Whole.{Whole}
 use Rattle.rounding.specs.declared.Whole.the-variants.{Number, Beyond}
 use Rattle.discrete.specs.Index.{indexFor, pixelIndex}
@@ -26,23 +28,14 @@ use Rattle.linspace.proofs.Walks.{nth-past}
 use Rattle.linspace.proofs.Marks.{marks-none, marks-some, some-marks}
 use Rattle.linspace.proofs.WholeRules.{ends-place}
 use Rattle.segmented.specs.Values.{Segment, exact, centerOf, last}
-use Rattle.segmented.specs.Segments.{Axis, Finder, half, margin, narrowed, start, entryAfter, successor, middle, placed, afterBeyond, tooFar, fitIn, unsoughtPlace, segmentPlace, segmentSize, indexIn, unsoughtIn, segmentIndexOf, exactly, segmentAt, segmentFromIndex, segmentOf, segmentReading, segmentKeyPoints}
+use Rattle.segmented.specs.Segments.{Axis, Finder, unlisted, half, margin, narrowed, start, entryAfter, successor, middle, placed, afterBeyond, tooFar, fitIn, unsoughtPlace, segmentPlace, segmentSize, indexIn, unsoughtIn, segmentIndexOf, exactly, segmentAt, segmentFromIndex, segmentOf, segmentReading, segmentKeyPoints}
 use Rattle.segmented.specs.Axes.{steppedAxis, steppedFinder}
 use Rattle.segmented.specs.Steps.{countAnswer, Stands, nextAnswer, centerAnswer, placedAnswer}
 use Rattle.segmented.proofs.Margin.{narrowed-admitted}
 
 -- ---- why there are no segments: u and z are 6 and 7, w that there are no entries or too many
-abbrev counting : {B : Type 0} → Bool → Bool → Bool → List Reason → Answer B → Answer B
-counting u z w rest r = lowest (4 when (not (u || z) && w) ∷ 6 when u ∷ 7 when z ∷ rest) r
-
-stopped : {B C : Type 0} (u z w : Bool) (rest : List Reason) (r : Answer B) (x : C) {n : ℕ} → counting u z w [] (given x) ≡ refused n → counting u z w rest r ≡ refused n
-stopped true z w rest r x e = one-refusal e
-stopped false true w rest r x e = one-refusal e
-stopped false false true rest r x e = one-refusal e
-stopped false false false rest r x e = absurd (not-both e)
-
--- the same with 5 between them
-stopped-far : {B C : Type 0} (u z w f : Bool) (rest : List Reason) (r : Answer B) (x : C) {n : ℕ} → counting u z w [] (given x) ≡ refused n
+-- 4, 6 and 7, with 5 between them
+stopped-far : {B C : Type 0} (u z w f : Bool) (rest : List Reason) (r : Answer B) (x : C) {n : ℕ} → lowest (4 when (not (u || z) && w) ∷ 6 when u ∷ 7 when z ∷ []) (given x) ≡ refused n
     → lowest (4 when (not (u || z) && w) ∷ 5 when (not (u || z) && f) ∷ 6 when u ∷ 7 when z ∷ rest) r ≡ refused n
 stopped-far true z w f rest r x e = one-refusal e
 stopped-far false true w f rest r x e = one-refusal e
@@ -62,56 +55,37 @@ module _ {A : Type 0} (axis : Axis A) where
   abbrev w : Bool
   w = eqb (axis .count) 0 || axis .tooMany
 
-  counts-are : axis .admitted ≡ true → countAnswer axis ≡ counting (axis .against) (axis .tooLong) w [] (given (axis .count))
+  abbrev reasons : List Reason
+  reasons = 1 when not (axis .admitted) ∷ unlisted axis
+
+  counts-are : axis .admitted ≡ true → countAnswer axis ≡ lowest (unlisted axis) (given (axis .count))
   unfolding countAnswer
   counts-are h = rw h refl
 
   -- ---- what is known of a count
   pub stands : (axis .tooMany ≡ false → axis .tooLong ≡ false → axis .count ≤ 16_777_216) → {n : ℕ} → countAnswer axis ≡ given n → Stands axis n
   unfolding countAnswer
-  stands few {n} = go (axis .admitted) refl (axis .against) refl (axis .tooLong) refl (eqb (axis .count) 0) refl (axis .tooMany) refl
-    where
-      go : (t : Bool) → axis .admitted ≡ t → (u : Bool) → axis .against ≡ u → (z : Bool) → axis .tooLong ≡ z → (o : Bool) → eqb (axis .count) 0 ≡ o → (y : Bool) → axis .tooMany ≡ y
-          → lowest (1 when not t ∷ 4 when (not (u || z) && (o || y)) ∷ 6 when u ∷ 7 when z ∷ []) (given (axis .count)) ≡ given n → Stands axis n
-      go false ht u hu z hz o ho y hy e = absurd (not-both (sym e))
-      go true ht true hu z hz o ho y hy e = absurd (not-both (sym e))
-      go true ht false hu true hz o ho y hy e = absurd (not-both (sym e))
-      go true ht false hu false hz true ho y hy e = absurd (not-both (sym e))
-      go true ht false hu false hz false ho true hy e = absurd (not-both (sym e))
-      go true ht false hu false hz false ho false hy e =
-          let s : axis .count ≡ n = given-is e in
-          record { admitted = ht; onward = hu; short = hz; few = hy; count = s; some = omega (arith, eqb-false (axis .count) 0 ho, s); most = omega (arith, few hy hz, s) }
+  stands few e =
+      let told = given-tests reasons (given (axis .count)) e in
+      let hu = told .0 .1 .1 .0 in
+      let hz = told .0 .1 .1 .1 .0 in
+      let both = both-false (eqb (axis .count) 0) (axis .tooMany) (rw (hu, hz) at (told .0 .1 .0)) in
+      let s = given-is (told .1) in
+      record { admitted = not-false (axis .admitted) (told .0 .0); onward = hu; short = hz; few = both .1; count = s; some = omega (arith, eqb-false (axis .count) 0 (both .0), s); most = omega (arith, few (both .1) hz, s) }
 
   -- there is a count, or why there is none
-  pub counted-or-stopped : ((n : ℕ) × (countAnswer axis ≡ refused n)) ⊎ ((n : ℕ) × (countAnswer axis ≡ given n))
+  pub counted-or-stopped : (countAnswer axis ≡ given (axis .count)) ⊎ ((n : ℕ) × (countAnswer axis ≡ refused n))
   unfolding countAnswer
-  counted-or-stopped = go (axis .admitted) (axis .against) (axis .tooLong) w
-    where
-      go : (t u z o : Bool) → let r = lowest (1 when not t ∷ 4 when (not (u || z) && o) ∷ 6 when u ∷ 7 when z ∷ []) (given (axis .count)) in
-          ((n : ℕ) × (r ≡ refused n)) ⊎ ((n : ℕ) × (r ≡ given n))
-      go false u z o = inl (1, refl)
-      go true true z o = inl (6, refl)
-      go true false true o = inl (7, refl)
-      go true false false true = inl (4, refl)
-      go true false false false = inr (axis .count, refl)
+  counted-or-stopped = either (axis .count) reasons
 
   module _ {n : ℕ} (k : Stands axis n) where
     pub some-entries : eqb (axis .count) 0 ≡ false
     some-entries = ne-eqb (axis .count) 0 (λ e. omega (arith, k .some, k .count, e))
 
-    pub count-again : given n ≡ countAnswer axis
-    unfolding countAnswer
-    count-again = rw (k .admitted, k .onward, k .short, some-entries, k .few) (ap given (sym (k .count)))
-
   -- ---- `size`
   pub size-stopped : {n : ℕ} → countAnswer axis ≡ refused n → refused n ≡ segmentSize axis
   unfolding countAnswer segmentSize
-  size-stopped {n} = go (axis .admitted)
-    where
-      go : (t : Bool) → lowest (1 when not t ∷ []) (counting (axis .against) (axis .tooLong) w [] (given (axis .count))) ≡ refused n
-          → refused n ≡ lowest (1 when not t ∷ []) (counting (axis .against) (axis .tooLong) w [] (given (suc (axis .count))))
-      go false e = sym e
-      go true e = sym (stopped (axis .against) (axis .tooLong) w [] (given (suc (axis .count))) (axis .count) e)
+  size-stopped e = sym (stops reasons [] (given (suc (axis .count))) (axis .count) e)
 
   pub size-is : {n : ℕ} → Stands axis n → given (n + 1) ≡ segmentSize axis
   unfolding segmentSize
@@ -195,12 +169,7 @@ module _ {A : Type 0} (axis : Axis A) where
 
     pub index-stopped : fitIn axis s ≡ true → {n : ℕ} → countAnswer axis ≡ refused n → refused n ≡ segmentIndexOf axis find s
     unfolding countAnswer segmentIndexOf
-    index-stopped h {n} = rw h (go (axis .admitted))
-      where
-        go : (t : Bool) → lowest (1 when not t ∷ []) (counting (axis .against) (axis .tooLong) w [] (given (axis .count))) ≡ refused n
-            → refused n ≡ lowest (1 when not (t && true) ∷ []) (counting (axis .against) (axis .tooLong) w (9 when unsoughtIn axis find s ∷ []) (indexIn axis find s))
-        go false e = sym e
-        go true e = sym (stopped (axis .against) (axis .tooLong) w (9 when unsoughtIn axis find s ∷ []) (indexIn axis find s) (axis .count) e)
+    index-stopped h e = rw (h, and-true (axis .admitted)) (sym (stops reasons (9 when unsoughtIn axis find s ∷ []) (indexIn axis find s) (axis .count) e))
 
   module _ (find : Finder A) where
     pub index-last : {n : ℕ} → Stands axis n → given n ≡ segmentIndexOf axis find last
@@ -222,12 +191,7 @@ module _ {A : Type 0} (axis : Axis A) where
 
   pub from-stopped : (k : ℕ) {n : ℕ} → countAnswer axis ≡ refused n → refused n ≡ segmentFromIndex axis k
   unfolding countAnswer segmentFromIndex
-  from-stopped k {n} = go (axis .admitted)
-    where
-      go : (t : Bool) → lowest (1 when not t ∷ []) (counting (axis .against) (axis .tooLong) w [] (given (axis .count))) ≡ refused n
-          → refused n ≡ lowest (1 when not t ∷ []) (counting (axis .against) (axis .tooLong) w [] (segmentAt axis k))
-      go false e = one-refusal (sym e)
-      go true e = sym (stopped (axis .against) (axis .tooLong) w [] (segmentAt axis k) (axis .count) e)
+  from-stopped k e = sym (stops reasons [] (segmentAt axis k) (axis .count) e)
 
   pub from-is : (k : ℕ) {n : ℕ} → Stands axis n → segmentAt axis k ≡ segmentFromIndex axis k
   unfolding segmentFromIndex
@@ -253,12 +217,12 @@ module _ {A : Type 0} (axis : Axis A) where
           abbrev readAt : Answer (Segment A)
           readAt = segmentOf axis (indexFor (x -ℤ limit .0) (limit .1 -ℤ limit .0) (suc (axis .count)))
 
-          reading-tests : segmentReading axis x limit ≡ counting (axis .against) (axis .tooLong) w [] readAt
+          reading-tests : segmentReading axis x limit ≡ lowest (unlisted axis) readAt
           unfolding segmentReading
           reading-tests = rw (h, p, l) refl
 
           pub reading-stopped : {n : ℕ} → countAnswer axis ≡ refused n → refused n ≡ segmentReading axis x limit
-          reading-stopped e = sym (reading-tests ∙ stopped (axis .against) (axis .tooLong) w [] readAt (axis .count) (sym (counts-are h) ∙ e))
+          reading-stopped e = sym (reading-tests ∙ stops (unlisted axis) [] readAt (axis .count) (sym (counts-are h) ∙ e))
 
           reading-by : {n : ℕ} → Stands axis n → segmentReading axis x limit ≡ readAt
           unfolding segmentReading
@@ -301,13 +265,7 @@ module _ {A : Type 0} (kind : Kind A) (a b d : A) where
 
   size-length : {n : ℕ} → stepSize kind a b d ≡ given n → length (stepped kind a b d) ≡ n
   unfolding stepSize
-  size-length {n} = go (axisAdmitted kind a b d) (against kind a b d) (tooLong kind a b d)
-    where
-      go : (t u z : Bool) → lowest (1 when not t ∷ 6 when u ∷ 7 when z ∷ []) (given (length (stepped kind a b d))) ≡ given n → length (stepped kind a b d) ≡ n
-      go false u z e = absurd (not-both (sym e))
-      go true true z e = absurd (not-both (sym e))
-      go true false true e = absurd (not-both (sym e))
-      go true false false e = given-is e
+  size-length e = given-is (given-tests (1 when not (axisAdmitted kind a b d) ∷ 6 when against kind a b d ∷ 7 when tooLong kind a b d ∷ []) (given (length (stepped kind a b d))) e .1)
 
   pub count-refused : {n : ℕ} → stepSize kind a b d ≡ refused n → refused n ≡ countAnswer steps
   count-refused e = sym (count-on ∙ ap (countOn (eqb (length (stepped kind a b d)) 0)) e)
@@ -390,16 +348,18 @@ module _ {A : Type 0} (kind : Kind A) (a b d : A) where
 
       passed : Passed
       unfolding stepKeyPoints
-      passed = go (axisAdmitted kind a b d) refl (eqb m 0 && hasEntries (stepped kind a b d)) refl (against kind a b d) refl (tooLong kind a b d) refl (ltb (length old) (length marked)) refl e
-        where
-          go : (t : Bool) → axisAdmitted kind a b d ≡ t → (y : Bool) → (eqb m 0 && hasEntries (stepped kind a b d)) ≡ y → (u : Bool) → against kind a b d ≡ u → (z : Bool) → tooLong kind a b d ≡ z → (f : Bool) → ltb (length old) (length marked) ≡ f
-              → written (below t y u z f) marked old ≡ (given k, new) → Passed
-          go false ht y hy u hu z hz f hf p = absurd (not-both (sym (ap (λ q. q .0) p)))
-          go true ht true hy u hu z hz f hf p = absurd (not-both (sym (ap (λ q. q .0) p)))
-          go true ht false hy true hu z hz f hf p = absurd (not-both (sym (ap (λ q. q .0) p)))
-          go true ht false hy false hu true hz f hf p = absurd (not-both (sym (ap (λ q. q .0) p)))
-          go true ht false hy false hu false hz true hf p = absurd (not-both (sym (ap (λ q. q .0) p)))
-          go true ht false hy false hu false hz false hf p = record { admitted = ht; served = hy; onward = hu; short = hz; room = hf; told = p }
+      passed =
+          let rs = 1 when not (axisAdmitted kind a b d) ∷ 3 when (eqb m 0 && hasEntries (stepped kind a b d)) ∷ 6 when against kind a b d ∷ 7 when tooLong kind a b d ∷ 13 when ltb (length old) (length marked) ∷ [] in
+          let answer = ap (λ q. q .0) e in
+          let told = given-tests rs (given (length marked)) answer in
+          record {
+            admitted = not-false (axisAdmitted kind a b d) (told .0 .0);
+            served = told .0 .1 .0;
+            onward = told .0 .1 .1 .0;
+            short = told .0 .1 .1 .1 .0;
+            room = told .0 .1 .1 .1 .1 .0;
+            told = ap (λ (r : Answer ℕ). written r marked old) (told .1 ∙ sym answer) ∙ e;
+          }
 
       marked-size : length marked ≡ k
       marked-size = given-is (ap (λ q. q .0) (passed .told))

@@ -6,15 +6,16 @@ use Prim.Native.Nat.{ℕ, suc, _+_, _-_, _≤_, _<_}
 use native.Mathlib.Decide.{decLt}
 use native.Mathlib.Numerals.{add-one}
 use native.Mathlib.Omega.{arith}
-use borrow.Author.Tests.{eq-eqb, ne-eqb, ltb-false, lt-ltb, le-ltb, le-leb}
+use borrow.Author.Tests.{eq-eqb, ne-eqb, ltb-false, lt-ltb, le-ltb, le-leb, not-false}
 use lib.Dec.{T, ltb, eqb}
 use lib.IntN.{ℤ, pos, negsuc, natAbs, _+ℤ_, _-ℤ_, +ℤ-comm, +ℤ-assoc, -ℤ-+ℤ-cancel}
 use lib.ListN.{length}
 use lib.Signed.{ltZ, nonNeg}
-use Rattle.ranged1d.specs.Answer.{Answer, given, none, refused, _when_, lowest, written}
+use Rattle.ranged1d.specs.Answer.{Answer, given, none, refused, Reason, _when_, lowest, written}
 use Rattle.ranged1d.specs.Admitted.{wholeAdmitted, limitAdmitted}
 use Rattle.ranged1d.specs.declared.Limit.{Limit}
-use Rattle.ranged1d.proofs.Answers.{given-is, not-both, not-none, one-refusal}
+use Rattle.ranged1d.proofs.Answers.{given-is, not-none}
+use Rattle.ranged1d.proofs.Lowest.{given-tests, stops}
 use Rattle.real.specs.Place.{wholePlace, spotAnswer}
 use Rattle.ranged1d.proofs.Whole.{ordered, not-lt, both-near}
 use Rattle.numeric.specs.declared.KeyPoints.{KeyPoints}
@@ -46,21 +47,12 @@ module _ (a b : ℤ) where
 
   pub count-refused : {n : ℕ} → wholeSize a b ≡ refused n → refused n ≡ countAnswer axis
   unfolding wholeSize
-  count-refused {n} e = go (endsAdmitted a b) e ∙ sym size-tests
-    where
-      go : (t : Bool) → lowest (1 when not t ∷ []) (given (countOf a b)) ≡ refused n
-          → refused n ≡ lowest (1 when not t ∷ 4 when (eqb (countOf a b) 0 || ltb 16_777_216 (countOf a b)) ∷ []) (given (countOf a b))
-      go false e = sym e
-      go true e = absurd (not-both e)
+  count-refused e = sym (size-tests ∙ stops (1 when not (endsAdmitted a b) ∷ []) (4 when (eqb (countOf a b) 0 || ltb 16_777_216 (countOf a b)) ∷ []) (given (countOf a b)) (countOf a b) e)
 
   module _ {n : ℕ} (e : wholeSize a b ≡ given n) where
     counted : (endsAdmitted a b ≡ true) × (countOf a b ≡ n)
     unfolding wholeSize
-    counted = go (endsAdmitted a b) refl e
-      where
-        go : (t : Bool) → endsAdmitted a b ≡ t → lowest (1 when not t ∷ []) (given (countOf a b)) ≡ given n → (endsAdmitted a b ≡ true) × (countOf a b ≡ n)
-        go false h e = absurd (not-both (sym e))
-        go true h e = (h, given-is e)
+    counted = let told = given-tests (1 when not (endsAdmitted a b) ∷ []) (given (countOf a b)) e in (not-false (endsAdmitted a b) (told .0 .0), given-is (told .1))
 
     pub count-none : n ≡ 0 → refused 4 ≡ countAnswer axis
     count-none z = sym (size-tests ∙ rw (counted .0, eq-eqb (countOf a b) 0 (counted .1 ∙ z)) refl)
@@ -155,34 +147,24 @@ module _ (a b : ℤ) where
     abbrev told : ℤ × ℕ
     told = (pos (stepOf a b m), length (marks a b m))
 
+    abbrev plan-reasons : List Reason
+    plan-reasons = 1 when not (endsAdmitted a b) ∷ 3 when noStep a b m ∷ []
+
     pub points-refused : {n : ℕ} → wholePlan a b m ≡ refused n → (refused n, old) ≡ segmentKeyPoints axis told m old
     unfolding wholePlan segmentKeyPoints
-    points-refused {n} = go (endsAdmitted a b) (noStep a b m) _
-      where
-        go : (t y : Bool) (r : Answer (ℤ × ℕ)) → lowest (1 when not t ∷ 3 when y ∷ []) (given (planOf a b m)) ≡ refused n
-            → (refused n, old) ≡ written (lowest (1 when not t ∷ 3 when y ∷ []) r) (marks a b m) old
-        go false y r e = ap (λ (x : Answer (ℤ × ℕ)). (x, old)) (one-refusal (sym e))
-        go true true r e = ap (λ (x : Answer (ℤ × ℕ)). (x, old)) (one-refusal (sym e))
-        go true false r e = absurd (not-both e)
+    points-refused e = ap (λ (x : Answer (ℤ × ℕ)). written x (marks a b m) old)
+        (sym (stops plan-reasons (4 when (eqb (countOf a b) 0 || ltb 16_777_216 (countOf a b)) ∷ 13 when ltb (length old) (length (marks a b m)) ∷ []) (given told) (planOf a b m) e))
 
     module _ {p : KeyPoints} (e : wholePlan a b m ≡ given p) where
       planned : (endsAdmitted a b ≡ true) × (noStep a b m ≡ false)
       unfolding wholePlan
-      planned = go (endsAdmitted a b) refl (noStep a b m) refl e
-        where
-          go : (t : Bool) → endsAdmitted a b ≡ t → (y : Bool) → noStep a b m ≡ y → lowest (1 when not t ∷ 3 when y ∷ []) (given (planOf a b m)) ≡ given p → (endsAdmitted a b ≡ true) × (noStep a b m ≡ false)
-          go false h y k e = absurd (not-both (sym e))
-          go true h true k e = absurd (not-both (sym e))
-          go true h false k e = (h, k)
+      planned = let tests = given-tests plan-reasons (given (planOf a b m)) e .0 in (not-false (endsAdmitted a b) (tests .0), tests .1 .0)
 
       pub points-stopped : {n : ℕ} → countAnswer axis ≡ refused n → (refused n, old) ≡ segmentKeyPoints axis told m old
       unfolding segmentKeyPoints
-      points-stopped {n} c = rw (planned .0, planned .1) (go (eqb (countOf a b) 0 || ltb 16_777_216 (countOf a b)) (rw (planned .0) at (sym size-tests ∙ c)))
-        where
-          go : (w : Bool) → cond w (refused 4) (given (countOf a b)) ≡ refused n
-              → (refused n, old) ≡ written (cond w (refused 4) (lowest (13 when ltb (length old) (length (marks a b m)) ∷ []) (given told))) (marks a b m) old
-          go true q = ap (λ (x : Answer (ℤ × ℕ)). (x, old)) (one-refusal (sym q))
-          go false q = absurd (not-both q)
+      points-stopped c = rw (planned .0, planned .1)
+          (ap (λ (x : Answer (ℤ × ℕ)). written x (marks a b m) old)
+          (sym (stops (4 when (eqb (countOf a b) 0 || ltb 16_777_216 (countOf a b)) ∷ []) (13 when ltb (length old) (length (marks a b m)) ∷ []) (given told) (countOf a b) (rw (planned .0) at (sym size-tests ∙ c)))))
 
       pub points-is : {n : ℕ} → Stands axis n → wholeKeyPoints a b m old ≡ segmentKeyPoints axis told m old
       unfolding wholeKeyPoints segmentKeyPoints

@@ -9,7 +9,7 @@ use lib.ListN.{length}
 use lib.Signed.{quotZ}
 use lib.Ieee as Ieee
 use lib.Ieee.{binary32}
-use Rattle.ranged1d.specs.Answer.{Answer, given, none, refused, _when_, lowest, written, andThen}
+use Rattle.ranged1d.specs.Answer.{Answer, given, none, refused, Reason, _when_, lowest, written, andThen}
 use Rattle.ranged1d.specs.Admitted.{pixelAdmitted, limitAdmitted}
 use Rattle.ranged1d.specs.declared.Limit.{Limit}
 use Rattle.rounding.specs.declared.Whole.{Whole}
@@ -65,6 +65,13 @@ module _ {A : Type 0} (axis : Axis A) where
 
   abbrev pub noSegments : Bool
   noSegments = listed && (eqb (axis .count) 0 || axis .tooMany)
+
+  -- why there are no segments: 4, 6 and 7; and 1 before them
+  abbrev pub unlisted : List Reason
+  unlisted = 4 when noSegments ∷ 6 when axis .against ∷ 7 when axis .tooLong ∷ []
+
+  abbrev pub counted : {B : Type 0} → Answer B → Answer B
+  counted r = lowest (1 when not (axis .admitted) ∷ unlisted) r
 
   -- ---- places
   -- an entry's place, between the narrowed limits
@@ -129,14 +136,7 @@ module _ {A : Type 0} (axis : Axis A) where
 
   -- ---- `size`: a value for each entry, and `Last`
   unfoldable pub segmentSize : Answer ℕ
-  segmentSize =
-      lowest (
-      1 when not (axis .admitted)
-      ∷ 4 when noSegments
-      ∷ 6 when axis .against
-      ∷ 7 when axis .tooLong
-      ∷ []
-      ) (given (suc (axis .count)))
+  segmentSize = counted (given (suc (axis .count)))
 
   -- ---- `index_of`: that of the value on the axis; `Last` stands behind all entries
   abbrev pub indexIn : Finder A → Segment A → Answer ℕ
@@ -168,14 +168,7 @@ module _ {A : Type 0} (axis : Axis A) where
   segmentAt k = cond (eqb k (axis .count)) (given last) (exactly (axis .entry k))
 
   unfoldable pub segmentFromIndex : ℕ → Answer (Segment A)
-  segmentFromIndex k =
-      lowest (
-      1 when not (axis .admitted)
-      ∷ 4 when noSegments
-      ∷ 6 when axis .against
-      ∷ 7 when axis .tooLong
-      ∷ []
-      ) (segmentAt k)
+  segmentFromIndex k = counted (segmentAt k)
 
   -- ---- `unmap`: the value at the index of the pixel on an axis with one value more
   abbrev pub segmentOf : Answer ℕ → Answer (Segment A)

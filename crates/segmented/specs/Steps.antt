@@ -1,25 +1,18 @@
 -- What the steps of the calls on segments find, for the promises of private functions. Assumes nothing.
 use Prim.Native.Nat.{ℕ, _≤_}
 use mathlib.Core.Path.{_≡_}
-use mathlib.Core.Bool.{true, false, not}
+use mathlib.Core.Bool.{true, false}
 use mathlib.Core.List.{[], _∷_}
 use lib.IntN.{ℤ}
 use Rattle.ranged1d.specs.Answer.{Answer, given, _when_, lowest}
 use Rattle.ranged1d.specs.declared.Limit.{Limit}
 use Rattle.segmented.specs.Values.{Segment}
-use Rattle.segmented.specs.Segments.{Axis, Finder, noSegments, successor, middle, placed, afterBeyond, tooFar, unsoughtPlace}
+use Rattle.segmented.specs.Segments.{Axis, Finder, counted, successor, middle, placed, afterBeyond, tooFar, unsoughtPlace}
 
 module _ {A : Type 0} (axis : Axis A) where
   -- how many entries the segments stand on, or why there are no segments
   unfoldable pub countAnswer : Answer ℕ
-  countAnswer =
-      lowest (
-      1 when not (axis .admitted)
-      ∷ 4 when noSegments axis
-      ∷ 6 when axis .against
-      ∷ 7 when axis .tooLong
-      ∷ []
-      ) (given (axis .count))
+  countAnswer = counted axis (given (axis .count))
 
   -- what is known of an axis with n segments
   pub record Stands (n : ℕ) : Type 0 where
