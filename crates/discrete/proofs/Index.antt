@@ -1,8 +1,7 @@
 -- The index at each return of the code, by the tests that led there. Assumes nothing.
 use mathlib.Core.Path.{_≡_, refl, sym, ap, _∙_}
 use mathlib.Core.Bool.{true, false, _&&_}
-use Prim.Native.Nat.{ℕ, zero, suc, _/_, _≤_}
-use native.Mathlib.Nat.{div-le-self}
+use Prim.Native.Nat.{ℕ, zero, suc, _≤_}
 use native.Mathlib.Omega.{arith}
 use lib.Dec.{ltb}
 use lib.Pow.{pow-pos}
@@ -16,7 +15,7 @@ use Rattle.ranged1d.specs.Answer.{given, none}
 use Rattle.ranged1d.specs.Admitted.{pixelAdmitted, limitAdmitted}
 use Rattle.ranged1d.specs.Numbers.{raised}
 use Rattle.ranged1d.specs.declared.Limit.{Limit}
-use Rattle.ranged1d.proofs.Whole.{neg-far, minus-far, both-near, raised-below, raised-above}
+use Rattle.ranged1d.proofs.Whole.{minus-far, both-near, length-near, raised-below, raised-above}
 use Rattle.discrete.specs.Index.{isZero, noIndex, indexBy, indexFor}
 use Rattle.discrete.proofs.Floor.{cut-raised}
 
@@ -31,16 +30,6 @@ not-zero (negsuc n) h = refl
 
 pub zero-bits : (w : Width) (z : ℤ) → SFits w z → ofZ w z ≡ 0 → z ≡ pos 0
 zero-bits w z f e = sym (toZ-ofZ f) ∙ ap (toZ w) e ∙ toZ-pos w (pow-pos (hbits w))
-
--- ---- a quotient: how far from 0 it lies
-pub quotient-size : (x y : ℤ) → natAbs (quotZ x y) ≡ natAbs x / natAbs y
-quotient-size (pos a) (pos b) = refl
-quotient-size (pos a) (negsuc b) = neg-far (pos (a / suc b))
-quotient-size (negsuc a) (pos b) = neg-far (pos (suc a / b))
-quotient-size (negsuc a) (negsuc b) = refl
-
-pub quotient-far : (x y : ℤ) → natAbs (quotZ x y) ≤ natAbs x
-quotient-far x y = rw (quotient-size x y) (div-le-self (natAbs x) (natAbs y))
 
 -- ---- the returns
 module _ (d w : ℤ) (n : ℕ) where
@@ -70,4 +59,4 @@ pub distances : (x : ℤ) (l : Limit) → pixelAdmitted x ≡ true → limitAdmi
 distances x l h k =
     let near = both-near 1000000 (l .0) (l .1) k in
     let x-near : natAbs x ≤ 1000000 = leb-true _ _ h in
-    (omega (arith, minus-far x (l .0), x-near, near .0), omega (arith, minus-far (l .1) (l .0), near .1, near .0))
+    (omega (arith, minus-far x (l .0), x-near, near .0), length-near l k)

@@ -8,14 +8,13 @@ use native.Mathlib.Nat.{div-mul-le-self, lt-div-mul-add, div-le-of-le-mul, mul-l
 use native.Mathlib.Omega.{arith}
 use lib.Dec.{T}
 use lib.Ieee.Bits.{is-true}
-use lib.IntN.{ℤ, pos, negsuc, negℤ, natAbs, _+ℤ_, _-ℤ_, _*ℤ_, +ℤ-idl, +ℤ-assoc, +ℤ-invl, negℤ-negℤ, -ℤ-+ℤ-cancel}
+use lib.IntN.{ℤ, pos, negsuc, negℤ, natAbs, _+ℤ_, _-ℤ_, _*ℤ_, +ℤ-idl, +ℤ-assoc, +ℤ-invl, negℤ-negℤ}
 use lib.Signed.{nonNeg, quotZ, _≤ℤ_, _<ℤ_, leZ-yes, ltZ-yes, <ℤ-irrefl}
 use mir.Facts.{yes-leb, yes-ltb}
 use Rattle.ranged1d.specs.Numbers.{raised}
-use Rattle.ranged1d.proofs.Whole.{turned-far, times-far, neg-times, ordered, lt-not, other-way, raised-far}
+use Rattle.ranged1d.proofs.Whole.{turned-far, quotient-size, times-far, neg-times, ordered, lt-not, other-way, no-difference, raised-far}
 use Rattle.discrete.specs.Index.{floorDiv, isZero, indexBy}
 use Rattle.discrete.proofs.Floor.{floor-negated, cut-raised}
-use Rattle.discrete.proofs.Index.{quotient-size}
 
 -- ---- at most n
 at-most : (d w : ℤ) (n : ℕ) → natAbs d ≤ natAbs w → indexBy d w n ≤ n
@@ -68,10 +67,7 @@ exact (pos a) (pos (suc b)) n hd hw h =
 exact (pos a) (negsuc b) n hd hw h = absurd hw
 exact (negsuc a) w n hd hw h = absurd hd
 
-pub limits-meet : (p q : ℤ) → q -ℤ p ≡ pos 0 → q ≡ p
-limits-meet p q e = sym (-ℤ-+ℤ-cancel q p) ∙ ap (λ (z : ℤ). z +ℤ p) e ∙ +ℤ-idl p
-
 pub index-exact : (x p q : ℤ) (n : ℕ) → p <ℤ q → p ≤ℤ x
     → ((pos (indexBy (x -ℤ p) (q -ℤ p) n) *ℤ (q -ℤ p)) ≤ℤ ((x -ℤ p) *ℤ pos n)) × (((x -ℤ p) *ℤ pos n) <ℤ (pos (suc (indexBy (x -ℤ p) (q -ℤ p) n)) *ℤ (q -ℤ p)))
 index-exact x p q n h k =
-    exact (x -ℤ p) (q -ℤ p) n (ordered p x (is-true _ (k .le))) (ordered p q (other-way q p (lt-not p q (is-true _ (h .lt))))) (λ e. <ℤ-irrefl (subst (λ (z : ℤ). p <ℤ z) (limits-meet p q e) h))
+    exact (x -ℤ p) (q -ℤ p) n (ordered p x (is-true _ (k .le))) (ordered p q (other-way q p (lt-not p q (is-true _ (h .lt))))) (λ e. <ℤ-irrefl (subst (λ (z : ℤ). p <ℤ z) (sym (no-difference p q e)) h))

@@ -3,18 +3,18 @@
 use mathlib.Core.Path.{_≡_, refl, sym, ap, subst, _∙_}
 use mathlib.Core.Bool.{Bool, true, false, cond, _&&_, _||_}
 use mathlib.Core.List.{[]}
-use Prim.Native.Nat.{ℕ, zero, suc, _+_, _-_, _*_, _/_, _≤_, _<_, min, max}
+use Prim.Native.Nat.{ℕ, zero, suc, _+_, _-_, _*_, _/_, _≤_, _<_, min}
 use native.Mathlib.Nat.{le-div-iff-mul-le, add-zero, mul-zero, zero-mul, one-mul, min-zero, min-eq-left, min-eq-right}
 use native.Mathlib.Omega.{arith}
 use borrow.Author.Tests.{lt-ltb, le-ltb, le-leb, lt-leb, leb-true, ltb-true, ltb-false}
 use lib.Dec.{leb, ltb}
-use lib.IntN.{ℤ, ℤ-discrete, pos, negsuc, negℤ, natAbs, subℕ, _+ℤ_, _-ℤ_, _*ℤ_, +ℤ-comm, +ℤ-assoc, +ℤ-idl, +ℤ-idr, +ℤ-invr, +ℤ-negℤ-cancel, -ℤ-+ℤ-cancel, negℤ-+ℤ, negℤ-negℤ, zero-*ℤ, sucℤ-*ℤ}
+use lib.IntN.{ℤ, ℤ-discrete, pos, negsuc, negℤ, natAbs, _+ℤ_, _-ℤ_, _*ℤ_, +ℤ-comm, +ℤ-assoc, +ℤ-idl, +ℤ-idr, +ℤ-invr, +ℤ-negℤ-cancel, negℤ-+ℤ, negℤ-negℤ, zero-*ℤ, sucℤ-*ℤ}
 use lib.ListN.{length}
-use lib.Signed.{ltZ, pos-natAbs}
+use lib.Signed.{ltZ}
 use Rattle.ranged1d.specs.Admitted.{wholeAdmitted}
 use Rattle.ranged1d.specs.Numbers.{same}
 use Rattle.ranged1d.proofs.Bools.{both-false, both-true}
-use Rattle.ranged1d.proofs.Whole.{sub-cases, minus-far, turned-far, minus-shift, ordered, not-lt, both-ways, neg-far, neg-lt, both-near, same-yes}
+use Rattle.ranged1d.proofs.Whole.{sub-cases, minus-far, turned-far, minus-shift, from-start, near-on, less-not-above, not-lt, both-ways, neg-far, neg-lt, both-near, same-yes}
 use Rattle.numeric.specs.Marks.{listOf}
 use Rattle.numeric.specs.Calls.{element}
 use Rattle.numeric.proofs.Lists.{length-of}
@@ -136,21 +136,17 @@ stepped-sloped {rises} {a} {b} {d} {p} {s} x = stepped-run rises x ∙ go (ltb s
     go false e = ap (λ (n : ℕ). listOf (element a d) n) (sym (min-zero (suc most))) ∙ ap (λ (n : ℕ). listOf (element a d) (min (suc most) n)) (counted true (le-leb p s (ltb-false s p e)))
 
 -- ---- every axis that is not refused with 6 is such an axis, or its ends are equal
--- y lies so far after x
-after : (x y : ℤ) → ltZ x y ≡ true → y ≡ x +ℤ pos (natAbs (y -ℤ x))
-after x y h = sym (-ℤ-+ℤ-cancel y x) ∙ ap (λ (z : ℤ). z +ℤ x) (sym (pos-natAbs (y -ℤ x) (ordered x y (not-lt y x (whole-order .asym x y h))))) ∙ +ℤ-comm (pos (natAbs (y -ℤ x))) x
-
 apart-some : (x y : ℤ) → ltZ x y ≡ true → 0 < natAbs (y -ℤ x)
 apart-some x y h =
     let p = natAbs (y -ℤ x) in
-    ltb-true 0 p (sym (lt-shift x (pos 0) (pos p)) ∙ ap (λ (z : ℤ). ltZ z (x +ℤ pos p)) (+ℤ-idr x) ∙ ap (λ (z : ℤ). ltZ x z) (sym (after x y h)) ∙ h)
+    ltb-true 0 p (sym (lt-shift x (pos 0) (pos p)) ∙ ap (λ (z : ℤ). ltZ z (x +ℤ pos p)) (+ℤ-idr x) ∙ ap (λ (z : ℤ). ltZ x z) (from-start x y (less-not-above x y h)) ∙ h)
 
 -- y lies so far from x, on the way
 led : (rises : Bool) (x y : ℤ) → toward rises ltZ x y ≡ true → (y ≡ x +ℤ way rises (pos (natAbs (y -ℤ x)))) × (0 < natAbs (y -ℤ x))
-led true x y h = (after x y h, apart-some x y h)
+led true x y h = (sym (from-start x y (less-not-above x y h)), apart-some x y h)
 led false x y h =
     let p = natAbs (x -ℤ y) in
-    (rw (turned-far y x) (sym (+ℤ-negℤ-cancel y (pos p)) ∙ ap (λ (z : ℤ). z +ℤ negℤ (pos p)) (sym (after y x h))), rw (turned-far y x) (apart-some y x h))
+    (rw (turned-far y x) (sym (+ℤ-negℤ-cancel y (pos p)) ∙ ap (λ (z : ℤ). z +ℤ negℤ (pos p)) (from-start y x (less-not-above y x h))), rw (turned-far y x) (apart-some y x h))
 
 -- of two numbers, the one that is neither below the other nor the same lies above it
 above : (x y : ℤ) → (ltZ x y || same x y) ≡ false → ltZ y x ≡ true
@@ -211,16 +207,9 @@ module _ (a b d : ℤ) (h : against whole a b d ≡ false) where
   not-long l = rw (length-is l) (le-ltb most (wholeCount a b d) l)
 
 -- ---- what is known of a list that is not refused
-near-up : (a : ℤ) (x p : ℕ) → x ≤ p → natAbs (a +ℤ pos x) ≤ max (natAbs a) (natAbs (a +ℤ pos p))
-near-up (pos n) x p h = omega (arith, h)
-near-up (negsuc n) x p h =
-    sub-cases x (suc n) (λ z. natAbs z ≤ max (suc n) (natAbs (subℕ p (suc n))))
-    (λ l. omega (arith, l))
-    (λ l. sub-cases p (suc n) (λ z. natAbs (pos (x - suc n)) ≤ max (suc n) (natAbs z)) (λ m. absurd (omega (arith, l, m, h))) (λ m. omega (arith, l, m, h)))
-
-near-way : (rises : Bool) (a : ℤ) (x p : ℕ) → x ≤ p → natAbs (a +ℤ way rises (pos x)) ≤ max (natAbs a) (natAbs (a +ℤ way rises (pos p)))
-near-way true a x p h = near-up a x p h
-near-way false a x p h = rw (← turned x, ← turned p, ← neg-far a) (near-up (negℤ a) x p h)
+near-way : (rises : Bool) (m : ℕ) (a : ℤ) (x p : ℕ) → x ≤ p → natAbs a ≤ m → natAbs (a +ℤ way rises (pos p)) ≤ m → natAbs (a +ℤ way rises (pos x)) ≤ m
+near-way true m a x p l h g = near-on m a x p l h g
+near-way false m a x p l h g = rw (← turned x) (near-on m (negℤ a) x p l (rw (neg-far a) h) (rw (turned p) g))
   where
     turned : (n : ℕ) → natAbs (negℤ a +ℤ pos n) ≡ natAbs (a +ℤ negℤ (pos n))
     turned n = sym (neg-far (negℤ a +ℤ pos n)) ∙ ap natAbs (negℤ-+ℤ (negℤ a) (pos n) ∙ ap (λ (z : ℤ). z +ℤ negℤ (pos n)) (negℤ-negℤ a))
@@ -243,8 +232,8 @@ module _ {a b d : ℤ} {n : ℕ} (known : Known a b d n) where
   pub lies : (k : ℕ) → k < n → Lies a b d k
   lies k l = record {
     index = omega (arith, l, known .few);
-    far = omega (arith, inside, minus-far b a, admitted-near a b d (known .admitted) .0, admitted-near a b d (known .admitted) .1);
-    near = omega (arith, between, admitted-near a b d (known .admitted) .0, admitted-near a b d (known .admitted) .1);
+    far = omega (arith, inside, minus-far b a, ends .0, ends .1);
+    near = between;
   }
     where
       p : ℕ
@@ -263,5 +252,8 @@ module _ {a b d : ℤ} {n : ℕ} (known : Known a b d n) where
       inside : k * s < p
       inside = ltb-true (k * s) p (rounded-up k p s (x .moves) (x .apart) ∙ lt-ltb k ((p - 1) / s + 1) (go (leb p s) (subst (λ (m : ℕ). k < m) (known .count ∙ count-is x) l)))
 
-      between : natAbs (a +ℤ pos k *ℤ d) ≤ max (natAbs a) (natAbs b)
-      between = rw (element-is x k) (subst (λ (z : ℤ). natAbs (a +ℤ way (ltZ a b) (pos (k * s))) ≤ max (natAbs a) (natAbs z)) (sym (x .end)) (near-way (ltZ a b) a (k * s) p (omega (arith, inside))))
+      ends : (natAbs a ≤ 1000000000) × (natAbs b ≤ 1000000000) × (natAbs d ≤ 1000000000)
+      ends = admitted-near a b d (known .admitted)
+
+      between : natAbs (a +ℤ pos k *ℤ d) ≤ 1000000000
+      between = rw (element-is x k) (near-way (ltZ a b) 1000000000 a (k * s) p (omega (arith, inside)) (ends .0) (rw (← x .end) (ends .1)))

@@ -1,39 +1,23 @@
 -- How far from 0 the marks lie, how far apart the first and another lie, and how many there are. Assumes nothing.
-use mathlib.Core.Path.{_≡_, sym, ap, _∙_}
+use mathlib.Core.Path.{_≡_, sym, ap, _∙_, subst}
 use Prim.Native.Nat.{ℕ, zero, suc, _+_, _-_, _*_, _/_, _≤_, _<_, max}
 use native.Mathlib.Nat.{div-mul-le-self, mul-le-mul-right, mul-le-mul-left, le-trans, le-of-suc-le-suc, div-lt-iff-lt-mul, mul-one, one-mul, add-mul, max-eq-left, max-eq-right, zero-mul, suc-mul}
 use native.Mathlib.Numerals.{add-one}
 use native.Mathlib.Decide.{decLe}
 use native.Mathlib.Omega.{arith}
-use lib.IntN.{ℤ, pos, negsuc, natAbs, sucℤ, subℕ, _+ℤ_, _-ℤ_, _*ℤ_, +ℤ-one, +ℤ-idr, sucℤ-*ℤ, +ℤ-sucℤ, +ℤ-assoc}
+use lib.IntN.{ℤ, pos, negsuc, natAbs, _+ℤ_, _-ℤ_, _*ℤ_, +ℤ-idr, sucℤ-*ℤ, +ℤ-sucℤ, +ℤ-assoc}
 use Rattle.ranged1d.specs.Numbers.{raised}
-use Rattle.ranged1d.proofs.Whole.{sub-cases, neg-far, add-far, minus-far, quot-far, times-far, raised-far}
+use Rattle.ranged1d.proofs.Whole.{sub-cases, neg-far, add-far, minus-far, quotient-far, near-on, times-far, raised-far}
 use Rattle.numeric.specs.Marks.{howMany, firstIndex, lastIndex, multiple}
 use Rattle.numeric.specs.Calls.{element}
+use Rattle.numeric.proofs.Reflect.{last-of}
 
 -- i, i + 1, .., j lie no further from 0 than i or j
-between-suc : (i j : ℤ) (k : ℕ) → k < raised (sucℤ j -ℤ i) → natAbs (i +ℤ pos k) ≤ max (natAbs i) (natAbs j)
-between-suc (pos zero) (pos b) k h = omega arith
-between-suc (pos (suc a)) (pos b) k h =
-    sub-cases (suc b) (suc a) (λ z. k < raised z → suc a + k ≤ max (suc a) b) (λ l r. omega arith) (λ l r. omega arith) h
-between-suc (pos zero) (negsuc zero) k h = omega arith
-between-suc (pos zero) (negsuc (suc b)) k h =
-    sub-cases 0 (suc b) (λ z. k < raised z → 0 + k ≤ max 0 (suc (suc b))) (λ l r. omega arith) (λ l r. omega arith) h
-between-suc (pos (suc a)) (negsuc zero) k h =
-    sub-cases 0 (suc a) (λ z. k < raised z → suc a + k ≤ max (suc a) 1) (λ l r. omega arith) (λ l r. omega arith) h
-between-suc (pos (suc a)) (negsuc (suc b)) k h = omega arith
-between-suc (negsuc a) (pos b) k h =
-    sub-cases k (suc a) (λ z. natAbs z ≤ max (suc a) b) (λ l. omega arith) (λ l. omega arith)
-between-suc (negsuc a) (negsuc zero) k h =
-    sub-cases k (suc a) (λ z. natAbs z ≤ max (suc a) 1) (λ l. omega arith) (λ l. omega arith)
-between-suc (negsuc a) (negsuc (suc b)) k h =
-    sub-cases (suc a) (suc b) (λ z. k < raised z → natAbs (subℕ k (suc a)) ≤ max (suc a) (suc (suc b)))
-    (λ l r. omega arith)
-    (λ l r. sub-cases k (suc a) (λ z. natAbs z ≤ max (suc a) (suc (suc b))) (λ u. omega arith) (λ u. omega arith))
-    h
-
 pub between : (i j : ℤ) (k : ℕ) → k < howMany i j → natAbs (i +ℤ pos k) ≤ max (natAbs i) (natAbs j)
-between i j k h = between-suc i j k (rw +ℤ-one at h)
+between i j k h =
+    let r = howMany i j - suc k in
+    let end : j ≡ i +ℤ pos (k + r) = last-of i j k r (omega arith) in
+    near-on (max (natAbs i) (natAbs j)) i k (k + r) (omega arith) (omega arith) (subst (λ (z : ℤ). natAbs z ≤ max (natAbs i) (natAbs j)) end (omega arith))
 
 pub many-far : (i j : ℤ) → howMany i j ≤ natAbs j + 1 + natAbs i
 many-far i j = omega (arith, raised-far (j +ℤ pos 1 -ℤ i), minus-far (j +ℤ pos 1) i, add-far j (pos 1))
@@ -59,7 +43,7 @@ last-times (negsuc n) s = rw (neg-far (pos (suc n / s))) (div-mul-le-self (suc n
 pub first-far : (lo : ℤ) (s : ℕ) → 0 < s → natAbs (firstIndex lo s) ≤ natAbs lo
 first-far (pos n) s h =
     le-of-suc-le-suc (rw (← add-one n) (div-lt-iff-lt-mul h .1 (omega (arith, mul-le-mul-left n h, mul-one n, add-mul n 1 s, one-mul s))))
-first-far (negsuc n) s h = quot-far (negsuc n) s
+first-far (negsuc n) s h = quotient-far (negsuc n) (pos s)
 
 pub max-times : (a b s x : ℕ) → a * s ≤ x → b * s ≤ x → max a b * s ≤ x
 max-times a b s x p q = go (decLe a b)
@@ -109,4 +93,4 @@ module _ (lo hi : ℤ) (s : ℕ) (hl : natAbs lo ≤ 1000000000) (hh : natAbs hi
   first-near = rw (times-far (firstIndex lo s) s) (omega (arith, first-times lo s))
 
   pub count-near : howMany (firstIndex lo s) (lastIndex hi s) ≤ 2000000001
-  count-near = omega (arith, many-far (firstIndex lo s) (lastIndex hi s), first-far lo s hs, quot-far hi s)
+  count-near = omega (arith, many-far (firstIndex lo s) (lastIndex hi s), first-far lo s hs, quotient-far hi (pos s))

@@ -8,8 +8,8 @@ use Prim.Native.Nat.{ℕ, suc, _+_, _-_, _≤_}
 use native.Mathlib.Omega.{arith}
 use lib.Dec.{T}
 use lib.Ieee.Bits.{is-true}
-use lib.IntN.{ℤ, pos, negsuc, natAbs, _+ℤ_, _-ℤ_, +ℤ-idr, +ℤ-comm, +ℤ-negℤ-cancel, -ℤ-+ℤ-cancel}
-use lib.Signed.{ltZ, leZ, _≤ℤ_, pos-natAbs}
+use lib.IntN.{ℤ, pos, negsuc, natAbs, _+ℤ_, _-ℤ_, +ℤ-idr}
+use lib.Signed.{ltZ, _≤ℤ_}
 use borrow.Author.Tests.{leb-true, le-leb, le-ltb, not-false}
 use mir.Facts.{and-yes}
 use Rattle.ranged1d.specs.Answer.{given, none, _when_, lowest}
@@ -17,23 +17,12 @@ use Rattle.ranged1d.specs.Admitted.{wholeAdmitted, pixelAdmitted, limitAdmitted
 use Rattle.ranged1d.specs.declared.Limit.{Limit}
 use Rattle.ranged1d.proofs.Answers.{given-is, not-both, not-none, choice}
 use Rattle.ranged1d.proofs.Lowest.{given-tests}
-use Rattle.ranged1d.proofs.Whole.{sub-cases, minus-far, not-lt, ordered}
+use Rattle.ranged1d.proofs.Whole.{sub-cases, minus-far, not-lt, from-start, back-to-start, not-before, no-difference}
 use Rattle.discrete.specs.Index.{noIndex}
 use Rattle.discrete.proofs.Index.{not-zero}
-use Rattle.discrete.proofs.Theorems.{Between, limits-meet, index-at-most}
+use Rattle.discrete.proofs.Theorems.{Between, index-at-most}
 use Rattle.numeric.specs.Whole.{endsAdmitted, countOf, isIndex, wholeIndexOf, wholeFromIndex, wholeReading, readIndex}
 use Rattle.numeric.proofs.Readings.{ends-near}
-
--- ---- k past a
-from-start : (a v : ℤ) → leZ a v ≡ true → a +ℤ pos (natAbs (v -ℤ a)) ≡ v
-from-start a v h = ap (λ (z : ℤ). a +ℤ z) (pos-natAbs (v -ℤ a) (ordered a v h)) ∙ +ℤ-comm a (v -ℤ a) ∙ -ℤ-+ℤ-cancel v a
-
-back-to-start : (a : ℤ) (k : ℕ) → natAbs (a +ℤ pos k -ℤ a) ≡ k
-back-to-start a k = ap (λ (z : ℤ). natAbs (z -ℤ a)) (+ℤ-comm a (pos k)) ∙ ap natAbs (+ℤ-negℤ-cancel (pos k) a)
-
-not-before : (a : ℤ) (k : ℕ) → ltZ (a +ℤ pos k) a ≡ false
-not-before (pos m) k = le-ltb (m + k) m (omega arith)
-not-before (negsuc m) k = sub-cases k (suc m) (λ z. ltZ z (negsuc m) ≡ false) (λ l. le-ltb m (suc m - suc k) (omega arith)) (λ l. refl)
 
 -- up to one past an admitted value there are only i32s
 not-too-high : (a : ℤ) (n k : ℕ) → natAbs (a +ℤ pos n) ≤ 1000000000 → n ≤ 2000000000 → k ≤ n + 1 → ltZ (pos 2147483647) (a +ℤ pos k) ≡ false
@@ -69,7 +58,7 @@ pub index-of-value : (a b : ℤ) (k : ℕ) {v : ℤ} → wholeFromIndex a b k �
 unfolding wholeIndexOf wholeFromIndex
 index-of-value a b k e h =
     let told = given-tests (1 when not (endsAdmitted a b) ∷ 10 when (isIndex k && ltZ (pos 2147483647) (a +ℤ pos k)) ∷ []) (cond (isIndex k) (given (a +ℤ pos k)) none) e in
-    rw (not-false (endsAdmitted a b) (told .0 .0), h, ← choice (isIndex k) (a +ℤ pos k) _ (told .1) .1, not-before a k, back-to-start a k)
+    rw (not-false (endsAdmitted a b) (told .0 .0), h, ← choice (isIndex k) (a +ℤ pos k) _ (told .1) .1, not-before a k, back-to-start a (pos k))
 
 -- ---- a pixel between the limits
 -- an index up to the count: it is one, and the value there is an i32
@@ -93,4 +82,4 @@ module _ (a b x : ℤ) (l : Limit) where
   reading-between ends film apart between =
       let most = index-at-most x (l .0) (l .1) (countOf a b) between in
       let high = counted a b (readIndex a b x l) ends most in
-      (rw (ends, film, not-zero (l .1 -ℤ l .0) (λ e. apart (limits-meet (l .0) (l .1) e)), le-leb _ _ (high .0), high .1), most)
+      (rw (ends, film, not-zero (l .1 -ℤ l .0) (λ e. apart (sym (no-difference (l .0) (l .1) e))), le-leb _ _ (high .0), high .1), most)

@@ -1,13 +1,14 @@
 -- Lists that are made by a rule, `listOf f n`: their length, their entries, and how one is written from the front, one store a turn.
 -- Assumes nothing.
 use mathlib.Core.Path.{_≡_, refl, sym, ap, ap₂, _∙_}
-use mathlib.Core.List.{List, [], _∷_, _++_, append-assoc, map, map-append}
+use mathlib.Core.List.{List, [], _∷_, _++_, map, map-append}
 use Prim.Native.Nat.{ℕ, zero, suc, _+_, _≤_, _<_}
 use native.Mathlib.Omega.{arith}
 use native.Mathlib.Numerals.{add-one}
 use native.Mathlib.Decide.{decLe}
 use lib.ListN.{length, set, drop, getD, length-append, List·getD-append}
-use lib.Seq.{drop-cons, set-at, getD-at}
+use lib.Seq.{getD-at}
+use Rattle.ranged1d.proofs.Pieces.{put-next}
 use Rattle.numeric.specs.Marks.{listOf}
 
 module _ {A : Type 0} (f : ℕ → A) where
@@ -17,9 +18,7 @@ module _ {A : Type 0} (f : ℕ → A) where
 
   -- `d` is any element: it stands where a list has none
   pub write-more : (d : A) (k : ℕ) (o : List A) → k < length o → set (listOf f k ++ drop k o) k (f k) ≡ listOf f (k + 1) ++ drop (k + 1) o
-  write-more d k o h =
-      rw (add-one, drop-cons o k d)
-      (set-at (listOf f k) (getD o k d) (drop (suc k) o) (f k) k (length-of k) ∙ sym (append-assoc (listOf f k) (f k ∷ []) (drop (suc k) o)))
+  write-more d k o h = put-next d (listOf f k) (f k) k o (length-of k) h ∙ ap (λ (n : ℕ). listOf f n ++ drop (k + 1) o) (sym (add-one k))
 
   pub entry : (d : A) (n i : ℕ) → i < n → getD (listOf f n) i d ≡ f i
   entry d zero i h = absurd (omega arith)

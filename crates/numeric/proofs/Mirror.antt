@@ -4,7 +4,7 @@ use mathlib.Core.Logic.{_⊎_, inl, inr}
 use mathlib.Core.Bool.{Bool, true, false, cond, not, _&&_}
 use mathlib.Core.List.{List, [], _∷_, _++_, map}
 use Prim.Native.Nat.{ℕ, zero, suc, _+_, _-_, _*_, _/_, _%_, _≤_, _<_}
-use native.Mathlib.Nat.{zero-mod, zero-div, suc-mul, div-add-mod', div-mul-le-self, le-div-iff-mul-le, mod-lt, le-trans, mul-le-mul-right}
+use native.Mathlib.Nat.{zero-mod, suc-mul, div-add-mod', div-mul-le-self, le-div-iff-mul-le, mod-lt, le-trans}
 use native.Mathlib.Omega.{arith}
 use borrow.Author.Tests.{leb-true, leb-false, ltb-true, eqb-true, eqb-false, lt-ltb}
 use lib.Arith.{digits-div}
@@ -15,13 +15,13 @@ use lib.Signed.{leZ, ltZ, quotZ, _<ℤ_}
 use Rattle.ranged1d.specs.Answer.{Answer, given, Reason, _when_, lowest, BothLong}
 use Rattle.ranged1d.specs.Admitted.{wholeAdmitted}
 use Rattle.ranged1d.proofs.Lowest.{lowest-then}
-use Rattle.ranged1d.proofs.Whole.{neg-far, other-way, both-ways, neg-le, neg-lt, neg-times}
+use Rattle.ranged1d.proofs.Whole.{neg-far, other-way, less-not-above, yes-le, yes-lt, lt-yes, neg-below, below-all, both-ways, neg-le, neg-lt, neg-times, quot-neg}
 use Rattle.numeric.specs.Marks.{low, high, distance, stepAt, chosen, ceilDiv, firstIndex, lastIndex, multiple, multiples, noStepFor, stepFor, marksFor, noStep, stepOf, marks}
 use Rattle.numeric.specs.Calls.{wholeKeyPoints}
 use Rattle.numeric.specs.Mirror.{mirrored, nearest, Divides, NextTowardZero, OneMore, stepOnly, Mirrored}
-use Rattle.numeric.proofs.Signs.{yes-le, yes-lt, lt-yes, above-neg, neg-order, below-all}
 use Rattle.numeric.proofs.Steps.{step-pos}
 use Rattle.numeric.proofs.Reflect.{reflect, one-more, mirrored-cons}
+use Rattle.numeric.proofs.Theorems.{first-least}
 
 -- ---- z cut to a multiple of s toward zero, for z below zero and no multiple itself, is the next multiple toward zero
 abbrev cut : ℕ → ℤ → ℤ
@@ -39,34 +39,17 @@ module _ (s : ℕ) (hs : 0 < s) (n : ℕ) (odd : suc n % s ≡ 0 → ⊥) where
   unfolding c
   cut-past = omega (arith, div-add-mod' (suc n) s)
 
-  no-nearer : (k : ℤ) → negsuc n <ℤ (k *ℤ pos s) → leZ (negℤ (pos (c * s))) (k *ℤ pos s) ≡ true
-  unfolding c
-  no-nearer (pos j) h = below-all (c * s) (j * s)
-  no-nearer (negsuc j) h = neg-order (c * s) (suc j * s) (mul-le-mul-right s fewer)
-    where
-      short : (x : ℕ) → ltZ (negsuc n) (negℤ (pos x)) ≡ true → x ≤ suc n
-      short zero e = omega arith
-      short (suc x) e = omega (arith, ltb-true x n e)
-
-      fewer : suc j ≤ c
-      fewer = le-div-iff-mul-le hs .1 (short (suc j * s) (lt-yes h))
-
   pub cut-next : NextTowardZero s (negsuc n) (cut s (negsuc n))
   cut-next = record {
     multiple = (quotZ (negsuc n) (pos s), refl);
-    past = yes-lt (rw cut-is (above-neg n (c * s) cut-past));
+    past = yes-lt (rw cut-is (neg-below (suc n) (c * s) cut-past));
     toward-zero = yes-le (rw cut-is (below-all (c * s) 0));
-    next = λ k h. yes-le (rw cut-is (no-nearer k h));
+    next = λ k h. first-least s hs (negsuc n) k (yes-le (less-not-above (negsuc n) (k *ℤ pos s) (lt-yes h)));
   }
 
 -- ---- an axis from lo to hi, with the step s
 abbrev marksBy : ℤ → ℤ → ℕ → List ℤ
 marksBy lo hi s = multiples (firstIndex lo s) (lastIndex hi s) s
-
-cut-neg : (z : ℤ) (s : ℕ) → quotZ (negℤ z) (pos s) ≡ negℤ (quotZ z (pos s))
-cut-neg (pos zero) s = ap pos (zero-div s) ∙ sym (ap (λ (n : ℕ). negℤ (pos n)) (zero-div s))
-cut-neg (pos (suc a)) s = refl
-cut-neg (negsuc a) s = sym (negℤ-negℤ (pos (suc a / s)))
 
 ceil-even : (n s : ℕ) → 0 < s → n % s ≡ 0 → ceilDiv n s ≡ n / s
 ceil-even n s h e =
@@ -97,7 +80,7 @@ module _ (s : ℕ) (hs : 0 < s) where
 
   even-at : (lo hi : ℤ) → leZ lo hi ≡ true → Divides s (nearest lo hi) → marksBy (negℤ hi) (negℤ lo) s ≡ mirrored (marksBy lo hi s)
   even-at lo hi l e =
-      ap₂ (λ (f g : ℤ). multiples f g s) (first-hi lo hi l e ∙ cut-neg hi s) (cut-neg lo s)
+      ap₂ (λ (f g : ℤ). multiples f g s) (first-hi lo hi l e ∙ quot-neg hi s) (quot-neg lo s)
       ∙ reflect (quotZ lo (pos s)) (quotZ hi (pos s)) s
       ∙ ap (λ (f : ℤ). mirrored (multiples f (quotZ hi (pos s)) s)) (sym (first-lo lo hi e))
 
@@ -105,7 +88,7 @@ module _ (s : ℕ) (hs : 0 < s) where
   grows p q h = le-div-iff-mul-le hs .1 (le-trans (div-mul-le-self p s) h)
 
   first-neg : (q : ℕ) → firstIndex (negℤ (pos q)) s ≡ negℤ (pos (q / s))
-  first-neg zero = first-zero ∙ cut-neg (pos 0) s
+  first-neg zero = first-zero ∙ quot-neg (pos 0) s
   first-neg (suc q) = refl
 
   -- where it does not, and the axis lies above zero, its mirror has one mark more: its end nearest zero, cut toward zero
@@ -113,11 +96,11 @@ module _ (s : ℕ) (hs : 0 < s) where
   above-at p q l e =
       let x = p / s in
       let y = q / s in
-      ap₂ (λ (f g : ℤ). multiples f g s) (first-neg q) (cut-neg (pos p) s)
+      ap₂ (λ (f g : ℤ). multiples f g s) (first-neg q) (quot-neg (pos p) s)
       ∙ reflect (pos x) (pos y) s
       ∙ ap mirrored (one-more x y s (grows p q l))
       ∙ mirrored-cons (pos x *ℤ pos s) (multiples (pos (suc x)) (pos y) s)
-      ∙ ap₂ (λ (n : ℕ) (z : ℤ). mirrored (multiples (pos n) (pos y) s) ++ (z ∷ [])) (sym (ceil-odd p s hs e)) (sym (neg-times (pos x) s) ∙ ap (λ (z : ℤ). z *ℤ pos s) (sym (cut-neg (pos p) s)))
+      ∙ ap₂ (λ (n : ℕ) (z : ℤ). mirrored (multiples (pos n) (pos y) s) ++ (z ∷ [])) (sym (ceil-odd p s hs e)) (sym (neg-times (pos x) s) ∙ ap (λ (z : ℤ). z *ℤ pos s) (sym (quot-neg (pos p) s)))
 
   -- the same, for an axis whose ends are any numbers above zero
   above-more : (lo hi : ℤ) → leZ lo hi ≡ true → (Divides s lo → ⊥) → ltZ (pos 0) lo ≡ true → OneMore s (negℤ lo) (marksBy (negℤ hi) (negℤ lo) s) (marksBy lo hi s)

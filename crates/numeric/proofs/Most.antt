@@ -12,7 +12,7 @@ use lib.IntN.{ℤ, pos, negsuc, negℤ, natAbs, _+ℤ_, _-ℤ_, negℤ-negℤ}
 use lib.ListN.{length}
 use lib.Signed.{leZ}
 use Rattle.ranged1d.specs.Numbers.{raised}
-use Rattle.ranged1d.proofs.Whole.{sub-cases}
+use Rattle.ranged1d.proofs.Whole.{sub-cases, sub-size}
 use Rattle.numeric.specs.Marks.{low, high, howMany, firstIndex, lastIndex, distance, stepAt, powerOfTen, ceilDiv, serves, firstOf, chosen, noStepFor, noStep, stepFor, marksFor, marks}
 use Rattle.numeric.proofs.Steps.{step-pos}
 use Rattle.numeric.proofs.Lists.{length-of}
@@ -60,8 +60,7 @@ serves-few d m k h = go (powerOfTen k) h
 
 -- the distance, by the signs
 pub apart-pos : (p q : ℕ) → p ≤ q → natAbs (pos q -ℤ pos p) ≡ q - p
-apart-pos zero q h = omega arith
-apart-pos (suc p) q h = sub-cases q (suc p) (λ z. natAbs z ≡ q - suc p) (λ l. omega arith) (λ l. refl)
+apart-pos p q h = omega (arith, sub-size q p)
 
 pub apart-neg : (p q : ℕ) → q ≤ p → natAbs (negsuc q -ℤ negsuc p) ≡ p - q
 apart-neg p q h = sub-cases (suc p) (suc q) (λ z. natAbs z ≡ p - q) (λ l. omega arith) (λ l. omega arith)

@@ -2,30 +2,31 @@
 -- ends are apart. So every mark has a place. Assumes nothing.
 use mathlib.Core.Path.{_≡_, sym, ap, _∙_, subst}
 use mathlib.Core.Bool.{Bool, true, false, cond, _&&_}
+use mathlib.Core.Logic.{inl}
 use Prim.Native.Nat.{ℕ, zero, suc, _+_, _-_, _*_, _/_, _%_, _≤_, _<_, max}
-use native.Mathlib.Nat.{le-trans, add-mul, div-mul-le-self, div-add-mod', lt-div-mul-add, mul-le-mul-right, zero-mul}
+use native.Mathlib.Nat.{le-trans, add-mul, div-mul-le-self, div-add-mod', lt-div-mul-add, mul-le-mul-right, pos-of-ne-zero}
 use native.Mathlib.Decide.{decLe}
 use native.Mathlib.Omega.{arith}
 use borrow.Author.Tests.{leb-true, leb-false, eq-eqb}
 use lib.Dec.{T, leb, ltb, eqb, leb→le, eqb→eq}
-use lib.IntN.{ℤ, pos, negsuc, negℤ, natAbs, subℕ, _+ℤ_, _-ℤ_, _*ℤ_, +ℤ-comm, +ℤ-assoc, +ℤ-negℤ-cancel, -ℤ-+ℤ-cancel, negℤ-+ℤ}
+use lib.IntN.{ℤ, pos, negsuc, negℤ, natAbs, subℕ, _+ℤ_, _-ℤ_, _*ℤ_, +ℤ-assoc}
 use lib.ListN.{length}
 use mir.Facts.{and-yes}
-use lib.Signed.{leZ, pos-natAbs}
-use Rattle.ranged1d.proofs.Whole.{turned-far, sub-cases, neg-far, neg-times, times-far, ordered}
+use lib.Signed.{leZ}
+use Rattle.ranged1d.proofs.Whole.{turned-far, sub-cases, sub-size, neg-far, neg-times, times-far, minus-shift, from-start, back-to-start}
 use Rattle.ranged1d.specs.Answer.{given}
 use Rattle.numeric.specs.declared.KeyPoints.{KeyPoints}
 use Rattle.numeric.proofs.Lists.{length-of}
 use Rattle.numeric.proofs.Bounds.{between, last-times, max-times, multiple-element}
 use Rattle.numeric.proofs.Plans.{one-near, Good, planned-good}
 use Rattle.numeric.proofs.Mirror.{low-high}
-use Rattle.numeric.proofs.NoStep.{differ}
+use Rattle.numeric.proofs.NoStep.{differ, served-none}
 use Rattle.ranged1d.proofs.Table.{at}
 use Rattle.numeric.specs.Marks.{low, high, distance, stepAt, powerOfTen, ceilDiv, chosen, firstIndex, lastIndex, howMany, listOf, multiple, stepFor, marksFor}
 use Rattle.numeric.specs.Calls.{wholePlan, planOf, element}
 use Rattle.numeric.proofs.Steps.{steps, step-pos}
 use Rattle.numeric.proofs.Reflect.{many-pos, many-turned}
-use Rattle.numeric.proofs.Most.{apart-pos, apart-neg, many-across, chosen-serves, chosen-first, serves-few}
+use Rattle.numeric.proofs.Most.{apart-pos, apart-neg, many-across, chosen-first}
 
 -- ---- the step is at most ten times the distance
 -- the last power of ten before step k, and that step k is at most ten times it: one test over the table
@@ -52,15 +53,7 @@ first-step h = omega arith
 module _ (d m : ℕ) (hd : 0 < d) (h : chosen d m < 28) where
   -- m is not 0, since no step serves then
   some : 0 < m
-  some = go (decLe 1 m)
-    where
-      go : Dec (1 ≤ m) → 0 < m
-      go (yes l) = l
-      go (no f) =
-          let s = stepAt (chosen d m) in
-          let few = mul-le-mul-right s (serves-few d m (chosen d m) (chosen-serves d m h)) in
-          let none : m ≡ 0 = omega arith in
-          absurd (omega (arith, few, ap (λ (n : ℕ). n * s) none, zero-mul s, lt-div-mul-add {a = d + (s - 1)} (step-pos (chosen d m) h)))
+  some = pos-of-ne-zero (λ z. omega (arith, h, served-none d m (inl (z, hd))))
 
   -- the power of ten before it did not serve, so the distance is longer than that
   longer : 1 ≤ chosen d m → stepAt (before (chosen d m)) ≤ d
@@ -128,28 +121,10 @@ module _ (s : ℕ) (hs : 0 < s) where
       (max-times (natAbs i) (natAbs j) s (max (suc p) (natAbs hi)) (rw (neg-far (pos (suc p / s))) (omega (arith, div-mul-le-self (suc p) s))) (omega (arith, last-times hi s))))
 
 -- ---- distances from either end
-after-lo : (lo : ℤ) (x : ℕ) → (lo +ℤ pos x) -ℤ lo ≡ pos x
-after-lo lo x = ap (λ (z : ℤ). z -ℤ lo) (+ℤ-comm lo (pos x)) ∙ +ℤ-negℤ-cancel (pos x) lo
-
--- hi is the distance after lo
-hi-after : (lo hi : ℤ) → leZ lo hi ≡ true → hi ≡ lo +ℤ pos (distance lo hi)
-hi-after lo hi l = sym (-ℤ-+ℤ-cancel hi lo) ∙ ap (λ (z : ℤ). z +ℤ lo) (sym (pos-natAbs (hi -ℤ lo) (ordered lo hi l))) ∙ +ℤ-comm (pos (distance lo hi)) lo
-
-after-hi : (lo : ℤ) (x d : ℕ) → (lo +ℤ pos x) -ℤ (lo +ℤ pos d) ≡ pos x -ℤ pos d
-after-hi lo x d =
-    ap (λ (z : ℤ). lo +ℤ pos x +ℤ z) (negℤ-+ℤ lo (pos d))
-    ∙ ap (λ (z : ℤ). z +ℤ (negℤ lo +ℤ negℤ (pos d))) (+ℤ-comm lo (pos x))
-    ∙ sym (+ℤ-assoc (pos x +ℤ lo) (negℤ lo) (negℤ (pos d)))
-    ∙ ap (λ (z : ℤ). z +ℤ negℤ (pos d)) (+ℤ-negℤ-cancel (pos x) lo)
-
-less-far : (x d y : ℕ) → x ≤ y → d ≤ y → natAbs (pos x -ℤ pos d) ≤ y
-less-far x zero y p q = omega arith
-less-far x (suc d) y p q = sub-cases x (suc d) (λ z. natAbs z ≤ y) (λ l. omega arith) (λ l. omega arith)
-
 both-ends : (lo hi v : ℤ) (x : ℕ) → leZ lo hi ≡ true → v ≡ lo +ℤ pos x → x ≤ 11 * distance lo hi → (natAbs (v -ℤ lo) ≤ 11 * distance lo hi) × (natAbs (v -ℤ hi) ≤ 11 * distance lo hi)
 both-ends lo hi v x l e h = (
-  rw (e, after-lo lo x) h,
-  subst (λ (z : ℤ). natAbs (v -ℤ z) ≤ 11 * distance lo hi) (sym (hi-after lo hi l)) (rw (e, after-hi lo x (distance lo hi)) (less-far x (distance lo hi) (11 * distance lo hi) h (omega arith))),
+  rw (e, back-to-start lo (pos x)) h,
+  subst (λ (z : ℤ). natAbs (v -ℤ z) ≤ 11 * distance lo hi) (from-start lo hi l) (rw (e, minus-shift lo (pos x) (pos (distance lo hi))) (omega (arith, sub-size x (distance lo hi), h))),
 )
 
 -- ---- the marks of an axis with a plan

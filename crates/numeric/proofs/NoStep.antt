@@ -9,12 +9,12 @@ use native.Mathlib.Decide.{decLe}
 use native.Mathlib.Omega.{arith}
 use borrow.Author.Tests.{leb-true, le-leb}
 use lib.Dec.{T, ltb}
-use lib.IntN.{ℤ, pos, negsuc, natAbs, _+ℤ_, _-ℤ_, +ℤ-invr, -ℤ-+ℤ-cancel, +ℤ-idl}
+use lib.IntN.{ℤ, pos, natAbs, _+ℤ_, _-ℤ_, +ℤ-invr}
 use lib.ListN.{length}
 use lib.Signed.{leZ}
 use Rattle.ranged1d.specs.Answer.{Answer, given, none, refused, _when_, lowest}
 use Rattle.ranged1d.specs.Admitted.{wholeAdmitted}
-use Rattle.ranged1d.proofs.Whole.{minus-far}
+use Rattle.ranged1d.proofs.Whole.{minus-far, some-size, no-difference}
 use Rattle.numeric.specs.Marks.{low, high, distance, stepAt, ceilDiv, serves, chosen, noStepFor, noStep, stepOf, marks}
 use Rattle.numeric.specs.Calls.{wholeKeyPoints}
 use Rattle.numeric.proofs.Steps.{step-pos, step-top}
@@ -74,14 +74,7 @@ module _ (d m : ℕ) where
       go (yes l) w = l
       go (no f) w = absurd (bound (served-bound (omega arith)) w)
 
--- ends with no distance between them are equal
-zero-of : (z : ℤ) → natAbs z ≡ 0 → z ≡ pos 0
-zero-of (pos n) e = ap pos e
-zero-of (negsuc n) e = absurd (omega arith)
-
-apart-zero : (lo hi : ℤ) → distance lo hi ≡ 0 → lo ≡ hi
-apart-zero lo hi e = sym (+ℤ-idl lo) ∙ ap (λ (z : ℤ). z +ℤ lo) (sym (zero-of (hi -ℤ lo) e)) ∙ -ℤ-+ℤ-cancel hi lo
-
+-- equal ends have no distance between them, and others have one
 zero-apart : (a : ℤ) → distance (low a a) (high a a) ≡ 0
 zero-apart a = go (leZ a a)
   where
@@ -89,19 +82,12 @@ zero-apart a = go (leZ a a)
     go true = ap natAbs (+ℤ-invr a)
     go false = ap natAbs (+ℤ-invr a)
 
-ends-equal : (a b : ℤ) → distance (low a b) (high a b) ≡ 0 → a ≡ b
-ends-equal a b = go (leZ a b)
-  where
-    go : (t : Bool) → distance (cond t a b) (cond t b a) ≡ 0 → a ≡ b
-    go true e = apart-zero a b e
-    go false e = sym (apart-zero b a e)
-
 pub differ : (a b : ℤ) → (a ≡ b → ⊥) → 0 < distance (low a b) (high a b)
-differ a b f = go (decLe 1 (distance (low a b) (high a b)))
+differ a b f = go (leZ a b)
   where
-    go : Dec (1 ≤ distance (low a b) (high a b)) → 0 < distance (low a b) (high a b)
-    go (yes l) = l
-    go (no u) = absurd (f (ends-equal a b (omega arith)))
+    go : (t : Bool) → 0 < distance (cond t a b) (cond t b a)
+    go true = some-size (b -ℤ a) (λ e. f (no-difference a b e))
+    go false = some-size (a -ℤ b) (λ e. f (sym (no-difference b a e)))
 
 module _ (a b : ℤ) (m : ℕ) where
   no-step→ : natAbs a ≤ 1000000000 → natAbs b ≤ 1000000000 → noStep a b m ≡ true → NoneServes a b m

@@ -1,6 +1,6 @@
 -- Places of whole axes: by the tests that lead to each answer, and that every mark has one. Assumes nothing.
-use mathlib.Core.Path.{_≡_, refl, sym, ap, _∙_}
-use mathlib.Core.Bool.{Bool, true, false, not, _&&_}
+use mathlib.Core.Path.{_≡_, sym, ap, _∙_}
+use mathlib.Core.Bool.{Bool, true, false, not, _&&_, not-eq-not}
 use mathlib.Core.List.{[], _∷_}
 use Prim.Native.Nat.{ℕ, _≤_, _<_}
 use lib.IntN.{ℤ, pos, natAbs, _-ℤ_}
@@ -24,11 +24,7 @@ use Rattle.numeric.proofs.Near.{mark-near}
 -- what a call answers once the ends, and then the value, are tested
 pub by-tests : (a b v : ℤ) (limit : Limit) (t u : Bool) → t ≡ endsAdmitted a b → u ≡ wholeAdmitted v
     → wholePlace a b v limit ≡ lowest (1 when not (t && u) ∷ []) (realPlace (ofInt binary64 a) (ofInt binary64 b) (ofInt binary64 v) limit)
-by-tests a b v limit t u e f = whole-is-real a b v limit ∙ rw (e, f, grouped (wholeAdmitted a) (wholeAdmitted b) (wholeAdmitted v))
-  where
-    grouped : (x y z : Bool) → x && y && z ≡ (x && y) && z
-    grouped true y z = refl
-    grouped false y z = refl
+by-tests a b v limit t u e f = whole-is-real a b v limit ∙ rw (e, f)
 
 -- past all tests it is the place of the rule, or 5
 pub past-tests : (a b v : ℤ) (limit : Limit) → true ≡ endsAdmitted a b → true ≡ wholeAdmitted v → limitAdmitted limit ≡ true → wholePlace a b v limit ≡ spotAnswer (wholeSpot a b v limit)
@@ -44,11 +40,7 @@ pub sloped-spot : (a b v : ℤ) (limit : Limit) → natAbs a ≤ 1000000000 → 
     → wholeSpot a b v limit ≡ along (limit .0) (limit .1) (limit .1 -ℤ limit .0) (div binary64 (ofInt binary64 (v -ℤ a)) (ofInt binary64 (b -ℤ a)))
 unfolding spot
 sloped-spot a b v limit ha hb hv n =
-    rw (differ (eq (ofInt binary64 a) (ofInt binary64 b)) refl) (ap (along (limit .0) (limit .1) (limit .1 -ℤ limit .0)) (whole-share a b v (omega arith) (omega arith) (omega arith)))
-  where
-    differ : (t : Bool) → eq (ofInt binary64 a) (ofInt binary64 b) ≡ t → eq (ofInt binary64 a) (ofInt binary64 b) ≡ false
-    differ true e = absurd (n (same-int a b (omega arith) (omega arith) e))
-    differ false e = e
+    rw (not-eq-not {b = false} .0 (λ e. n (same-int a b (omega arith) (omega arith) e))) (ap (along (limit .0) (limit .1) (limit .1 -ℤ limit .0)) (whole-share a b v (omega arith) (omega arith) (omega arith)))
 
 -- every mark that a plan streams has a place on every film: 5 does not arise
 pub mark-placed : (a b : ℤ) (m : ℕ) {p : KeyPoints} → wholePlan a b m ≡ given p → (limit : Limit) → limitAdmitted limit ≡ true

@@ -1,6 +1,6 @@
 -- Lists of multiples, turned about zero. Assumes nothing.
 use mathlib.Core.Path.{_≡_, refl, sym, ap, ap₂, _∙_}
-use mathlib.Core.List.{List, [], _∷_, _++_, map, reverse, reverse-append, reverse-cons}
+use mathlib.Core.List.{List, [], _∷_, _++_, map, map-append, reverse, reverse-append, reverse-cons}
 use Prim.Native.Nat.{ℕ, zero, suc, _+_, _-_, _≤_}
 use native.Mathlib.Nat.{add-zero, add-suc}
 use native.Mathlib.Omega.{arith}
@@ -11,12 +11,8 @@ use Rattle.numeric.specs.Marks.{howMany, multiple, multiples, listOf}
 use Rattle.numeric.specs.Mirror.{mirrored}
 use Rattle.numeric.proofs.Lists.{list-cons, list-ext}
 
-map-snoc : (l : List ℤ) (z : ℤ) → map negℤ (l ++ (z ∷ [])) ≡ map negℤ l ++ (negℤ z ∷ [])
-map-snoc [] z = refl
-map-snoc (x ∷ l) z = ap (λ (r : List ℤ). negℤ x ∷ r) (map-snoc l z)
-
 pub mirrored-snoc : (l : List ℤ) (z : ℤ) → mirrored (l ++ (z ∷ [])) ≡ negℤ z ∷ mirrored l
-mirrored-snoc l z = ap reverse (map-snoc l z) ∙ reverse-append (map negℤ l) (negℤ z ∷ [])
+mirrored-snoc l z = ap reverse (map-append negℤ l (z ∷ [])) ∙ reverse-append (map negℤ l) (negℤ z ∷ [])
 
 pub mirrored-cons : (z : ℤ) (l : List ℤ) → mirrored (z ∷ l) ≡ mirrored l ++ (negℤ z ∷ [])
 mirrored-cons z l = reverse-cons (negℤ z) (map negℤ l)

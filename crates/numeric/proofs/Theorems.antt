@@ -9,16 +9,15 @@ use native.Mathlib.Nat.{div-mul-le-self, lt-div-mul-add, lt-of-mul-lt-mul-right,
 use native.Mathlib.Omega.{arith}
 use borrow.Author.Tests.{lt-ltb, le-ltb, le-leb, leb-true}
 use lib.Dec.{T}
-use lib.IntN.{ℤ, pos, negsuc, negℤ, natAbs, _*ℤ_}
+use lib.IntN.{ℤ, pos, negsuc, negℤ, natAbs, _*ℤ_, pos-ne-negsuc}
 use lib.ListN.{length, getD}
 use lib.Signed.{leZ, _≤ℤ_}
 use Rattle.ranged1d.specs.Answer.{given, none}
 use Rattle.ranged1d.specs.Numbers.{isI32}
-use Rattle.ranged1d.proofs.Whole.{neg-times}
+use Rattle.ranged1d.proofs.Whole.{yes-le, le-yes, neg-order, below-all, neg-times}
 use Rattle.numeric.specs.declared.KeyPoints.{KeyPoints}
 use Rattle.numeric.specs.Marks.{low, high, firstIndex, lastIndex, howMany, multiple, ceilDiv, stepOf, marksFor, marks}
 use Rattle.numeric.specs.Calls.{wholePlan, element, pointAt, indexMarks}
-use Rattle.numeric.proofs.Signs.{yes-le, le-yes, neg-order, below-all}
 use Rattle.numeric.proofs.Lists.{entry, list-ext, map-list}
 use Rattle.numeric.proofs.Plans.{planned-good, low-pos}
 
@@ -45,11 +44,7 @@ module _ (a b : ℤ) (m : ℕ) {p : KeyPoints} (e : wholePlan a b m ≡ given p)
 -- ---- the marks of an index axis are those of the whole axis with the same ends: none of these is below zero
 index-multiple : (z : ℤ) (s k : ℕ) → pos (natAbs z) ≡ z → pos (natAbs (multiple (firstIndex z s) s k)) ≡ multiple (firstIndex z s) s k
 index-multiple (pos n) s k e = refl
-index-multiple (negsuc n) s k e = absurd (subst from-pos e tt)
-  where
-    from-pos : ℤ → Type 0
-    from-pos (pos x) = Unit {0}
-    from-pos (negsuc x) = ⊥
+index-multiple (negsuc n) s k e = absurd (pos-ne-negsuc (suc n) n e)
 
 pub index-whole : (a b m : ℕ) → map pos (indexMarks a b m) ≡ marks (pos a) (pos b) m
 unfolding marksFor

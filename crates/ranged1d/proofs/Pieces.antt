@@ -1,25 +1,26 @@
--- Lists of bytes that are written piece by piece. Assumes nothing.
+-- Lists that are written entry by entry, and lists of bytes piece by piece. Assumes nothing.
 use mathlib.Core.Path.{_≡_, refl, sym, ap, _∙_}
 use mathlib.Core.List.{List, [], _∷_, _++_, append-assoc, append-nil}
-use Prim.Native.Nat.{ℕ, suc, _+_, _-_, _≤_}
+use Prim.Native.Nat.{ℕ, suc, _+_, _-_, _≤_, _<_}
+use native.Mathlib.Nat.{add-comm}
+use native.Mathlib.Numerals.{add-one}
 use native.Mathlib.Omega.{arith}
 use lib.ListN.{length, getD, set, take, drop, length-append, length-drop, drop-of-length-le}
 use lib.Seq.{drop-cons, take-all, take-length, take-at, drop-at, drop-drop, set-at}
 use borrow.Rule.Slice.PartMut.{putMid}
 
+-- an entry stored behind those that stand at the start of a list; `d` is any entry
+pub put-next : {A : Type 0} (d : A) (t : List A) (x : A) (k : ℕ) (o : List A) → length t ≡ k → k < length o → set (t ++ drop k o) k x ≡ (t ++ (x ∷ [])) ++ drop (k + 1) o
+put-next d t x k o e h =
+    rw (add-one, drop-cons o k d)
+    (set-at t (getD o k d) (drop (suc k) o) x k e ∙ sym (append-assoc t (x ∷ []) (drop (suc k) o)))
+
 -- a text that was copied to the start of a list, and a byte stored behind it
 pub put-is : (t : List ℕ) (last : ℕ) (o y : List ℕ) → 1 + length t ≤ length o → y ≡ take (length t) t ++ drop (length t) o → set y (length t) last ≡ (t ++ (last ∷ [])) ++ drop (1 + length t) o
 put-is t last o y h e =
-    ap (λ (l : List ℕ). set l (length t) last) copied
-    ∙ set-at t (getD o (length t) 0) (drop (suc (length t)) o) last (length t) refl
-    ∙ ap (λ (n : ℕ). t ++ last ∷ drop n o) one-more
-    ∙ sym (append-assoc t (last ∷ []) (drop (1 + length t) o))
-  where
-    copied : y ≡ t ++ getD o (length t) 0 ∷ drop (suc (length t)) o
-    copied = e ∙ rw (take-length t, drop-cons o (length t) 0 (omega arith))
-
-    one-more : suc (length t) ≡ 1 + length t
-    one-more = omega arith
+    ap (λ (l : List ℕ). set l (length t) last) (e ∙ ap (λ (l : List ℕ). l ++ drop (length t) o) (take-length t))
+    ∙ put-next 0 t last (length t) o refl (omega arith)
+    ∙ ap (λ (n : ℕ). (t ++ (last ∷ [])) ++ drop n o) (add-comm (length t) 1)
 
 -- a part of a slice that reaches to its end, and the slice with such a part put back
 pub rest-is : (a : ℕ) (l : List ℕ) → take (length l - a) (drop a l) ≡ drop a l

@@ -3,15 +3,18 @@
 use mathlib.Core.Path.{_≡_, refl, sym, ap, _∙_, subst}
 use mathlib.Core.Bool.{Bool, true, false, cond, not, _&&_, _||_, and-true}
 use Prim.Native.Nat.{ℕ, zero, suc, _+_, _-_, _*_, _/_, _^_, _≤_, _<_}
-use native.Mathlib.Nat.{le-refl, div-le-self, zero-mul}
+use native.Mathlib.Nat.{le-refl, div-le-self, zero-mul, zero-div}
 use native.Mathlib.Omega.{arith}
 use lib.Dec.{T, ltb, leb, lit<, leb·zero, leb·suc-zero, leb·suc-suc}
-use lib.IntN.{ℤ, pos, negsuc, negℤ, natAbs, subℕ, _+ℤ_, _-ℤ_, _*ℤ_, +ℤ-comm, +ℤ-assoc, +ℤ-idl, +ℤ-negℤ-cancel, negℤ-+ℤ, negℤ-negℤ}
-use lib.Signed.{leZ, ltZ, quotZ, nonNeg, natAbs-le}
-use borrow.Author.Tests.{ltb-true, ltb-false, leb-true, leb-false, le-leb, lt-leb}
+use lib.IntN.{ℤ, pos, negsuc, negℤ, natAbs, subℕ, _+ℤ_, _-ℤ_, _*ℤ_, +ℤ-comm, +ℤ-assoc, +ℤ-idl, +ℤ-negℤ-cancel, -ℤ-+ℤ-cancel, negℤ-+ℤ, negℤ-negℤ}
+use lib.Ieee.Bits.{is-true}
+use lib.Signed.{leZ, ltZ, _≤ℤ_, _<ℤ_, quotZ, nonNeg, natAbs-le, pos-natAbs}
+use borrow.Author.Tests.{ltb-true, ltb-false, lt-ltb, le-ltb, leb-true, leb-false, le-leb, lt-leb}
+use mir.Facts.{toZ-ofZ, sfits-widen}
 use mir.Syntax.{Width, w32, w64}
-use mir.Val.{SFits, hbits}
-use Rattle.ranged1d.specs.Admitted.{wholeAdmitted}
+use mir.Val.{SFits, hbits, toZ, ofZ}
+use Rattle.ranged1d.specs.Admitted.{wholeAdmitted, limitAdmitted}
+use Rattle.ranged1d.specs.declared.Limit.{Limit}
 use Rattle.ranged1d.specs.Numbers.{raised, same}
 use Rattle.ranged1d.proofs.Bools.{both-true}
 
@@ -48,9 +51,14 @@ turned-far x y = sym (neg-far (x -ℤ y)) ∙ ap natAbs (negℤ-+ℤ x (negℤ y
 pub zero-minus-far : (z : ℤ) → natAbs (pos 0 -ℤ z) ≡ natAbs z
 zero-minus-far z = ap natAbs (+ℤ-idl (negℤ z)) ∙ neg-far z
 
-pub quot-far : (x : ℤ) (s : ℕ) → natAbs (quotZ x (pos s)) ≤ natAbs x
-quot-far (pos a) s = div-le-self a s
-quot-far (negsuc a) s = omega (arith, neg-far (pos (suc a / s)), div-le-self (suc a) s)
+pub quotient-size : (x y : ℤ) → natAbs (quotZ x y) ≡ natAbs x / natAbs y
+quotient-size (pos a) (pos b) = refl
+quotient-size (pos a) (negsuc b) = neg-far (pos (a / suc b))
+quotient-size (negsuc a) (pos b) = neg-far (pos (suc a / b))
+quotient-size (negsuc a) (negsuc b) = refl
+
+pub quotient-far : (x y : ℤ) → natAbs (quotZ x y) ≤ natAbs x
+quotient-far x y = rw (quotient-size x y) (div-le-self (natAbs x) (natAbs y))
 
 pub times-far : (z : ℤ) (s : ℕ) → natAbs (z *ℤ pos s) ≡ natAbs z * s
 times-far (pos a) s = refl
@@ -63,6 +71,24 @@ pos-times-far i (negsuc a) = neg-far (pos (i * suc a))
 -- two numbers, each tested
 pub both-near : (k : ℕ) (x y : ℤ) → (leb (natAbs x) k && leb (natAbs y) k) ≡ true → (natAbs x ≤ k) × (natAbs y ≤ k)
 both-near k x y h = let w = both-true (leb (natAbs x) k) (leb (natAbs y) k) h in (leb-true (natAbs x) k (w .0), leb-true (natAbs y) k (w .1))
+
+-- the distance of admitted limits
+pub length-near : (limit : Limit) → limitAdmitted limit ≡ true → natAbs (limit .1 -ℤ limit .0) ≤ 2_000_000
+length-near limit h = let near = both-near 1_000_000 (limit .0) (limit .1) h in omega (arith, minus-far (limit .1) (limit .0), near .0, near .1)
+
+-- the distance of two numbers that are not below 0
+pub sub-size : (a b : ℕ) → natAbs (pos a -ℤ pos b) ≡ a - b + (b - a)
+sub-size a zero = omega arith
+sub-size a (suc b) = sub-cases a (suc b) (λ z. natAbs z ≡ a - suc b + (suc b - a)) (λ l. omega arith) (λ l. omega arith)
+
+-- only 0 has no size, and only equal numbers no difference
+pub some-size : (z : ℤ) → (z ≡ pos 0 → ⊥) → 0 < natAbs z
+some-size (pos zero) n = absurd (n refl)
+some-size (pos (suc k)) n = omega arith
+some-size (negsuc k) n = omega arith
+
+pub no-difference : (a b : ℤ) → b -ℤ a ≡ pos 0 → a ≡ b
+no-difference a b e = sym (sym (-ℤ-+ℤ-cancel b a) ∙ ap (λ (z : ℤ). z +ℤ a) e ∙ +ℤ-idl a)
 
 -- ---- what is small in size fits
 pub fits-abs : (w : Width) (z : ℤ) (k : ℕ) → natAbs z ≤ k → k < 2 ^ hbits w → SFits w z
@@ -81,6 +107,13 @@ far32 z f = natAbs-le z (f .sfits)
 pub range32 : (z : ℤ) → ltZ z (negsuc 2147483647) ≡ false → leZ z (pos 2147483647) ≡ true → SFits w32 z
 range32 (pos n) l u = record { sfits = omega (arith, leb-true n 2147483647 u) }
 range32 (negsuc n) l u = record { sfits = omega (arith, ltb-false 2147483647 n l) }
+
+-- an i32 that is read as an i64
+pub widens : (z : ℤ) → SFits w32 z → SFits w64 (toZ w32 (ofZ w32 z))
+widens z f = rw (toZ-ofZ f) (sfits-widen tt f)
+
+pub wide : (z : ℤ) → SFits w32 z → toZ w64 (ofZ w64 (toZ w32 (ofZ w32 z))) ≡ z
+wide z f = toZ-ofZ (widens z f) ∙ toZ-ofZ f
 
 -- within k + 1 of 0, by one comparison on each side
 pub far-below : (z : ℤ) (k : ℕ) → ltZ z (negsuc k) ≡ true → leb (natAbs z) (suc k) ≡ false
@@ -157,6 +190,43 @@ both-ways (pos a) (negsuc b) h k = absurd (subst T (sym h) tt)
 both-ways (negsuc a) (pos b) h k = absurd (subst T (sym k) tt)
 both-ways (negsuc a) (negsuc b) h k = ap negsuc (omega (arith, leb-true b a h, leb-true a b k))
 
+-- ---- order, as a test and as a fact
+pub yes-le : {x y : ℤ} → leZ x y ≡ true → x ≤ℤ y
+yes-le e = record { le = subst T (sym e) tt }
+
+pub yes-lt : {x y : ℤ} → ltZ x y ≡ true → x <ℤ y
+yes-lt e = record { lt = subst T (sym e) tt }
+
+pub le-yes : {x y : ℤ} → x ≤ℤ y → leZ x y ≡ true
+le-yes h = is-true _ (h .le)
+
+pub lt-yes : {x y : ℤ} → x <ℤ y → ltZ x y ≡ true
+lt-yes h = is-true _ (h .lt)
+
+-- ---- so far after a number
+pub from-start : (a v : ℤ) → leZ a v ≡ true → a +ℤ pos (natAbs (v -ℤ a)) ≡ v
+from-start a v h = ap (λ (z : ℤ). a +ℤ z) (pos-natAbs (v -ℤ a) (ordered a v h)) ∙ +ℤ-comm a (v -ℤ a) ∙ -ℤ-+ℤ-cancel v a
+
+pub back-to-start : (a x : ℤ) → (a +ℤ x) -ℤ a ≡ x
+back-to-start a x = ap (λ (z : ℤ). z -ℤ a) (+ℤ-comm a x) ∙ +ℤ-negℤ-cancel x a
+
+pub not-before : (a : ℤ) (k : ℕ) → ltZ (a +ℤ pos k) a ≡ false
+not-before (pos m) k = le-ltb (m + k) m (omega arith)
+not-before (negsuc m) k = sub-cases k (suc m) (λ z. ltZ z (negsuc m) ≡ false) (λ l. le-ltb m (suc m - suc k) (omega arith)) (λ l. refl)
+
+-- a number between two others is as near 0 as they are
+pub between-far : (k : ℕ) (lo x hi : ℤ) → leZ lo x ≡ true → leZ x hi ≡ true → natAbs lo ≤ k → natAbs hi ≤ k → natAbs x ≤ k
+between-far k lo (pos n) (pos m) g h a b = omega (arith, leb-true n m h)
+between-far k lo (pos n) (negsuc m) g h a b = absurd (subst T (sym h) tt)
+between-far k (negsuc m) (negsuc n) hi g h a b = omega (arith, leb-true n m g)
+between-far k (pos m) (negsuc n) hi g h a b = absurd (subst T (sym g) tt)
+
+pub near-on : (k : ℕ) (a : ℤ) (i n : ℕ) → i ≤ n → natAbs a ≤ k → natAbs (a +ℤ pos n) ≤ k → natAbs (a +ℤ pos i) ≤ k
+near-on k a i n l =
+    let rest : (a +ℤ pos i) +ℤ pos (n - i) ≡ a +ℤ pos n = +ℤ-assoc a (pos i) (pos (n - i)) ∙ ap (λ (m : ℕ). a +ℤ pos m) (omega (arith, l)) in
+    between-far k a (a +ℤ pos i) (a +ℤ pos n) (not-lt (a +ℤ pos i) a (not-before a i))
+    (subst (λ (z : ℤ). leZ (a +ℤ pos i) z ≡ true) rest (not-lt ((a +ℤ pos i) +ℤ pos (n - i)) (a +ℤ pos i) (not-before (a +ℤ pos i) (n - i))))
+
 -- ---- `same`
 le-self : (x : ℤ) → leZ x x ≡ true
 le-self (pos n) = le-leb n n (le-refl n)
@@ -199,6 +269,17 @@ neg-le (negsuc a) (negsuc b) = leb·suc-suc a b
 pub neg-lt : (x y : ℤ) → ltZ (negℤ x) (negℤ y) ≡ ltZ y x
 neg-lt x y = lt-le (negℤ x) (negℤ y) ∙ ap not (neg-le y x) ∙ sym (lt-le y x)
 
+-- −x against −y and y
+pub neg-order : (x y : ℕ) → y ≤ x → leZ (negℤ (pos x)) (negℤ (pos y)) ≡ true
+neg-order x y h = neg-le (pos x) (pos y) ∙ le-leb y x h
+
+pub neg-below : (x y : ℕ) → y < x → ltZ (negℤ (pos x)) (negℤ (pos y)) ≡ true
+neg-below x y h = neg-lt (pos x) (pos y) ∙ lt-ltb y x h
+
+pub below-all : (x y : ℕ) → leZ (negℤ (pos x)) (pos y) ≡ true
+below-all zero y = le-leb 0 y (omega arith)
+below-all (suc x) y = refl
+
 pub admitted-neg : (z : ℤ) → wholeAdmitted (negℤ z) ≡ wholeAdmitted z
 admitted-neg z = ap (λ (n : ℕ). leb n 1_000_000_000) (neg-far z)
 
@@ -213,3 +294,8 @@ pub neg-times : (x : ℤ) (s : ℕ) → negℤ x *ℤ pos s ≡ negℤ (x *ℤ p
 neg-times (pos zero) s = ap pos (zero-mul s) ∙ sym (ap (λ (n : ℕ). negℤ (pos n)) (zero-mul s))
 neg-times (pos (suc a)) s = refl
 neg-times (negsuc a) s = sym (negℤ-negℤ (pos (suc a * s)))
+
+pub quot-neg : (x : ℤ) (s : ℕ) → quotZ (negℤ x) (pos s) ≡ negℤ (quotZ x (pos s))
+quot-neg (pos zero) s = ap pos (zero-div s) ∙ sym (ap (λ (n : ℕ). negℤ (pos n)) (zero-div s))
+quot-neg (pos (suc a)) s = refl
+quot-neg (negsuc a) s = sym (negℤ-negℤ (pos (suc a / s)))

@@ -1,11 +1,11 @@
 -- The rules case by case, from the tests that the code makes. Assumes nothing.
 use mathlib.Core.Path.{_≡_, refl, sym, ap, _∙_}
 use mathlib.Core.Bool.{Bool, true, false, true≢false}
-use Prim.Native.Nat.{ℕ, zero, suc, _*_, _^_, _≤_, _<_, zero-le}
+use Prim.Native.Nat.{ℕ, _*_, _^_, _≤_, _<_, zero-le}
 use native.Mathlib.Nat.{zero-mul, mul-pos}
 use native.Mathlib.Omega.{arith}
 use lib.IntN.{ℤ, pos, negsuc, natAbs}
-use lib.Signed.{ltZ, leZ}
+use lib.Signed.{ltZ}
 use lib.Ieee.{Float, nan, inf, fin, binary64, up, down, unlike, add, mul, eq, ofInt}
 use lib.Ieee.Fits.{down-pos}
 use lib.Ieee.Exact.{HasValue}
@@ -14,6 +14,7 @@ use Rattle.ranged1d.specs.declared.Limit.{Limit}
 use Rattle.ranged1d.specs.Admitted.{pixelAdmitted, limitAdmitted}
 use Rattle.ranged1d.proofs.Bools.{both-false, chosen}
 use Rattle.ranged1d.proofs.Whole.{not-lt, both-near}
+pub use Rattle.ranged1d.proofs.Whole.{between-far}
 use Rattle.rounding.specs.Integral.{Way}
 use Rattle.rounding.specs.Within.{within}
 use Rattle.rounding.specs.declared.Whole.{Whole}
@@ -57,11 +58,6 @@ steps-near w b x l = go (within w b x) (within-held w b x)
     go (Number z) h = omega arith
     go Beyond h = zero-le
 
-pub some-size : (z : ℤ) → (z ≡ pos 0 → ⊥) → 0 < natAbs z
-some-size (pos zero) n = absurd (n refl)
-some-size (pos (suc k)) n = omega arith
-some-size (negsuc k) n = omega arith
-
 -- an infinite t leads beyond, unless L is 0
 times-inf : (x : Float) (s : Bool) (k : ℕ) (u : Bool) → HasValue x s k 1 → 0 < k → (v : Bool) × (mul binary64 x (inf u) ≡ inf v)
 unfolding mul
@@ -103,12 +99,6 @@ pub near-limits : (limit : Limit) → limitAdmitted limit ≡ true → (natAbs (
 near-limits limit h = both-near 1_000_000 (limit .0) (limit .1) h
 
 -- ---- a pixel between the limits is as near 0 as they are
-pub between-far : (k : ℕ) (lo x hi : ℤ) → leZ lo x ≡ true → leZ x hi ≡ true → natAbs lo ≤ k → natAbs hi ≤ k → natAbs x ≤ k
-between-far k lo (pos n) (pos m) g h a b = omega (arith, leb-true n m h)
-between-far k lo (pos n) (negsuc m) g h a b = absurd (true≢false (sym h))
-between-far k (negsuc m) (negsuc n) hi g h a b = omega (arith, leb-true n m g)
-between-far k (pos m) (negsuc n) hi g h a b = absurd (true≢false (sym g))
-
 pub inside-admitted : (x : ℤ) (limit : Limit) → limitAdmitted limit ≡ true → outside x (limit .0) (limit .1) ≡ false → pixelAdmitted x ≡ true
 inside-admitted x limit h o =
     let p = limit .0 in

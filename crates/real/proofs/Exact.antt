@@ -6,7 +6,7 @@ use mathlib.Core.Logic.{_⊎_, inl, inr}
 use Prim.Native.Nat.{ℕ, zero, suc, _+_, _-_, _*_, _/_, _%_, _^_, _≤_, _<_}
 use native.Mathlib.Nat.{add-zero, mul-one, zero-mul, mul-right-comm, eq-of-mul-eq-mul-right}
 use native.Mathlib.Omega.{arith}
-use lib.IntN.{ℤ, pos, negsuc, natAbs, _+ℤ_, _-ℤ_, -ℤ-+ℤ-cancel, +ℤ-idl, +ℤ-idr}
+use lib.IntN.{ℤ, pos, negsuc, natAbs, _+ℤ_, _-ℤ_, +ℤ-idr}
 use lib.Dec.{T, eqb, eqb→eq}
 use lib.Ieee.{Float, nan, inf, fin, binary64, up, down, odd, round, neg, sum, add, sub, div, eq, ofInt, ofBits, ofFields, nanBits, isNan}
 use lib.Pow.{pow-pos}
@@ -123,9 +123,6 @@ same-int (negsuc m) (pos n) h k e = let v = one-value _ _ true false (suc m) n (
 same-int (negsuc m) (negsuc n) h k e =
     let v : suc m ≡ suc n = one-value _ _ true true (suc m) (suc n) (round-whole binary64 true (suc m) h) (round-whole binary64 true (suc n) k) e .0 in
     ap negsuc (omega arith)
-
-pub no-difference : (a b : ℤ) → b -ℤ a ≡ pos 0 → a ≡ b
-no-difference a b e = sym (sym (-ℤ-+ℤ-cancel b a) ∙ ap (λ (z : ℤ). z +ℤ a) e ∙ +ℤ-idl a)
 
 -- the share, as one quotient of whole numbers
 pub whole-share : (a b v : ℤ) → natAbs a ≤ 2 ^ 53 → natAbs b ≤ 2 ^ 53 → natAbs v ≤ 2 ^ 53

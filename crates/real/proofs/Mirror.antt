@@ -4,14 +4,14 @@ use mathlib.Core.Logic.{inl, inr}
 use mathlib.Core.Bool.{Bool, true, false, not, cond, _&&_, true≢false}
 use Prim.Native.Nat.{ℕ, zero, suc, _≤_, _^_}
 use native.Mathlib.Omega.{arith}
-use lib.IntN.{ℤ, pos, negsuc, negℤ, negℤ-negℤ, negℤ-+ℤ, natAbs, _+ℤ_, _-ℤ_}
+use lib.IntN.{ℤ, pos, negsuc, negℤ, negℤ-+ℤ, natAbs, _+ℤ_, _-ℤ_}
 use lib.Signed.{quotZ}
 use lib.Ieee.{Float, inf, binary64, neg, add, sub, mul, eq, ofInt, ofBits}
 use borrow.Author.Tests.{leb-true}
 use Rattle.ranged1d.specs.Answer.{refused}
 use Rattle.ranged1d.specs.Admitted.{wholeAdmitted, limitAdmitted}
 use Rattle.ranged1d.specs.declared.Limit.{Limit}
-use Rattle.ranged1d.proofs.Whole.{neg-far, admitted-neg}
+use Rattle.ranged1d.proofs.Whole.{neg-far, admitted-neg, some-size, no-difference, quot-neg}
 use Rattle.rounding.specs.Integral.{Way, floors, ceils}
 use Rattle.rounding.specs.Within.{wholeOf, within, floorWithin, ceilWithin}
 use Rattle.rounding.specs.declared.Whole.{Whole}
@@ -19,9 +19,9 @@ use Rattle.rounding.specs.declared.Whole.the-variants.{Number, Beyond}
 use Rattle.rounding.proofs.Signs as whole
 use Rattle.real.specs.Place.{farthest, milli, share, rising, falling, plus, orEnd, along, spot, isBeyond, realPlace, wholePlace, wholeSpot, spotAnswer}
 use Rattle.real.specs.Mirror.{mirrored, negated, Mirrored}
-use Rattle.real.proofs.Cases.{facing, facing-beyond, no-end, some-size, steps}
+use Rattle.real.proofs.Cases.{facing, facing-beyond, no-end, steps}
 use Rattle.real.proofs.Signs.{zeroOf, Alike, alike-on, alike-through, same-through, Turns, turns-alike, eq-neg, add-left, add-turns, sub-turns, mul-neg, mul-right, div-alike, eq-alike, int-neg, int-alike}
-use Rattle.real.proofs.Exact.{differ, no-difference, whole-share}
+use Rattle.real.proofs.Exact.{differ, whole-share}
 use Rattle.real.proofs.Readings.{limit-neg, length-neg, readings}
 
 -- ---- the whole number that is added to p
@@ -106,11 +106,6 @@ along-zero p q (pos (suc n)) s t = ap (plus p) (steps-zero floors milli tiny-up 
 along-zero p q (negsuc n) s t = ap (plus p) (steps-zero ceils (neg milli) tiny-down (negsuc n) s t)
 
 -- ---- the place, for ends and a value that stand for the negated ones
-pub half-neg : (z : ℤ) → quotZ (negℤ z) (pos 2) ≡ negℤ (quotZ z (pos 2))
-half-neg (pos zero) = refl
-half-neg (pos (suc n)) = refl
-half-neg (negsuc n) = sym (negℤ-negℤ (quotZ (pos (suc n)) (pos 2)))
-
 spot-neg : (limit : Limit) (a b v a' b' v' : Float) → eq a' b' ≡ eq a b → (eq a b ≡ false → Alike (share a' b' v') (share a b v))
     → spot a' b' v' (mirrored limit) ≡ whole.negated (spot a b v limit)
 unfolding spot
@@ -119,7 +114,7 @@ spot-neg limit a b v a' b' v' ends alike = rw (ends, length-neg (limit .0) (limi
     go : (p q l : ℤ) (e : Bool) → eq a b ≡ e
         → cond e (Number (quotZ (negℤ l) (pos 2))) (along (negℤ p) (negℤ q) (negℤ l) (share a' b' v'))
         ≡ whole.negated (cond e (Number (quotZ l (pos 2))) (along p q l (share a b v)))
-    go p q l true h = ap Number (half-neg l)
+    go p q l true h = ap Number (quot-neg l 2)
     go p q l false h = same-through (along (negℤ p) (negℤ q) (negℤ l)) (along-zero (negℤ p) (negℤ q) (negℤ l)) (alike h) ∙ along-neg p q l (share a b v)
 
 answered-neg : (w : Whole) → spotAnswer (whole.negated w) ≡ negated (spotAnswer w)

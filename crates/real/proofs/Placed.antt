@@ -15,7 +15,7 @@ use Rattle.ranged1d.specs.Answer.{Answer, given, refused, _when_, lowest}
 use Rattle.ranged1d.specs.Admitted.{wholeAdmitted, limitAdmitted}
 use Rattle.ranged1d.specs.declared.Limit.{Limit}
 use Rattle.ranged1d.proofs.Answers.{given-is, not-both}
-use Rattle.ranged1d.proofs.Whole.{add-far, minus-far, quot-far}
+use Rattle.ranged1d.proofs.Whole.{add-far, minus-far, quotient-far, length-near, some-size, no-difference}
 use Rattle.rounding.specs.Within.{AtMost}
 use Rattle.rounding.specs.Integral.{Way, floors, ceils}
 use Rattle.rounding.specs.declared.Whole.{Whole}
@@ -23,8 +23,8 @@ use Rattle.rounding.specs.declared.Whole.the-variants.{Number, Beyond}
 use Rattle.rounding.proofs.Value.{Told}
 use Rattle.rounding.proofs.Small.{small-neg, add-small, mul-small}
 use Rattle.real.specs.Place.{farthest, milli, share, product, rising, falling, plus, orEnd, along, spot, number, realPlace, wholePlace, spotAnswer}
-use Rattle.real.proofs.Cases.{near-limits, some-size, steps, steps-near}
-use Rattle.real.proofs.Exact.{differ, no-difference, whole-share}
+use Rattle.real.proofs.Cases.{near-limits, steps, steps-near}
+use Rattle.real.proofs.Exact.{differ, whole-share}
 use Rattle.real.proofs.Sizes.{small-int, small-quotient, small-told}
 
 -- ---- a fact of the place, from what it is in each case: a whole number near 0, or p and a number of steps
@@ -38,9 +38,6 @@ module _ (P : Whole → Type 0) (limit : Limit) (h : limitAdmitted limit ≡ tru
 
   abbrev q : ℤ
   q = limit .1
-
-  length-near : natAbs (q -ℤ p) ≤ 2_000_000
-  length-near = let w = near-limits limit h in omega (arith, minus-far q p, w .0, w .1)
 
   end-by : (t : Float) (w : Whole) → P w → P (orEnd p q t w)
   end-by t w x = go (eq t (inf false)) (eq t (inf true))
@@ -61,7 +58,7 @@ module _ (P : Whole → Type 0) (limit : Limit) (h : limitAdmitted limit ≡ tru
   spot-by a b v x = go (eq a b) refl
     where
       go : (e : Bool) → eq a b ≡ e → P (cond e (Number (quotZ (q -ℤ p) (pos 2))) (along p q (q -ℤ p) (share a b v)))
-      go true e = near-zero (quotZ (q -ℤ p) (pos 2)) (omega (arith, quot-far (q -ℤ p) 2, length-near))
+      go true e = near-zero (quotZ (q -ℤ p) (pos 2)) (omega (arith, quotient-far (q -ℤ p) (pos 2), length-near limit h))
       go false e = along-by (q -ℤ p) (share a b v) (x e)
 
 -- ---- how far from 0 a place can be

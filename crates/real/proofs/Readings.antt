@@ -11,11 +11,11 @@ use Rattle.ranged1d.specs.Answer.{given, none, refused}
 use Rattle.ranged1d.specs.Admitted.{pixelAdmitted, limitAdmitted}
 use Rattle.ranged1d.specs.declared.Limit.{Limit}
 use Rattle.ranged1d.specs.Numbers.{same}
-use Rattle.ranged1d.proofs.Whole.{neg-far, neg-le, neg-lt, not-lt, lt-not, other-way, both-ways, same-yes}
+use Rattle.ranged1d.proofs.Whole.{neg-far, neg-le, neg-lt, not-lt, lt-not, other-way, both-ways, same-yes, no-difference}
 use Rattle.real.specs.Reading.{lower, upper, outside, offset, valueAt, realReading}
 use Rattle.real.specs.Mirror.{mirrored, Same, Opposite, values, both-none, both-refused}
 use Rattle.real.proofs.Signs.{Alike, zeros-equal, alike-on, alike-through, turns-alike, add-turns, sub-turns, mul-neg, mul-alike, div-alike, add-left, int-neg, int-alike}
-use Rattle.real.proofs.Exact.{eq-self, no-difference}
+use Rattle.real.proofs.Exact.{eq-self}
 
 -- ---- what is admitted
 pub pixel-neg : (x : ℤ) → pixelAdmitted (negℤ x) ≡ pixelAdmitted x

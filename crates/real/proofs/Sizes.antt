@@ -1,15 +1,16 @@
 -- How large a quotient can be, and the whole number next to a float of at most C in size, C being a whole number that the format holds.
 -- Assumes nothing.
 use mathlib.Core.Path.{_≡_, sym, ap, _∙_}
-use mathlib.Core.Bool.{Bool, true, false, true≢false}
+use mathlib.Core.Bool.{Bool, true, false}
 use Prim.Native.Nat.{ℕ, suc, _*_, _^_, _≤_, _<_}
-use native.Mathlib.Nat.{le-trans, le-of-eq, mul-le-mul-right, mul-assoc, mul-comm, mul-one, zero-mul, mul-pos}
+use native.Mathlib.Nat.{mul-assoc, mul-comm, mul-left-comm, mul-one, zero-mul, mul-pos}
 use native.Mathlib.Omega.{arith}
 use lib.IntN.{ℤ, pos, negsuc, natAbs}
 use lib.Ieee.{Format, prec, Float, fin, up, down, unlike, round, div, ofInt}
 use lib.Ieee.Fits.{down-pos}
 use lib.Ieee.Exact.{HasValue}
 use lib.Ieee.Back.{round-whole}
+use lib.Ieee.Scale.{round-same}
 use borrow.Author.Tests.{ne-eqb}
 use Rattle.rounding.specs.Integral.{Way, sized}
 use Rattle.rounding.specs.Within.{signed, wholeOf, within, AtMost}
@@ -27,12 +28,19 @@ some-digits v k g t d p b z =
     let some : 0 < d * down g = mul-pos p (down-pos g) in
     omega (arith, sym (ap (λ (i : ℕ). i * up g) z ∙ zero-mul (up g)) ∙ y)
 
--- the quotient of two numbers without a sign has none
-pub plus-div : (f : Format) (x y : Float) (n d : ℕ) → 0 < d → HasValue x false n 1 → HasValue y false d 1 → Plus (div f x y)
+-- the quotient of two whole numbers is their fraction, rounded
+pub div-round : (f : Format) (x y : Float) (s t : Bool) (k n : ℕ) → 0 < n → HasValue x s k 1 → HasValue y t n 1 → div f x y ≡ round f (unlike s t) k n
 unfolding div
-plus-div f (fin true m e) (fin v k g) n d p a b = absurd (true≢false (a .0))
-plus-div f (fin false m e) (fin true k g) n d p a b = absurd (true≢false (b .0))
-plus-div f (fin false m e) (fin false k g) n d p a b = rw (ne-eqb k 0 (some-digits false k g false d p b)) (plus-round f (m * up e * down g) (k * up g * down e))
+div-round f (fin u m e) (fin v p g) s t k n some a b =
+    let up-is : m * up e ≡ k * down e = sym (mul-one (m * up e)) ∙ a .1 in
+    let down-is : p * up g ≡ n * down g = sym (mul-one (p * up g)) ∙ b .1 in
+    let below : 0 < p * up g * down e = rw down-is (mul-pos (mul-pos some (down-pos g)) (down-pos e)) in
+    let same : m * up e * down g * n ≡ k * (p * up g * down e) = rw (up-is, down-is) (simp (mul-assoc, mul-comm, mul-left-comm)) in
+    rw (ne-eqb p 0 (some-digits v p g t n some b), a .0, b .0) (round-same f (unlike s t) (m * up e * down g) (p * up g * down e) k n below some same)
+
+-- that of two numbers without a sign has none
+pub plus-div : (f : Format) (x y : Float) (n d : ℕ) → 0 < d → HasValue x false n 1 → HasValue y false d 1 → Plus (div f x y)
+plus-div f x y n d p a b = rw (div-round f x y false false n d p a b) (plus-round f n d)
 
 module _ (f : Format) (C : ℕ) (held : C ≤ 2 ^ prec f) where
   small-round : (s : Bool) (n d : ℕ) → 0 < d → n ≤ C * d → AtMost C (round f s n d)
@@ -43,19 +51,8 @@ module _ (f : Format) (C : ℕ) (held : C ≤ 2 ^ prec f) where
   small-int (pos n) h = small-round false n 1 (omega arith) (omega arith)
   small-int (negsuc n) h = small-round true (suc n) 1 (omega arith) (omega arith)
 
-  small-div : (x y : Float) (s t : Bool) (n d : ℕ) → 0 < d → n ≤ C * d → HasValue x s n 1 → HasValue y t d 1 → AtMost C (div f x y)
-  unfolding div
-  small-div (fin u m e) (fin v k g) s t n d p h a b =
-      let x : m * up e ≡ n * down e = sym (mul-one (m * up e)) ∙ a .1 in
-      let y : k * up g ≡ d * down g = sym (mul-one (k * up g)) ∙ b .1 in
-      let some : 0 < d * down g = mul-pos p (down-pos g) in
-      let below : 0 < k * up g * down e = rw y (mul-pos some (down-pos e)) in
-      let l : m * up e * down g ≤ C * (k * up g * down e) =
-      rw (x, y) (le-trans (mul-le-mul-right (down g) (mul-le-mul-right (down e) h)) (le-of-eq (simp (mul-assoc, mul-comm)))) in
-      rw (ne-eqb k 0 (some-digits v k g t d p b)) (small-round (unlike u v) (m * up e * down g) (k * up g * down e) below l)
-
   pub small-quotient : (m n : ℤ) → natAbs m ≤ 2 ^ prec f → natAbs n ≤ 2 ^ prec f → 0 < natAbs n → natAbs m ≤ C * natAbs n → AtMost C (div f (ofInt f m) (ofInt f n))
-  small-quotient m n hm hn p h = let x = int-value f m hm in let y = int-value f n hn in small-div (ofInt f m) (ofInt f n) (x .0) (y .0) (natAbs m) (natAbs n) p h (x .1) (y .1)
+  small-quotient m n hm hn p h = let x = int-value f m hm in let y = int-value f n hn in rw (div-round f (ofInt f m) (ofInt f n) (x .0) (y .0) (natAbs m) (natAbs n) p (x .1) (y .1)) (small-round (unlike (x .0) (y .0)) (natAbs m) (natAbs n) p h)
 
 -- ---- the whole number next to a small number
 pub small-told : (w : Way) (b C : ℕ) (x : Float) → C ≤ b → AtMost C x → Told (within w b x) C

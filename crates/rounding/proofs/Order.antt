@@ -1,7 +1,7 @@
 -- The whole numbers of `wholeOf` in the order of the integers: next to x on the side that the way says, and no smaller for a larger x. Assumes nothing.
 use mathlib.Core.Path.{_≡_, refl, sym, ap, _∙_}
 use mathlib.Core.Bool.{Bool, true, false}
-use Prim.Native.Nat.{ℕ, zero, suc, _+_, _-_, _*_, _≤_, _<_, zero-le}
+use Prim.Native.Nat.{ℕ, zero, suc, _+_, _-_, _*_, _≤_, _<_}
 use native.Mathlib.Nat.{zero-mul, one-mul, add-mul, suc-mul, lt-of-mul-lt-mul-right}
 use native.Mathlib.Omega.{arith}
 use lib.Dec.{lt→ltb, le→leb}
@@ -10,7 +10,7 @@ use lib.Signed.{_≤ℤ_, _<ℤ_}
 use lib.Ieee.{fin, up, down, lt, le}
 use lib.Ieee.Fits.{down-pos}
 use borrow.Author.Tests.{ltb-false}
-use Rattle.ranged1d.proofs.Whole.{sub-cases, neg-far}
+use Rattle.ranged1d.proofs.Whole.{neg-far, sub-size, yes-le, yes-lt, neg-order, neg-below, below-all}
 use Rattle.rounding.specs.Integral.{Way, floors, ceils, halves, sized}
 use Rattle.rounding.specs.Within.{signed, wholeOf}
 use Rattle.rounding.proofs.Quotients.{Is, Near, sized-of, sized-le, sized-mono}
@@ -18,15 +18,10 @@ use Rattle.rounding.proofs.Steps.{one-less, one-more}
 
 -- ---- ±a in order
 minus-le : (a b : ℕ) → b ≤ a → negℤ (pos a) ≤ℤ negℤ (pos b)
-minus-le zero zero h = record { le = tt }
-minus-le zero (suc b) h = absurd (omega arith)
-minus-le (suc a) zero h = record { le = tt }
-minus-le (suc a) (suc b) h = record { le = le→leb b a (omega arith) }
+minus-le a b h = yes-le (neg-order a b h)
 
 minus-lt : (a b : ℕ) → b < a → negℤ (pos a) <ℤ negℤ (pos b)
-minus-lt zero b h = absurd (omega arith)
-minus-lt (suc a) zero h = record { lt = tt }
-minus-lt (suc a) (suc b) h = record { lt = lt→ltb b a (omega arith) }
+minus-lt a b h = yes-lt (neg-below a b h)
 
 plus-le : (a b : ℕ) → a ≤ b → pos a ≤ℤ pos b
 plus-le a b h = record { le = le→leb a b h }
@@ -35,8 +30,7 @@ plus-lt : (a b : ℕ) → a < b → pos a <ℤ pos b
 plus-lt a b h = record { lt = lt→ltb a b h }
 
 minus-plus : (a b : ℕ) → negℤ (pos a) ≤ℤ pos b
-minus-plus zero b = record { le = le→leb 0 b zero-le }
-minus-plus (suc a) b = record { le = tt }
+minus-plus a b = yes-le (below-all a b)
 
 minus-plus-lt : (a b : ℕ) → 0 < a + b → negℤ (pos a) <ℤ pos b
 minus-plus-lt zero b h = plus-lt 0 b (omega arith)
@@ -67,10 +61,6 @@ ceil-by true n d k p h =
     (rw (one-more k) (minus-lt (suc k * d) n (omega (arith, suc-mul k d))), rw (signed-mul true k d) (minus-le n (k * d) (h .0)))
 
 -- ---- |round - x| ≤ 1 / 2
-sub-size : (a b : ℕ) → natAbs (pos a -ℤ pos b) ≡ a - b + (b - a)
-sub-size a zero = omega arith
-sub-size a (suc b) = sub-cases a (suc b) (λ z. natAbs z ≡ a - suc b + (suc b - a)) (λ l. omega arith) (λ l. omega arith)
-
 apart : (s : Bool) (a b : ℕ) → natAbs (signed s a -ℤ signed s b) ≡ a - b + (b - a)
 apart false a b = sub-size a b
 apart true a b = ap natAbs (sym (negℤ-+ℤ (pos a) (negℤ (pos b)))) ∙ neg-far (pos a -ℤ pos b) ∙ sub-size a b

@@ -3,7 +3,7 @@
 use mathlib.Core.Path.{_≡_, refl, sym, ap, _∙_, subst}
 use mathlib.Core.Bool.{Bool, true, false, cond, not, true≢false}
 use Prim.Native.Nat.{ℕ, zero, suc, _+_, _-_, _*_, _≤_}
-use native.Mathlib.Nat.{zero-mul, mul-pos, mul-suc, le-trans}
+use native.Mathlib.Nat.{zero-mul, mul-pos, le-mul-of-pos-right, le-trans}
 use native.Mathlib.Omega.{arith}
 use lib.Dec.{T, eqb, eqb·suc-zero}
 use lib.IntN.{ℤ, pos, negsuc, natAbs, negℤ, _+ℤ_, _-ℤ_, negℤ-negℤ, negℤ-+ℤ, -ℤ-+ℤ-cancel, +ℤ-negℤ-cancel, +ℤ-comm, +ℤ-assoc, +ℤ-idl}
@@ -17,7 +17,7 @@ use borrow.Author.Tests.{le-leb, lt-ltb, ltb-true}
 use lib.Signed.{ltZ}
 use Rattle.ranged1d.specs.Admitted.{limitAdmitted}
 use Rattle.ranged1d.specs.declared.Limit.{Limit}
-use Rattle.ranged1d.proofs.Whole.{sub-cases, add-far, minus-far, neg-far, quot-far, fits32}
+use Rattle.ranged1d.proofs.Whole.{add-far, neg-far, quotient-far, length-near, near-on, fits32}
 use Rattle.rounding.specs.Integral.{halves, sized}
 use Rattle.rounding.specs.Within.{wholeOf, AtMost}
 use Rattle.rounding.proofs.Quotients.{sized-le}
@@ -118,20 +118,12 @@ pub int-plus : (k : ℕ) → k ≤ 16777216 → HasValue (ofInt binary32 (pos k)
 unfolding ofInt
 int-plus k h = round-whole binary32 false k h
 
-pub share-least : (k n : ℕ) → 1 ≤ n → k ≤ k * n
-share-least k (suc n) h = omega (arith, mul-suc k n)
-
--- a number between p and q is no farther than they are
-pub squeezed : (p : ℤ) (i j b : ℕ) → natAbs p ≤ b → natAbs ((p +ℤ pos i) +ℤ pos j) ≤ b → natAbs (p +ℤ pos i) ≤ b
-squeezed (pos w) i j b hp hq = omega arith
-squeezed (negsuc w) i j b hp hq = sub-cases i (suc w) (λ z. natAbs (z +ℤ pos j) ≤ b → natAbs z ≤ b) (λ l q. omega arith) (λ l q. omega arith) hq
-
 module _ (n : ℕ) (some : 1 ≤ n) (few : n ≤ 16777216) where
   share-pos : (k : ℕ) → k ≤ 16777216 → (j : ℕ) × (shareOf n (pos k) ≡ pos j) × (j ≤ k)
   share-pos k h =
       told k (quotient n (pos k))
       (plus-div binary32 (ofInt binary32 (pos k)) (ofInt binary32 (pos n)) k n some (int-plus k h) (int-plus n few))
-      (small-quotient binary32 k h (pos k) (pos n) h few some (share-least k n some))
+      (small-quotient binary32 k h (pos k) (pos n) h few some (le-mul-of-pos-right k some))
 
   -- q − margin lies between p and q, l being q − p
   upward : (p q : ℤ) (k b : ℕ) → q -ℤ p ≡ pos k → k ≤ 16777216 → natAbs p ≤ b → natAbs q ≤ b → natAbs (q -ℤ shareOf n (pos k)) ≤ b
@@ -139,11 +131,11 @@ module _ (n : ℕ) (some : 1 ≤ n) (few : n ≤ 16777216) where
       let s = share-pos k h in
       let j = s .0 in
       let i = k - j in
-      let whole : q ≡ (p +ℤ pos i) +ℤ pos j =
-      sym (-ℤ-+ℤ-cancel q p) ∙ ap (λ z. z +ℤ p) (e ∙ ap pos (omega (arith, s .2))) ∙ +ℤ-comm (pos (i + j)) p ∙ sym (+ℤ-assoc p (pos i) (pos j)) in
+      let end : p +ℤ pos k ≡ q = +ℤ-comm p (pos k) ∙ ap (λ z. z +ℤ p) (sym e) ∙ -ℤ-+ℤ-cancel q p in
+      let split : p +ℤ pos k ≡ (p +ℤ pos i) +ℤ pos j = ap (λ m. p +ℤ pos m) (let w : k ≡ i + j = omega (arith, s .2) in w) ∙ sym (+ℤ-assoc p (pos i) (pos j)) in
       let is : q -ℤ shareOf n (pos k) ≡ p +ℤ pos i =
-      ap (λ z. q -ℤ z) (s .1) ∙ ap (λ z. z -ℤ pos j) whole ∙ +ℤ-negℤ-cancel (p +ℤ pos i) (pos j) in
-      rw is (squeezed p i j b hp (subst (λ z. natAbs z ≤ b) whole hq))
+      ap (λ z. q -ℤ z) (s .1) ∙ ap (λ z. z -ℤ pos j) (sym end ∙ split) ∙ +ℤ-negℤ-cancel (p +ℤ pos i) (pos j) in
+      rw is (near-on b p i k (omega arith) hp (rw end hq))
 
   between : (p q l : ℤ) (b : ℕ) → q -ℤ p ≡ l → natAbs l ≤ 16777216 → natAbs p ≤ b → natAbs q ≤ b → natAbs (q -ℤ shareOf n l) ≤ b
   between p q (pos k) b e h hp hq = upward p q k b e h hp hq
@@ -170,13 +162,10 @@ in-f32 (negsuc n) h = subst T (sym (lt-ltb n 16777216 h)) tt
 
 -- ---- of admitted limits
 module _ (n : ℕ) (limit : Limit) (admitted : limitAdmitted limit ≡ true) where
-  pub length-small : natAbs (limit .1 -ℤ limit .0) ≤ 2000000
-  length-small = let h = near-limits limit admitted in omega (arith, h .0, h .1, minus-far (limit .1) (limit .0))
-
   pub narrowed-admitted : 1 ≤ n → n ≤ 16777216 → limitAdmitted (narrowed n limit) ≡ true
   narrowed-admitted some few =
       let h = near-limits limit admitted in
-      let g = length-small in
+      let g = length-near limit admitted in
       let near : natAbs (limit .1 -ℤ margin n limit) ≤ 1000000 =
       rw (margin-is n limit) (between n some few (limit .0) (limit .1) (limit .1 -ℤ limit .0) 1000000 refl (omega arith) (h .0) (h .1)) in
       rw (le-leb (natAbs (limit .0)) 1000000 (h .0), le-leb (natAbs (limit .1 -ℤ margin n limit)) 1000000 near)
@@ -201,4 +190,4 @@ pub sum-fits : (x y : ℤ) → natAbs x ≤ 1_001_000_000 → natAbs y ≤ 1_001
 sum-fits x y hx hy = fits32 (x +ℤ y) (omega (arith, sum-near x y hx hy))
 
 pub half-fits : (x : ℤ) → natAbs x ≤ 2_002_000_000 → SFits w32 (half x)
-half-fits x h = fits32 (half x) (omega (arith, quot-far x 2, h))
+half-fits x h = fits32 (half x) (omega (arith, quotient-far x (pos 2), h))

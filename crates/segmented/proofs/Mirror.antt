@@ -13,12 +13,13 @@ use Rattle.ranged1d.specs.declared.Limit.{Limit}
 use Rattle.ranged1d.proofs.Answers.{not-none, not-both}
 use Rattle.ranged1d.proofs.Bools.{both-true}
 use Rattle.ranged1d.proofs.Lowest.{lowest-then}
+use Rattle.ranged1d.proofs.Whole.{quot-neg}
 use Rattle.rounding.specs.declared.Whole.{Whole}
 use Rattle.rounding.specs.declared.Whole.the-variants.{Number, Beyond}
 use Rattle.rounding.proofs.Signs as place
 use Rattle.real.specs.Place.{isBeyond, number}
 use Rattle.real.specs.Mirror.{mirrored, negated}
-use Rattle.real.proofs.Mirror.{half-neg, real-spot, whole-spot}
+use Rattle.real.proofs.Mirror.{real-spot, whole-spot}
 use Rattle.real.proofs.Readings.{limit-neg, length-neg}
 use Rattle.search.specs.Search as rule
 use Rattle.search.specs.Mirror.{turned, Each, end, more}
@@ -53,10 +54,10 @@ number-neg (Number z) = refl
 number-neg Beyond = refl
 
 middle-neg : (x y : ℤ) → half (negℤ x +ℤ negℤ y) ≡ negℤ (half (x +ℤ y))
-middle-neg x y = ap half (sym (negℤ-+ℤ x y)) ∙ half-neg (x +ℤ y)
+middle-neg x y = ap half (sym (negℤ-+ℤ x y)) ∙ quot-neg (x +ℤ y) 2
 
 alone-neg : (x m : ℤ) → negℤ x +ℤ half (negℤ m) ≡ negℤ (x +ℤ half m)
-alone-neg x m = ap (λ (z : ℤ). negℤ x +ℤ z) (half-neg m) ∙ sym (negℤ-+ℤ x (half m))
+alone-neg x m = ap (λ (z : ℤ). negℤ x +ℤ z) (quot-neg m 2) ∙ sym (negℤ-+ℤ x (half m))
 
 -- 5, then 9, then the place
 by-parts : (f f' u u' : Bool) (r r' : Answer ℤ) → f ≡ f' → u ≡ u' → r ≡ negated r'

@@ -29,7 +29,7 @@ use Rattle.linspace.proofs.Marks.{marks-none, marks-some, some-marks}
 use Rattle.linspace.proofs.WholeRules.{ends-place}
 use Rattle.segmented.specs.Values.{Segment, exact, centerOf, last}
 use Rattle.segmented.specs.Segments.{Axis, Finder, unlisted, half, margin, narrowed, start, entryAfter, successor, middle, placed, afterBeyond, tooFar, fitIn, unsoughtPlace, segmentPlace, segmentSize, indexIn, unsoughtIn, segmentIndexOf, exactly, segmentAt, segmentFromIndex, segmentOf, segmentReading, segmentKeyPoints}
-use Rattle.segmented.specs.Axes.{steppedAxis, steppedFinder}
+use Rattle.segmented.specs.Axes.{mostValues, steppedAxis, steppedFinder}
 use Rattle.segmented.specs.Steps.{countAnswer, Stands, nextAnswer, centerAnswer, placedAnswer}
 use Rattle.segmented.proofs.Margin.{narrowed-admitted}
 
@@ -63,7 +63,7 @@ module _ {A : Type 0} (axis : Axis A) where
   counts-are h = rw h refl
 
   -- ---- what is known of a count
-  pub stands : (axis .tooMany ≡ false → axis .tooLong ≡ false → axis .count ≤ 16_777_216) → {n : ℕ} → countAnswer axis ≡ given n → Stands axis n
+  pub stands : (axis .tooMany ≡ false → axis .tooLong ≡ false → axis .count ≤ mostValues) → {n : ℕ} → countAnswer axis ≡ given n → Stands axis n
   unfolding countAnswer
   stands few e =
       let told = given-tests reasons (given (axis .count)) e in
@@ -241,7 +241,7 @@ module _ {A : Type 0} (kind : Kind A) (a b d : A) where
   steps = steppedAxis kind a b d
 
   -- a list that is not too long is short enough
-  pub few-enough : steps .tooMany ≡ false → steps .tooLong ≡ false → steps .count ≤ 16_777_216
+  pub few-enough : steps .tooMany ≡ false → steps .tooLong ≡ false → steps .count ≤ mostValues
   few-enough f z = omega (arith, ltb-false most (length (stepped kind a b d)) z)
 
   pub stepped-stands : {n : ℕ} → countAnswer steps ≡ given n → Stands steps n

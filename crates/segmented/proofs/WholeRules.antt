@@ -7,47 +7,47 @@ use native.Mathlib.Decide.{decLt}
 use native.Mathlib.Numerals.{add-one}
 use native.Mathlib.Omega.{arith}
 use borrow.Author.Tests.{eq-eqb, ne-eqb, ltb-false, lt-ltb, le-ltb, le-leb, not-false}
-use lib.Dec.{T, ltb, eqb}
-use lib.IntN.{ℤ, pos, negsuc, natAbs, _+ℤ_, _-ℤ_, +ℤ-comm, +ℤ-assoc, -ℤ-+ℤ-cancel}
+use lib.Dec.{ltb, eqb}
+use lib.IntN.{ℤ, pos, natAbs, _+ℤ_, _-ℤ_}
 use lib.ListN.{length}
-use lib.Signed.{ltZ, nonNeg}
+use lib.Signed.{ltZ}
 use Rattle.ranged1d.specs.Answer.{Answer, given, none, refused, Reason, _when_, lowest, written}
 use Rattle.ranged1d.specs.Admitted.{wholeAdmitted, limitAdmitted}
 use Rattle.ranged1d.specs.declared.Limit.{Limit}
 use Rattle.ranged1d.proofs.Answers.{given-is, not-none}
 use Rattle.ranged1d.proofs.Lowest.{given-tests, stops}
 use Rattle.real.specs.Place.{wholePlace, spotAnswer}
-use Rattle.ranged1d.proofs.Whole.{ordered, not-lt, both-near}
+use Rattle.ranged1d.proofs.Whole.{not-lt, from-start, near-on}
 use Rattle.numeric.specs.declared.KeyPoints.{KeyPoints}
 use Rattle.numeric.specs.Marks.{marks, stepOf, noStep}
 use Rattle.numeric.specs.Calls.{planOf, wholePlan, wholeKeyPoints}
+use Rattle.numeric.proofs.Readings.{ends-near}
 use Rattle.numeric.specs.Whole.{countOf, endsAdmitted, wholeSize, wholeIndexOf}
 use Rattle.segmented.specs.Values.{exact}
 use Rattle.segmented.specs.Segments.{Axis, narrowed, start, segmentAt, segmentIndexOf, segmentKeyPoints}
-use Rattle.segmented.specs.Axes.{wholeAxis, wholeFinder}
+use Rattle.segmented.specs.Axes.{mostValues, wholeAxis, wholeFinder}
 use Rattle.segmented.specs.Steps.{countAnswer, Stands, nextAnswer}
-use Rattle.segmented.proofs.Margin.{narrowed-admitted, squeezed}
+use Rattle.segmented.proofs.Margin.{narrowed-admitted}
 use Rattle.segmented.proofs.Rules.{stands, some-entries, exact-at}
-
-not-negative-is : (z : ℤ) → T (nonNeg z) → pos (natAbs z) ≡ z
-not-negative-is (pos n) t = refl
-not-negative-is (negsuc n) t = absurd t
 
 module _ (a b : ℤ) where
   abbrev axis : Axis ℤ
   axis = wholeAxis a b
 
   pub whole-stands : {n : ℕ} → countAnswer axis ≡ given n → Stands axis n
-  whole-stands e = stands axis (λ f z. ltb-false 16_777_216 (countOf a b) f) e
+  whole-stands e = stands axis (λ f z. ltb-false mostValues (countOf a b) f) e
 
   -- ---- the count
-  size-tests : countAnswer axis ≡ lowest (1 when not (endsAdmitted a b) ∷ 4 when (eqb (countOf a b) 0 || ltb 16_777_216 (countOf a b)) ∷ []) (given (countOf a b))
+  abbrev none-or-many : Reason
+  none-or-many = 4 when (eqb (countOf a b) 0 || ltb mostValues (countOf a b))
+
+  size-tests : countAnswer axis ≡ lowest (1 when not (endsAdmitted a b) ∷ none-or-many ∷ []) (given (countOf a b))
   unfolding countAnswer
   size-tests = refl
 
   pub count-refused : {n : ℕ} → wholeSize a b ≡ refused n → refused n ≡ countAnswer axis
   unfolding wholeSize
-  count-refused e = sym (size-tests ∙ stops (1 when not (endsAdmitted a b) ∷ []) (4 when (eqb (countOf a b) 0 || ltb 16_777_216 (countOf a b)) ∷ []) (given (countOf a b)) (countOf a b) e)
+  count-refused e = sym (size-tests ∙ stops (1 when not (endsAdmitted a b) ∷ []) (none-or-many ∷ []) (given (countOf a b)) (countOf a b) e)
 
   module _ {n : ℕ} (e : wholeSize a b ≡ given n) where
     counted : (endsAdmitted a b ≡ true) × (countOf a b ≡ n)
@@ -61,11 +61,11 @@ module _ (a b : ℤ) where
       there : eqb (countOf a b) 0 ≡ false
       there = ne-eqb (countOf a b) 0 (λ z. some (sym (counted .1) ∙ z))
 
-      pub count-many : 16_777_216 < n → refused 4 ≡ countAnswer axis
-      count-many l = sym (size-tests ∙ rw (counted .0, there, lt-ltb 16_777_216 (countOf a b) (omega (arith, l, counted .1))) refl)
+      pub count-many : mostValues < n → refused 4 ≡ countAnswer axis
+      count-many l = sym (size-tests ∙ rw (counted .0, there, lt-ltb mostValues (countOf a b) (omega (arith, l, counted .1))) refl)
 
-      pub count-some : n ≤ 16_777_216 → given n ≡ countAnswer axis
-      count-some l = sym (size-tests ∙ rw (counted .0, there, le-ltb 16_777_216 (countOf a b) (omega (arith, l, counted .1))) (ap given (counted .1)))
+      pub count-some : n ≤ mostValues → given n ≡ countAnswer axis
+      count-some l = sym (size-tests ∙ rw (counted .0, there, le-ltb mostValues (countOf a b) (omega (arith, l, counted .1))) (ap given (counted .1)))
 
   module _ {n : ℕ} (s : Stands axis n) where
     -- ---- places
@@ -116,17 +116,10 @@ module _ (a b : ℤ) where
     unfolding countOf
     spans = rw rises at (s .count)
 
-    far-end : a +ℤ pos (natAbs (b -ℤ a)) ≡ b
-    far-end = +ℤ-comm a (pos (natAbs (b -ℤ a))) ∙ ap (λ z. z +ℤ a) (not-negative-is (b -ℤ a) (ordered a b (not-lt b a rises))) ∙ -ℤ-+ℤ-cancel b a
-
-    pub near-ends : (natAbs a ≤ 1_000_000_000) × (natAbs b ≤ 1_000_000_000)
-    near-ends = both-near 1_000_000_000 a b (s .admitted)
-
     pub value-near : (k : ℕ) → k < n → natAbs (a +ℤ pos k) ≤ 1_000_000_000
     value-near k l =
-        let j = natAbs (b -ℤ a) - k in
-        let all : (a +ℤ pos k) +ℤ pos j ≡ b = +ℤ-assoc a (pos k) (pos j) ∙ ap (λ (i : ℕ). a +ℤ pos i) (omega (arith, l, spans)) ∙ far-end in
-        squeezed a k j 1_000_000_000 (near-ends .0) (rw all (near-ends .1))
+        let near = ends-near a b (s .admitted) in
+        near-on 1_000_000_000 a k (natAbs (b -ℤ a)) (omega (arith, l, spans)) (near .0) (rw (from-start a b (not-lt b a rises)) (near .1))
 
     pub next-admitted : (v : ℤ) {w : ℤ} → nextAnswer axis (wholeFinder a) v ≡ given w → wholeAdmitted w ≡ true
     next-admitted v {w} e = go (ltZ v a) refl (decLt (natAbs (v -ℤ a) + 1) n)
@@ -153,7 +146,7 @@ module _ (a b : ℤ) where
     pub points-refused : {n : ℕ} → wholePlan a b m ≡ refused n → (refused n, old) ≡ segmentKeyPoints axis told m old
     unfolding wholePlan segmentKeyPoints
     points-refused e = ap (λ (x : Answer (ℤ × ℕ)). written x (marks a b m) old)
-        (sym (stops plan-reasons (4 when (eqb (countOf a b) 0 || ltb 16_777_216 (countOf a b)) ∷ 13 when ltb (length old) (length (marks a b m)) ∷ []) (given told) (planOf a b m) e))
+        (sym (stops plan-reasons (none-or-many ∷ 13 when ltb (length old) (length (marks a b m)) ∷ []) (given told) (planOf a b m) e))
 
     module _ {p : KeyPoints} (e : wholePlan a b m ≡ given p) where
       planned : (endsAdmitted a b ≡ true) × (noStep a b m ≡ false)
@@ -164,7 +157,7 @@ module _ (a b : ℤ) where
       unfolding segmentKeyPoints
       points-stopped c = rw (planned .0, planned .1)
           (ap (λ (x : Answer (ℤ × ℕ)). written x (marks a b m) old)
-          (sym (stops (4 when (eqb (countOf a b) 0 || ltb 16_777_216 (countOf a b)) ∷ []) (13 when ltb (length old) (length (marks a b m)) ∷ []) (given told) (countOf a b) (rw (planned .0) at (sym size-tests ∙ c)))))
+          (sym (stops (none-or-many ∷ []) (13 when ltb (length old) (length (marks a b m)) ∷ []) (given told) (countOf a b) (rw (planned .0) at (sym size-tests ∙ c)))))
 
       pub points-is : {n : ℕ} → Stands axis n → wholeKeyPoints a b m old ≡ segmentKeyPoints axis told m old
       unfolding wholeKeyPoints segmentKeyPoints

@@ -7,6 +7,7 @@ use lib.IntN.{ℤ}
 use Rattle.ranged1d.specs.Answer.{Answer, given, _when_, lowest}
 use Rattle.ranged1d.specs.declared.Limit.{Limit}
 use Rattle.segmented.specs.Values.{Segment}
+use Rattle.segmented.specs.Axes.{mostValues}
 use Rattle.segmented.specs.Segments.{Axis, Finder, counted, successor, middle, placed, afterBeyond, tooFar, unsoughtPlace}
 
 module _ {A : Type 0} (axis : Axis A) where
@@ -22,7 +23,7 @@ module _ {A : Type 0} (axis : Axis A) where
     pub few : axis .tooMany ≡ false
     pub count : axis .count ≡ n
     pub some : 1 ≤ n
-    pub most : n ≤ 16_777_216
+    pub most : n ≤ mostValues
 
   -- the successor of v, or 9
   unfoldable pub nextAnswer : Finder A → A → Answer A

@@ -1,5 +1,5 @@
 -- `discrete::index_within` meets its contract. Assumes nothing.
-use mathlib.Core.Path.{_≡_, sym, ap}
+use mathlib.Core.Path.{_≡_, sym, ap, _∙_}
 use mathlib.Core.Bool.{true, false}
 use Prim.Native.Nat.{ℕ, _*_, _≤_}
 use native.Mathlib.Nat.{mul-le-mul, pos-of-ne-zero}
@@ -8,12 +8,12 @@ use borrow.Author.Needs.{needs}
 use borrow.Author.Tests.{lt-ltb, le-ltb}
 use lib.IntN.{ℤ, pos, natAbs, _*ℤ_}
 use lib.Signed.{quotZ}
-use mir.Facts.{toZ-ofZ, toZ-pos, sfits-widen}
+use mir.Facts.{toZ-ofZ, toZ-pos}
 use mir.Syntax.{w32, w64}
 use mir.Val.{SFits, toZ, ofZ}
-use Rattle.ranged1d.proofs.Whole.{fits64, times-far, not-negative}
+use Rattle.ranged1d.proofs.Whole.{fits64, wide, widens, quotient-far, times-far, not-negative}
 use Rattle.discrete.specs.Index.{isZero}
-use Rattle.discrete.proofs.Index.{zero-is, not-zero, zero-bits, quotient-far, past-limits, at-limits, quotient, below-zero, from-zero}
+use Rattle.discrete.proofs.Index.{zero-is, not-zero, zero-bits, past-limits, at-limits, quotient, below-zero, from-zero}
 use Rattle.discrete.proofs.index_within.Statement.{statement}
 use Rattle.discrete.proofs.index_within.Tie as tie
 
@@ -48,21 +48,13 @@ module _ (c : tie.Else1) where
   n : ℕ
   n = c .before .args .n
 
-  d-wide : SFits w64 d
-  unfolding d
-  d-wide = sfits-widen tt (c .before .fits .d)
-
-  w-wide : SFits w64 w
-  unfolding w
-  w-wide = sfits-widen tt (c .before .fits .w)
-
   d-is : toZ w64 (ofZ w64 (toZ w32 (ofZ w32 d))) ≡ d
   unfolding d
-  d-is = rw (toZ-ofZ (c .before .fits .d)) (toZ-ofZ d-wide)
+  d-is = wide (c .before .args .d) (c .before .fits .d)
 
   w-is : toZ w64 (ofZ w64 (toZ w32 (ofZ w32 w))) ≡ w
   unfolding w
-  w-is = rw (toZ-ofZ (c .before .fits .w)) (toZ-ofZ w-wide)
+  w-is = wide (c .before .args .w) (c .before .fits .w)
 
   n-is : toZ w64 n ≡ pos n
   unfolding n
@@ -94,8 +86,7 @@ module _ (c : tie.Else1) where
   w-not-zero = not-zero w w-no-zero
 
 cast-k : tie.Need-cast-k
-unfolding d
-cast-k c = rw (toZ-ofZ (c .before .fits .d)) (d-wide c)
+cast-k c = widens (c .before .args .d) (c .before .fits .d)
 
 cast-k-2 : tie.Need-cast-k-2
 cast-k-2 c = search needs
@@ -105,12 +96,11 @@ unfolding d n
 mul-k c = rw (d-is c, n-is c) (product-fits c)
 
 cast-k-3 : tie.Need-cast-k-3
-unfolding w
-cast-k-3 c = rw (toZ-ofZ (c .before .fits .w)) (w-wide c)
+cast-k-3 c = widens (c .before .args .w) (c .before .fits .w)
 
 div-k : tie.Need-div-k
 unfolding d w n
-div-k c = rw (toZ-ofZ (c .before .fits .w)) (pos-of-ne-zero (λ e. w-no-zero c (zero-bits w64 _ (w-wide c) e)), rw (product-is c, toZ-ofZ (w-wide c)) (quotient-fits c))
+div-k c = (pos-of-ne-zero (λ e. w-no-zero c (sym (toZ-ofZ (c .before .fits .w)) ∙ zero-bits w64 _ (widens (c .before .args .w) (c .before .fits .w)) e)), rw (product-is c, w-is c) (quotient-fits c))
 
 returns-4 : tie.Need-returns-4
 unfolding d w n

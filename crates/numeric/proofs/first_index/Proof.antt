@@ -8,7 +8,7 @@ use borrow.Author.Needs.{needs}
 use mir.Facts.{toZ-ofZ, toZ-pos}
 use mir.Syntax.{w32}
 use mir.Val.{SFits, toZ}
-use Rattle.ranged1d.proofs.Whole.{fits32, quot-far, add-far}
+use Rattle.ranged1d.proofs.Whole.{fits32, quotient-far, add-far}
 use Rattle.numeric.proofs.Signs.{one-less, first-below, first-above}
 use Rattle.numeric.proofs.first_index.Statement.{statement}
 use Rattle.numeric.proofs.first_index.Tie as tie
@@ -27,10 +27,10 @@ module _ (c : tie.Start) where
   sum-fits = fits32 _ (omega (arith, add-far (c .args .lo) (pos (c .args .s - 1))))
 
   below-fits : SFits w32 (quotZ (c .args .lo) (pos (c .args .s)))
-  below-fits = fits32 _ (omega (arith, quot-far (c .args .lo) (c .args .s)))
+  below-fits = fits32 _ (omega (arith, quotient-far (c .args .lo) (pos (c .args .s))))
 
   above-fits : SFits w32 (quotZ (c .args .lo +ℤ pos (c .args .s - 1)) (pos (c .args .s)))
-  above-fits = fits32 _ (omega (arith, add-far (c .args .lo) (pos (c .args .s - 1)), quot-far (c .args .lo +ℤ pos (c .args .s - 1)) (c .args .s)))
+  above-fits = fits32 _ (omega (arith, add-far (c .args .lo) (pos (c .args .s - 1)), quotient-far (c .args .lo +ℤ pos (c .args .s - 1)) (pos (c .args .s))))
 
 cast-t : tie.Need-cast-t
 cast-t c = search needs

@@ -5,15 +5,14 @@ use native.Mathlib.Omega.{arith}
 use borrow.Author.Needs.{needs}
 use mir.Facts.{toZ-ofZ, toZ-pos}
 use mir.Syntax.{w32}
-use mir.Val.{SFits}
+use mir.Val.{SFits, toZ}
 use mathlib.Core.Path.{_≡_}
-use mir.Val.{toZ}
-use Rattle.ranged1d.proofs.Whole.{fits32, quot-far}
+use Rattle.ranged1d.proofs.Whole.{fits32, quotient-far}
 use Rattle.numeric.proofs.last_index.Statement.{statement}
 use Rattle.numeric.proofs.last_index.Tie as tie
 
 fits : (c : tie.Start) → SFits w32 (quotZ (c .args .hi) (pos (c .args .s)))
-fits c = fits32 _ (omega (arith, quot-far (c .args .hi) (c .args .s)))
+fits c = fits32 _ (omega (arith, quotient-far (c .args .hi) (pos (c .args .s))))
 
 step : (c : tie.Start) → toZ w32 (c .args .s) ≡ pos (c .args .s)
 step c = toZ-pos w32 (omega arith)

@@ -10,7 +10,7 @@ use lib.ListN.{length}
 use mir.Facts.{toZ-ofZ, toZ-pos}
 use mir.Syntax.{w32}
 use mir.Val.{SFits, toZ, ofZ}
-use Rattle.ranged1d.proofs.Whole.{fits32, minus-far, quot-far}
+use Rattle.ranged1d.proofs.Whole.{fits32, minus-far, quotient-far}
 use Rattle.numeric.specs.Marks.{distance, chosen, firstIndex, lastIndex, noStepFor, stepFor, marksFor, marks}
 use Rattle.ranged1d.specs.Answer.{given}
 use Rattle.numeric.specs.Calls.{planOf}
@@ -67,7 +67,7 @@ last-is c = rw (toZ-ofZ (c .before .before .before .before .before .before .fits
 last-near : (c : tie.After-last-index) → natAbs (c .last-index .result) ≤ 1000000000
 last-near c =
     let at = c .before .before .before .before .before .before in
-    rw (last-is c) (omega (arith, quot-far (at .args .hi) (c .before .before .step-at .result), at .pre .1 .0))
+    rw (last-is c) (omega (arith, quotient-far (at .args .hi) (pos (c .before .before .step-at .result)), at .pre .1 .0))
 
 last-fits : (c : tie.After-last-index) → SFits w32 (c .last-index .result)
 last-fits c = fits32 _ (omega (arith, last-near c))

@@ -3,11 +3,11 @@ use mathlib.Core.Path.{_≡_}
 use Prim.Native.Nat.{_≤_}
 use native.Mathlib.Omega.{arith}
 use lib.Dec.{lit<}
-use lib.IntN.{ℤ, natAbs, _+ℤ_, _-ℤ_}
+use lib.IntN.{ℤ, pos, natAbs, _+ℤ_, _-ℤ_}
 use mir.Syntax.{w32}
 use mir.Val.{SFits, toZ, ofZ}
 use mir.Facts.{toZ-ofZ}
-use Rattle.ranged1d.proofs.Whole.{minus-far, quot-far, fits32}
+use Rattle.ranged1d.proofs.Whole.{minus-far, quotient-far, fits32}
 use Rattle.real.proofs.Cases.{near-limits}
 use Rattle.segmented.specs.Segments.{half}
 use Rattle.segmented.proofs.Margin.{sum-fits, half-fits}
@@ -46,7 +46,7 @@ module _ (c : tie.After-struct-told2) where
   size-fits = half-fits (q -ℤ e) (omega (arith, moved-near))
 
   end-fits : SFits w32 (left +ℤ half (q -ℤ e))
-  end-fits = sum-fits left (half (q -ℤ e)) (S .pre .0) (omega (arith, quot-far (q -ℤ e) 2, moved-near))
+  end-fits = sum-fits left (half (q -ℤ e)) (S .pre .0) (omega (arith, quotient-far (q -ℤ e) (pos 2), moved-near))
 
 sub-result : tie.Need-sub-result
 sub-result c = rw (q-is c, e-is c) (moved-fits c)

@@ -5,9 +5,8 @@ use lib.IntN.{ℤ, _-ℤ_}
 use mir.Syntax.{w32}
 use mir.Val.{SFits, toZ, ofZ}
 use mir.Facts.{toZ-ofZ}
-use Rattle.ranged1d.proofs.Whole.{fits32}
+use Rattle.ranged1d.proofs.Whole.{fits32, length-near}
 use Rattle.segmented.specs.Segments.{margin}
-use Rattle.segmented.proofs.Margin.{length-small}
 use Rattle.segmented.proofs.margin_of.Statement.{statement}
 use Rattle.segmented.proofs.margin_of.Tie as tie
 
@@ -28,14 +27,14 @@ module _ (c : tie.After-struct-told2) where
   q-is = toZ-ofZ (record { sfits = c .struct-told2 .given .1 .0 .1 })
 
   l-fits : SFits w32 (q -ℤ p)
-  l-fits = fits32 (q -ℤ p) (omega (arith, length-small (S .args .n) (S .args .limit) (S .pre .0)))
+  l-fits = fits32 (q -ℤ p) (omega (arith, length-near (S .args .limit) (S .pre .0)))
 
 sub-share : tie.Need-sub-share
 sub-share c = rw (q-is c, p-is c) (l-fits c)
 
 share-requires : tie.Need-share-requires
 share-requires c κs =
-    rw (q-is c, p-is c, toZ-ofZ (l-fits c)) (length-small (S c .args .n) (S c .args .limit) (S c .pre .0), S c .pre .1)
+    rw (q-is c, p-is c, toZ-ofZ (l-fits c)) (length-near (S c .args .limit) (S c .pre .0), S c .pre .1)
 
 returns : tie.Need-returns
 unfolding margin

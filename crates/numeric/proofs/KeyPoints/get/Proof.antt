@@ -9,10 +9,10 @@ use borrow.Author.Tests.{lt-ltb, le-ltb}
 use lib.Dec.{ltb}
 use lib.IntN.{ℤ, pos, negsuc, natAbs, _+ℤ_, _*ℤ_}
 use lib.Signed.{ltZ}
-use mir.Facts.{toZ-ofZ, toZ-pos, sfits-widen}
+use mir.Facts.{toZ-ofZ, toZ-pos}
 use mir.Syntax.{w32, w64}
 use mir.Val.{SFits, toZ, ofZ}
-use Rattle.ranged1d.proofs.Whole.{fits64, far32, add-far, pos-times-far, range32, not-lt, lt-not}
+use Rattle.ranged1d.proofs.Whole.{fits64, wide, widens, far32, add-far, pos-times-far, range32, not-lt, lt-not}
 use Rattle.numeric.specs.Calls.{element, pointAt}
 use Rattle.numeric.proofs.KeyPoints.get.Statement.{statement}
 use Rattle.numeric.proofs.KeyPoints.get.Tie as tie
@@ -25,7 +25,7 @@ first-fits : (c : tie.After-struct-told) → SFits w32 (c .before .before .befor
 first-fits c = record { sfits = c .struct-told .given .0 .1 }
 
 cast-first : tie.Need-cast-first
-cast-first c = rw (toZ-ofZ (first-fits c)) (sfits-widen tt (first-fits c))
+cast-first c = widens _ (first-fits c)
 
 module _ (c : tie.After-struct-told2) where
   first : ℤ
@@ -51,10 +51,10 @@ module _ (c : tie.After-struct-told2) where
 
   first-is : toZ w64 (ofZ w64 (toZ w32 (ofZ w32 first))) ≡ first
   unfolding first
-  first-is = rw (toZ-ofZ (first-fits (c .before .before))) (toZ-ofZ (sfits-widen tt (first-fits (c .before .before))))
+  first-is = wide _ (first-fits (c .before .before))
 
   step-is : toZ w64 (ofZ w64 (toZ w32 (ofZ w32 step))) ≡ step
-  step-is = rw (toZ-ofZ step-fits) (toZ-ofZ (sfits-widen tt step-fits))
+  step-is = wide step step-fits
 
   -- at most 4,294,967,294 times 2^31
   product-far : natAbs (pos i *ℤ step) ≤ 4294967294 * 2147483648
@@ -72,7 +72,7 @@ module _ (c : tie.After-struct-told2) where
 
 cast-step : tie.Need-cast-step
 unfolding step
-cast-step c = rw (toZ-ofZ (step-fits c)) (sfits-widen tt (step-fits c))
+cast-step c = widens (step c) (step-fits c)
 
 cast-v : tie.Need-cast-v
 cast-v c = search needs

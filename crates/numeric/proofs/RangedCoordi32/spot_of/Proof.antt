@@ -10,8 +10,7 @@ use lib.Signed.{quotZ}
 use mir.Syntax.{w32, w64}
 use mir.Val.{SFits, toZ, ofZ}
 use mir.Facts.{toZ-ofZ, sfits-widen}
-use Rattle.ranged1d.proofs.Whole.{fits32, minus-far, quot-far}
-use Rattle.real.proofs.Cases.{near-limits}
+use Rattle.ranged1d.proofs.Whole.{fits32, minus-far, quotient-far, length-near}
 use Rattle.numeric.proofs.Readings.{ends-near}
 use Rattle.numeric.proofs.Places.{level-spot, sloped-spot}
 use Rattle.numeric.proofs.RangedCoordi32.spot_of.Statement.{statement}
@@ -61,13 +60,13 @@ module _ (c : tie.After-struct-told4) where
   v-near = leb-true (natAbs v) 1000000000 (S .pre .1 .0)
 
   l-near : natAbs (q -ℤ p) ≤ 2000000
-  l-near = let w = near-limits (S .args .limit) (S .pre .1 .1) in omega (arith, minus-far q p, w .0, w .1)
+  l-near = length-near (S .args .limit) (S .pre .1 .1)
 
   l-fits : SFits w32 (q -ℤ p)
   l-fits = fits32 (q -ℤ p) (omega (arith, l-near))
 
   half-fits : SFits w32 (quotZ (q -ℤ p) (pos 2))
-  half-fits = fits32 (quotZ (q -ℤ p) (pos 2)) (omega (arith, quot-far (q -ℤ p) 2, l-near))
+  half-fits = fits32 (quotZ (q -ℤ p) (pos 2)) (omega (arith, quotient-far (q -ℤ p) (pos 2), l-near))
 
   half64 : SFits w64 (quotZ (q -ℤ p) (pos 2))
   half64 = sfits-widen tt half-fits

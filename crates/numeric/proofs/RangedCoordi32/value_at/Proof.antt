@@ -6,10 +6,10 @@ use native.Mathlib.Omega.{arith}
 use borrow.Author.Needs.{needs}
 use borrow.Author.Tests.{lt-leb, le-leb}
 use lib.IntN.{ℤ, pos, natAbs, _+ℤ_}
-use mir.Facts.{toZ-ofZ, toZ-pos, sfits-widen}
+use mir.Facts.{toZ-ofZ, toZ-pos}
 use mir.Syntax.{w32, w64}
 use mir.Val.{SFits, toZ, ofZ}
-use Rattle.ranged1d.proofs.Whole.{fits64, add-far, range32, not-lt}
+use Rattle.ranged1d.proofs.Whole.{fits64, wide, widens, add-far, range32, not-lt}
 use Rattle.numeric.specs.Whole.{isIndex, valueFrom}
 use Rattle.numeric.proofs.Readings.{ends-near, not-too-low}
 use Rattle.numeric.proofs.RangedCoordi32.value_at.Statement.{statement}
@@ -31,7 +31,7 @@ module _ (c : tie.After-struct-told) where
   a-fits = record { sfits = c .struct-told .given .0 .1 }
 
   a-is : toZ w64 (ofZ w64 (toZ w32 (ofZ w32 a))) ≡ a
-  a-is = rw (toZ-ofZ a-fits) (toZ-ofZ (sfits-widen tt a-fits))
+  a-is = wide a a-fits
 
   a-near : natAbs a ≤ 1000000000
   unfolding a
@@ -55,7 +55,7 @@ module _ (c : tie.After-struct-told) where
 
 cast-v : tie.Need-cast-v
 unfolding a
-cast-v c = rw (toZ-ofZ (a-fits c)) (sfits-widen tt (a-fits c))
+cast-v c = widens (a c) (a-fits c)
 
 cast-v-2 : tie.Need-cast-v-2
 cast-v-2 c = search needs

@@ -9,9 +9,8 @@ use lib.Signed.{quotZ}
 use mir.Syntax.{w32, w64}
 use mir.Val.{SFits, toZ, ofZ}
 use mir.Facts.{toZ-ofZ, sfits-widen}
-use Rattle.ranged1d.proofs.Whole.{fits32, minus-far, quot-far}
+use Rattle.ranged1d.proofs.Whole.{fits32, quotient-far, length-near}
 use Rattle.real.specs.Place.{spot}
-use Rattle.real.proofs.Cases.{near-limits}
 use Rattle.real.proofs.RangedCoordf64.spot_of.Statement.{statement}
 use Rattle.real.proofs.RangedCoordf64.spot_of.Tie as tie
 
@@ -32,13 +31,13 @@ module _ (c : tie.After-struct-told2) where
   q-is = toZ-ofZ (record { sfits = c .struct-told2 .given .1 .0 .1 })
 
   l-near : natAbs (q -ℤ p) ≤ 2_000_000
-  l-near = let w = near-limits (S .args .limit) (S .pre) in omega (arith, minus-far q p, w .0, w .1)
+  l-near = length-near (S .args .limit) (S .pre)
 
   l-fits : SFits w32 (q -ℤ p)
   l-fits = fits32 (q -ℤ p) (omega (arith, l-near))
 
   half-fits : SFits w32 (quotZ (q -ℤ p) (pos 2))
-  half-fits = fits32 (quotZ (q -ℤ p) (pos 2)) (omega (arith, quot-far (q -ℤ p) 2, l-near))
+  half-fits = fits32 (quotZ (q -ℤ p) (pos 2)) (omega (arith, quotient-far (q -ℤ p) (pos 2), l-near))
 
   half64 : SFits w64 (quotZ (q -ℤ p) (pos 2))
   half64 = sfits-widen tt half-fits

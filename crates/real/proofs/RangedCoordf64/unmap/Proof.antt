@@ -9,7 +9,7 @@ use mir.Syntax.{w32}
 use mir.Val.{SFits, toZ, ofZ}
 use mir.Facts.{toZ-ofZ}
 use Rattle.ranged1d.specs.Admitted.{pixelAdmitted, limitAdmitted}
-use Rattle.ranged1d.proofs.Whole.{fits32, minus-far, same-yes, same-no}
+use Rattle.ranged1d.proofs.Whole.{fits32, minus-far, length-near, same-yes, same-no}
 use Rattle.real.specs.Reading.{outside, realReading}
 use Rattle.real.proofs.Cases.{near, near-limits, inside-admitted}
 use Rattle.real.proofs.RangedCoordf64.unmap.Statement.{statement}
@@ -49,7 +49,7 @@ module _ (c : tie.After-struct-told2) where
   allowed = sym (c .before .before .before .admitted .ensures) ∙ not-false _ (c .before .before .if1 .left)
 
   l-fits : SFits w32 (q -ℤ p)
-  l-fits = let w = near-limits (S .args .limit) allowed in fits32 (q -ℤ p) (omega (arith, minus-far q p, w .0, w .1))
+  l-fits = fits32 (q -ℤ p) (omega (arith, length-near (S .args .limit) allowed))
 
 outside-limit-requires : tie.Need-outside-limit-requires
 outside-limit-requires c κs = search needs

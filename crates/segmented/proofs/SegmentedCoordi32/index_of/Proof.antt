@@ -6,11 +6,10 @@ use Prim.Native.Nat.{ℕ}
 use Rattle.ranged1d.specs.Answer.{Answer}
 use Rattle.numeric.specs.Whole.{tellCount}
 use Rattle.numeric.specs.declared.whole.Count.{Count}
-use Rattle.segmented.specs.Segments.{Axis, Finder}
+use Rattle.segmented.specs.Segments.{Axis, Finder, segmentIndexOf}
 use Rattle.segmented.specs.Axes.{wholeAxis, wholeFinder}
 use Rattle.segmented.specs.declared.SegmentValuei32.{SegmentValuei32}
 use Rattle.segmented.specs.Values.{wholeSegment, last}
-use Rattle.segmented.specs.Segments.{segmentIndexOf}
 use Rattle.segmented.specs.Steps.{countAnswer}
 use Rattle.segmented.proofs.Rules.{index-center, index-stopped, index-last}
 use Rattle.segmented.proofs.WholeRules.{whole-stands}

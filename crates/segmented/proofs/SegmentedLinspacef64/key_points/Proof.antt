@@ -4,8 +4,6 @@ use lib.Ieee.{Float}
 use Rattle.linspace.specs.List.{real}
 use Rattle.linspace.specs.Calls.{tellListed, stepKeyPoints}
 use Rattle.linspace.specs.declared.Listed.{Listed}
-use Rattle.segmented.specs.Segments.{Axis}
-use Rattle.segmented.specs.Axes.{steppedAxis}
 use Rattle.segmented.proofs.Rules.{points-refused, points-none, points-some}
 use borrow.Author.Needs.{needs}
 use Rattle.segmented.proofs.SegmentedLinspacef64.key_points.Statement.{statement}
@@ -20,9 +18,6 @@ module _ (s : tie.Start) where
 
   abbrev d : Float
   d = s .args .self .0 .step
-
-  abbrev axis : Axis Float
-  axis = steppedAxis real a b d
 
 listed : (c : tie.After-key-points) {r : Listed} → c .key-points .result ≡ r
     → let s = c .before .before .before .before in stepKeyPoints real (a s) (b s) (d s) (s .args .m) (s .args .out .now) ≡ (tellListed r, c .key-points .last .1 .1 .0)

@@ -7,10 +7,9 @@ use Rattle.ranged1d.specs.Admitted.{limitAdmitted}
 use Rattle.numeric.specs.Whole.{tellCount}
 use Rattle.numeric.specs.declared.whole.Count.{Count}
 use Rattle.linspace.specs.List.{real}
-use Rattle.segmented.specs.Segments.{Axis, Finder}
+use Rattle.segmented.specs.Segments.{Axis, Finder, fitIn}
 use Rattle.segmented.specs.Axes.{steppedAxis, steppedFinder}
 use Rattle.segmented.specs.Values.{Segment, realSegment}
-use Rattle.segmented.specs.Segments.{fitIn}
 use Rattle.segmented.specs.Steps.{countAnswer, Stands}
 use Rattle.segmented.proofs.Rules.{place-unlimited, place-stopped, place-is, stepped-stands, every-real}
 use borrow.Author.Needs.{needs}

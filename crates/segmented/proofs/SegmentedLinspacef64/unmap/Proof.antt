@@ -11,9 +11,8 @@ use Rattle.numeric.specs.declared.whole.Count.{Count}
 use Rattle.discrete.specs.Index.{tellPixelIndex}
 use Rattle.discrete.specs.declared.PixelIndex.{PixelIndex}
 use Rattle.linspace.specs.List.{real}
-use Rattle.segmented.specs.Segments.{Axis}
+use Rattle.segmented.specs.Segments.{Axis, segmentOf, segmentReading}
 use Rattle.segmented.specs.Axes.{steppedAxis}
-use Rattle.segmented.specs.Segments.{segmentOf, segmentReading}
 use Rattle.segmented.specs.Steps.{countAnswer, Stands}
 use Rattle.segmented.proofs.Rules.{reading-off, reading-unlimited, reading-stopped, reading-is, stepped-stands}
 use borrow.Author.Needs.{needs}

@@ -7,11 +7,10 @@ use Rattle.ranged1d.specs.Answer.{Answer}
 use Rattle.numeric.specs.Whole.{tellCount}
 use Rattle.numeric.specs.declared.whole.Count.{Count}
 use Rattle.linspace.specs.List.{whole}
-use Rattle.segmented.specs.Segments.{Axis, Finder}
+use Rattle.segmented.specs.Segments.{Axis, Finder, segmentIndexOf}
 use Rattle.segmented.specs.Axes.{steppedAxis, steppedFinder}
 use Rattle.segmented.specs.declared.SegmentValuei32.{SegmentValuei32}
 use Rattle.segmented.specs.Values.{wholeSegment, last}
-use Rattle.segmented.specs.Segments.{segmentIndexOf}
 use Rattle.segmented.specs.Steps.{countAnswer}
 use Rattle.segmented.proofs.Rules.{index-center, index-stopped, index-last, stepped-stands}
 use borrow.Author.Needs.{needs}

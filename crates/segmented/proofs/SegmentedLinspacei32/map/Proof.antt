@@ -8,10 +8,9 @@ use Rattle.ranged1d.proofs.Bools.{both-true}
 use Rattle.numeric.specs.Whole.{tellCount}
 use Rattle.numeric.specs.declared.whole.Count.{Count}
 use Rattle.linspace.specs.List.{whole}
-use Rattle.segmented.specs.Segments.{Axis, Finder}
+use Rattle.segmented.specs.Segments.{Axis, Finder, fitIn}
 use Rattle.segmented.specs.Axes.{steppedAxis, steppedFinder}
 use Rattle.segmented.specs.Values.{Segment, wholeSegment}
-use Rattle.segmented.specs.Segments.{fitIn}
 use Rattle.segmented.specs.Steps.{countAnswer, Stands}
 use Rattle.segmented.proofs.Rules.{place-unfit, place-unlimited, place-stopped, place-is, stepped-stands}
 use borrow.Author.Needs.{needs}

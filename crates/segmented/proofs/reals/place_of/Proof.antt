@@ -11,11 +11,10 @@ use Rattle.rounding.specs.declared.Whole.the-variants.{Number}
 use Rattle.real.specs.Place.{tellPlace, realPlace, spotAnswer}
 use Rattle.real.specs.declared.Place.{Place}
 use Rattle.linspace.specs.List.{real}
-use Rattle.segmented.specs.Segments.{Axis, Finder}
+use Rattle.segmented.specs.Segments.{Axis, Finder, start}
 use Rattle.segmented.specs.Axes.{steppedAxis, steppedFinder}
 use Rattle.segmented.specs.declared.SegmentValuef64.{SegmentValuef64}
 use Rattle.segmented.specs.Values.{realSegment}
-use Rattle.segmented.specs.Segments.{start}
 use Rattle.segmented.specs.Steps.{placedAnswer}
 use Rattle.segmented.proofs.Rules.{real-begins, spot-number, placed-exact, placed-last, placed-far, placed-center}
 use borrow.Author.Needs.{needs}

@@ -5,11 +5,10 @@ use borrow.Author.Tests.{not-true, not-false}
 use lib.IntN.{ℤ}
 use mir.Facts.{toZ-ofZ}
 use Rattle.linspace.specs.List.{whole}
-use Rattle.segmented.specs.Segments.{Axis}
+use Rattle.segmented.specs.Segments.{Axis, fitIn}
 use Rattle.segmented.specs.Axes.{steppedAxis}
 use Rattle.segmented.specs.declared.SegmentValuei32.{SegmentValuei32}
 use Rattle.segmented.specs.Values.{wholeSegment}
-use Rattle.segmented.specs.Segments.{fitIn}
 use borrow.Author.Needs.{needs}
 use Rattle.segmented.proofs.steps.fits.Statement.{statement}
 use Rattle.segmented.proofs.steps.fits.Tie as tie

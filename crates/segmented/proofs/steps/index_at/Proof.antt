@@ -9,8 +9,7 @@ use Rattle.numeric.specs.Whole.{tellCount}
 use Rattle.numeric.specs.declared.whole.Count.{Count}
 use Rattle.linspace.specs.List.{whole}
 use Rattle.segmented.specs.Segments.{Axis}
-use Rattle.segmented.specs.Axes.{steppedAxis}
-use Rattle.segmented.specs.Axes.{steppedFinder}
+use Rattle.segmented.specs.Axes.{steppedAxis, steppedFinder}
 use Rattle.segmented.specs.Values.{exact}
 use Rattle.segmented.specs.Steps.{countAnswer}
 use Rattle.segmented.proofs.Rules.{index-unfit, index-stopped, stepped-stands, index-is}

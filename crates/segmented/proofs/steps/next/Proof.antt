@@ -7,9 +7,8 @@ use native.Mathlib.Numerals.{add-one}
 use Rattle.numeric.specs.Whole.{tellIndex}
 use Rattle.numeric.specs.declared.whole.Index.{Index}
 use Rattle.linspace.specs.List.{whole}
-use Rattle.segmented.specs.Segments.{Axis}
+use Rattle.segmented.specs.Segments.{Axis, entryAfter}
 use Rattle.segmented.specs.Axes.{steppedAxis, steppedFinder}
-use Rattle.segmented.specs.Segments.{entryAfter}
 use Rattle.segmented.specs.Steps.{nextAnswer}
 use Rattle.segmented.proofs.Rules.{entry-is, entry-past, next-is}
 use borrow.Author.Needs.{needs}

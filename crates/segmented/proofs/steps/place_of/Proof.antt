@@ -12,11 +12,10 @@ use Rattle.rounding.specs.declared.Whole.the-variants.{Number}
 use Rattle.real.specs.Place.{tellPlace, wholePlace, spotAnswer}
 use Rattle.real.specs.declared.Place.{Place}
 use Rattle.linspace.specs.List.{whole}
-use Rattle.segmented.specs.Segments.{Axis, Finder}
+use Rattle.segmented.specs.Segments.{Axis, Finder, start, fitIn}
 use Rattle.segmented.specs.Axes.{steppedAxis, steppedFinder}
 use Rattle.segmented.specs.declared.SegmentValuei32.{SegmentValuei32}
 use Rattle.segmented.specs.Values.{wholeSegment}
-use Rattle.segmented.specs.Segments.{start, fitIn}
 use Rattle.segmented.specs.Steps.{placedAnswer}
 use Rattle.segmented.proofs.Rules.{whole-begins, spot-number, placed-exact, placed-last, placed-far, placed-center}
 use borrow.Author.Needs.{needs}

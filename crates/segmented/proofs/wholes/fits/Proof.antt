@@ -4,11 +4,10 @@ use mathlib.Core.Bool.{Bool, true}
 use borrow.Author.Tests.{not-true, not-false}
 use lib.IntN.{ℤ}
 use mir.Facts.{toZ-ofZ}
-use Rattle.segmented.specs.Segments.{Axis}
+use Rattle.segmented.specs.Segments.{Axis, fitIn}
 use Rattle.segmented.specs.Axes.{wholeAxis}
 use Rattle.segmented.specs.declared.SegmentValuei32.{SegmentValuei32}
 use Rattle.segmented.specs.Values.{wholeSegment}
-use Rattle.segmented.specs.Segments.{fitIn}
 use borrow.Author.Needs.{needs}
 use Rattle.segmented.proofs.wholes.fits.Statement.{statement}
 use Rattle.segmented.proofs.wholes.fits.Tie as tie

@@ -8,8 +8,7 @@ use Rattle.ranged1d.specs.Admitted.{wholeAdmitted}
 use Rattle.numeric.specs.Whole.{tellCount}
 use Rattle.numeric.specs.declared.whole.Count.{Count}
 use Rattle.segmented.specs.Segments.{Axis}
-use Rattle.segmented.specs.Axes.{wholeAxis}
-use Rattle.segmented.specs.Axes.{wholeFinder}
+use Rattle.segmented.specs.Axes.{wholeAxis, wholeFinder}
 use Rattle.segmented.specs.Values.{exact}
 use Rattle.segmented.specs.Steps.{countAnswer}
 use Rattle.segmented.proofs.Rules.{index-unfit, index-stopped}

@@ -10,7 +10,8 @@ use mir.Syntax.{w32}
 use mir.Val.{SFits, toZ, ofZ}
 use mir.Facts.{toZ-ofZ, toZ-pos}
 use Rattle.ranged1d.proofs.Whole.{fits32, minus-far}
-use Rattle.segmented.proofs.WholeRules.{near-ends, next-before, next-in, next-out, value-near}
+use Rattle.numeric.proofs.Readings.{ends-near}
+use Rattle.segmented.proofs.WholeRules.{next-before, next-in, next-out, value-near}
 use borrow.Author.Needs.{needs}
 use Rattle.segmented.proofs.wholes.next.Statement.{statement}
 use Rattle.segmented.proofs.wholes.next.Tie as tie
@@ -38,7 +39,7 @@ module _ (c : tie.After-struct-told) where
   v-is = toZ-ofZ (S .fits .v)
 
   far-near : far ≤ 2_000_000_000
-  far-near = omega (arith, minus-far v a, near-ends a b (S .pre .0) .0, leb-true (natAbs v) 1_000_000_000 (S .pre .1))
+  far-near = omega (arith, minus-far v a, ends-near a b (S .pre .0 .admitted) .0, leb-true (natAbs v) 1_000_000_000 (S .pre .1))
 
   past-fits : SFits w32 (v -ℤ a)
   past-fits = fits32 (v -ℤ a) (omega (arith, far-near))
