@@ -1,7 +1,7 @@
 -- The rules of the calls, return by return, over any axis, and over a stepped one of either kind of numbers. Assumes nothing.
 use mathlib.Core.Path.{_≡_, refl, sym, ap, _∙_}
 use mathlib.Core.Logic.{_⊎_}
-use mathlib.Core.Bool.{Bool, true, false, cond, not, _&&_, _||_, and-false, and-true}
+use mathlib.Core.Bool.{Bool, true, false, cond, not, _&&_, _||_, and-false, and-true, true≢false}
 use mathlib.Core.List.{List, [], _∷_}
 use Prim.Native.Nat.{ℕ, suc, _+_, _≤_}
 use native.Mathlib.Numerals.{add-one}
@@ -11,7 +11,7 @@ use lib.Dec.{ltb, eqb}
 use lib.IntN.{ℤ, _+ℤ_, _-ℤ_}
 use lib.ListN.{length}
 use lib.Ieee.{Float}
-use Rattle.ranged1d.specs.Answer.{Answer, given, none, refused, Reason, _when_, lowest, written, andThen}
+use Rattle.ranged1d.specs.Answer.{Answer, given, none, refused, Reason, _when_, lowest, written}
 use Rattle.ranged1d.specs.Admitted.{wholeAdmitted, pixelAdmitted, limitAdmitted}
 use Rattle.ranged1d.specs.declared.Limit.{Limit}
 use Rattle.ranged1d.proofs.Answers.{one-refusal, given-is, not-both}
@@ -30,7 +30,7 @@ use Rattle.linspace.proofs.WholeRules.{ends-place}
 use Rattle.segmented.specs.Values.{Segment, exact, centerOf, last}
 use Rattle.segmented.specs.Segments.{Axis, Finder, unlisted, half, margin, narrowed, start, entryAfter, successor, middle, placed, afterBeyond, tooFar, fitIn, unsoughtPlace, segmentPlace, segmentSize, indexIn, unsoughtIn, segmentIndexOf, exactly, segmentAt, segmentFromIndex, segmentOf, segmentReading, segmentKeyPoints}
 use Rattle.segmented.specs.Axes.{mostValues, steppedAxis, steppedFinder}
-use Rattle.segmented.specs.Steps.{countAnswer, Stands, nextAnswer, centerAnswer, placedAnswer}
+use Rattle.segmented.specs.Steps.{atLeastOne, countAnswer, Stands, nextAnswer, centerAnswer, placedAnswer}
 use Rattle.segmented.proofs.Margin.{narrowed-admitted}
 
 -- ---- why there are no segments: u and z are 6 and 7, w that there are no entries or too many
@@ -41,6 +41,13 @@ stopped-far true z w f rest r x e = one-refusal e
 stopped-far false true w f rest r x e = one-refusal e
 stopped-far false false true f rest r x e = one-refusal e
 stopped-far false false false f rest r x e = absurd (not-both e)
+
+-- ---- a number that is to be at least 1
+pub one-none : {n : ℕ} → n ≡ 0 → refused 4 ≡ atLeastOne (given n)
+one-none {n} e = rw (eq-eqb n 0 e) refl
+
+pub one-some : {n : ℕ} → (n ≡ 0 → ⊥) → given n ≡ atLeastOne (given n)
+one-some {n} e = rw (ne-eqb n 0 e) refl
 
 -- ---- places that are looked for
 pub spot-number : (w : Whole) {z : ℤ} → spotAnswer w ≡ given z → w ≡ Number z
@@ -248,33 +255,18 @@ module _ {A : Type 0} (kind : Kind A) (a b d : A) where
   stepped-stands e = stands steps few-enough e
 
   -- ---- the count, from that of the list
-  abbrev countOn : Bool → Answer ℕ → Answer ℕ
-  countOn o r = andThen r (λ n. cond o (refused 4) (given n))
-
-  count-on : countAnswer steps ≡ countOn (eqb (length (stepped kind a b d)) 0) (stepSize kind a b d)
+  pub count-some : atLeastOne (stepSize kind a b d) ≡ countAnswer steps
   unfolding countAnswer stepSize
-  count-on = go (axisAdmitted kind a b d) (against kind a b d) (tooLong kind a b d) (eqb (length (stepped kind a b d)) 0)
+  count-some = go (axisAdmitted kind a b d) (against kind a b d) (tooLong kind a b d) (eqb (length (stepped kind a b d)) 0) refl
     where
-      go : (t u z o : Bool) → lowest (1 when not t ∷ 4 when (not (u || z) && (o || false)) ∷ 6 when u ∷ 7 when z ∷ []) (given (length (stepped kind a b d)))
-          ≡ countOn o (lowest (1 when not t ∷ 6 when u ∷ 7 when z ∷ []) (given (length (stepped kind a b d))))
-      go false u z o = refl
-      go true true z o = refl
-      go true false true o = refl
-      go true false false true = refl
-      go true false false false = refl
-
-  size-length : {n : ℕ} → stepSize kind a b d ≡ given n → length (stepped kind a b d) ≡ n
-  unfolding stepSize
-  size-length e = given-is (given-tests (1 when not (axisAdmitted kind a b d) ∷ 6 when against kind a b d ∷ 7 when tooLong kind a b d ∷ []) (given (length (stepped kind a b d))) e .1)
-
-  pub count-refused : {n : ℕ} → stepSize kind a b d ≡ refused n → refused n ≡ countAnswer steps
-  count-refused e = sym (count-on ∙ ap (countOn (eqb (length (stepped kind a b d)) 0)) e)
-
-  pub count-none : {n : ℕ} → stepSize kind a b d ≡ given n → n ≡ 0 → refused 4 ≡ countAnswer steps
-  count-none e z = sym (count-on ∙ ap (countOn (eqb (length (stepped kind a b d)) 0)) e ∙ rw (eq-eqb (length (stepped kind a b d)) 0 (size-length e ∙ z)) refl)
-
-  pub count-some : {n : ℕ} → stepSize kind a b d ≡ given n → (n ≡ 0 → ⊥) → given n ≡ countAnswer steps
-  count-some e z = sym (count-on ∙ ap (countOn (eqb (length (stepped kind a b d)) 0)) e ∙ rw (ne-eqb (length (stepped kind a b d)) 0 (λ h. z (sym (size-length e) ∙ h))) refl)
+      go : (t u z o : Bool) → eqb (length (stepped kind a b d)) 0 ≡ o
+          → atLeastOne (lowest (1 when not t ∷ 6 when u ∷ 7 when z ∷ []) (given (length (stepped kind a b d))))
+          ≡ lowest (1 when not t ∷ 4 when (not (u || z) && (o || false)) ∷ 6 when u ∷ 7 when z ∷ []) (given (length (stepped kind a b d)))
+      go false u z o h = refl
+      go true true z o h = refl
+      go true false true o h = refl
+      go true false false true h = rw h refl
+      go true false false false h = rw h refl
 
   -- ---- entries
   module _ {n : ℕ} (s : Stands steps n) where
@@ -322,72 +314,34 @@ module _ {A : Type 0} (kind : Kind A) (a b d : A) where
     abbrev below : Bool → Bool → Bool → Bool → Bool → Answer ℕ
     below t y u z f = lowest (1 when not t ∷ 3 when y ∷ 6 when u ∷ 7 when z ∷ 13 when f ∷ []) (given (length marked))
 
-    pub points-refused : {n : ℕ} {new : List A} → stepKeyPoints kind a b d m old ≡ (refused n, new) → (refused n, new) ≡ segmentMarks
+    -- an axis that is not refused has marks if it has entries
+    some-marked : (eqb m 0 && hasEntries (stepped kind a b d)) ≡ false → tooLong kind a b d ≡ false → eqb (length (stepped kind a b d)) 0 ≡ false → length marked ≡ 0 → ⊥
+    some-marked y z o e =
+        let n = length (stepped kind a b d) in
+        let some = eqb-false n 0 o in
+        let few = ltb-false most n z in
+        let bound = some-marks (stepped kind a b d) m n y refl (omega (arith, some)) in
+        omega (arith, e, marks-some (kind .nil) (stepped kind a b d) m n refl some (omega (arith, few)) bound)
+
+    -- what the axis has written, from how many marks: there are none exactly if there are no entries
+    marks-by : (atLeastOne (stepKeyPoints kind a b d m old .0), stepKeyPoints kind a b d m old .1) ≡ segmentMarks
     unfolding stepKeyPoints segmentKeyPoints
-    points-refused {n} {new} e =
-        sym e ∙ ap (λ (r : Answer ℕ). written r marked old)
-        (go (axisAdmitted kind a b d) (eqb m 0 && hasEntries (stepped kind a b d)) (against kind a b d) (tooLong kind a b d) (ltb (length old) (length marked)) refl (ap (λ p. p .0) e))
+    marks-by =
+        go (axisAdmitted kind a b d) (eqb m 0 && hasEntries (stepped kind a b d)) refl (against kind a b d) (tooLong kind a b d) refl (ltb (length old) (length marked)) refl (eqb (length (stepped kind a b d)) 0) refl
       where
-        go : (t y u z f : Bool) → ltb (length old) (length marked) ≡ f → below t y u z f ≡ refused n → below t y u z f ≡ by t y u z f (eqb (length (stepped kind a b d)) 0)
-        go false y u z f h r = refl
-        go true true u z f h r = refl
-        go true false true z f h r = refl
-        go true false false true f h r = refl
-        go true false false false true h r = rw (short-some h) refl
-        go true false false false false h r = absurd (not-both r)
+        go : (t y : Bool) → (eqb m 0 && hasEntries (stepped kind a b d)) ≡ y → (u z : Bool) → tooLong kind a b d ≡ z → (f : Bool) → ltb (length old) (length marked) ≡ f → (o : Bool) → eqb (length (stepped kind a b d)) 0 ≡ o
+            → (atLeastOne (below t y u z f), written (below t y u z f) marked old .1) ≡ written (by t y u z f o) marked old
+        go false y hy u z hz f hf o ho = refl
+        go true true hy u z hz f hf o ho = refl
+        go true false hy true z hz f hf o ho = refl
+        go true false hy false true hz f hf o ho = refl
+        go true false hy false false hz true hf true ho = absurd (true≢false (sym ho ∙ short-some hf))
+        go true false hy false false hz true hf false ho = refl
+        go true false hy false false hz false hf true ho = rw (no-marks (eqb-true (length (stepped kind a b d)) 0 ho)) refl
+        go true false hy false false hz false hf false ho = rw (ne-eqb (length marked) 0 (some-marked hy hz ho)) refl
 
-    -- the marks were written: there are none exactly if there are no entries
-    module _ {k : ℕ} {new : List A} (e : stepKeyPoints kind a b d m old ≡ (given k, new)) where
-      record Passed : Type 0 where
-        admitted : axisAdmitted kind a b d ≡ true
-        served : (eqb m 0 && hasEntries (stepped kind a b d)) ≡ false
-        onward : against kind a b d ≡ false
-        short : tooLong kind a b d ≡ false
-        room : ltb (length old) (length marked) ≡ false
-        told : written {A = ℕ} (given (length marked)) marked old ≡ (given k, new)
-
-      passed : Passed
-      unfolding stepKeyPoints
-      passed =
-          let rs = 1 when not (axisAdmitted kind a b d) ∷ 3 when (eqb m 0 && hasEntries (stepped kind a b d)) ∷ 6 when against kind a b d ∷ 7 when tooLong kind a b d ∷ 13 when ltb (length old) (length marked) ∷ [] in
-          let answer = ap (λ q. q .0) e in
-          let told = given-tests rs (given (length marked)) answer in
-          record {
-            admitted = not-false (axisAdmitted kind a b d) (told .0 .0);
-            served = told .0 .1 .0;
-            onward = told .0 .1 .1 .0;
-            short = told .0 .1 .1 .1 .0;
-            room = told .0 .1 .1 .1 .1 .0;
-            told = ap (λ (r : Answer ℕ). written r marked old) (told .1 ∙ sym answer) ∙ e;
-          }
-
-      marked-size : length marked ≡ k
-      marked-size = given-is (ap (λ q. q .0) (passed .told))
-
-      no-entries : k ≡ 0 → length (stepped kind a b d) ≡ 0
-      no-entries z = go (eqb (length (stepped kind a b d)) 0) refl
-        where
-          go : (o : Bool) → eqb (length (stepped kind a b d)) 0 ≡ o → length (stepped kind a b d) ≡ 0
-          go true h = eqb-true (length (stepped kind a b d)) 0 h
-          go false h =
-              let n = length (stepped kind a b d) in
-              let some = eqb-false n 0 h in
-              let few = ltb-false most n (passed .short) in
-              let bound = some-marks (stepped kind a b d) m n (passed .served) refl (omega (arith, some)) in
-              absurd (omega (arith, z, marked-size, marks-some (kind .nil) (stepped kind a b d) m n refl some (omega (arith, few)) bound))
-
-      pub points-none : k ≡ 0 → (refused 4, new) ≡ segmentMarks
-      unfolding segmentKeyPoints
-      points-none z =
-          let none-there = no-entries z in
-          let kept : new ≡ old = sym (ap (λ q. q .1) (passed .told)) ∙ rw (no-marks none-there) refl in
-          rw (passed .admitted, passed .served, passed .onward, passed .short, eq-eqb (length (stepped kind a b d)) 0 none-there) (ap (λ (l : List A). (refused 4, l)) kept)
-
-      pub points-some : (k ≡ 0 → ⊥) → (given k, new) ≡ segmentMarks
-      unfolding segmentKeyPoints
-      points-some some =
-          sym (passed .told)
-          ∙ rw (passed .admitted, passed .served, passed .onward, passed .short, passed .room, ne-eqb (length (stepped kind a b d)) 0 (λ h. some (sym marked-size ∙ ap length (no-marks h)))) refl
+    pub points-some : {r l : Answer ℕ} {new : List A} → r ≡ atLeastOne l → (l, new) ≡ stepKeyPoints kind a b d m old → (r, new) ≡ segmentMarks
+    points-some {new = new} e f = ap (λ (x : Answer ℕ). (x, new)) e ∙ ap (λ (q : Answer ℕ × List A). (atLeastOne (q .0), q .1)) f ∙ marks-by
 
 -- ---- every real is admitted
 pub every-real : (a b d : Float) (s : Segment Float) → (axisAdmitted real a b d && fitIn (steppedAxis real a b d) s) ≡ true

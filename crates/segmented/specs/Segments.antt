@@ -1,7 +1,7 @@
 -- 01 "Whole reading, segments, real labels": the segments over an axis, and what each call on them answers, with the refusals of 01 "Why a call
 -- stops". Every rule is written once, over what segments ask of the axis below them. Assumes nothing.
 use Prim.Native.Nat.{ℕ, suc}
-use mathlib.Core.Bool.{Bool, true, false, cond, not, _&&_, _||_}
+use mathlib.Core.Bool.{Bool, false, cond, not, _&&_, _||_}
 use mathlib.Core.List.{List, [], _∷_}
 use lib.Dec.{ltb, eqb}
 use lib.IntN.{ℤ, pos, _+ℤ_, _-ℤ_}
@@ -17,7 +17,7 @@ use Rattle.rounding.specs.Integral as way
 use Rattle.rounding.specs.Within.{wholeOf}
 use Rattle.discrete.specs.Index.{indexFor}
 use Rattle.real.specs.Place.{isBeyond, number}
-use Rattle.segmented.specs.Values.{Segment, exact, centerOf, last}
+use Rattle.segmented.specs.Values.{Segment, exact, centerOf, last, carries}
 
 -- ---- what segments ask of an axis
 pub record Axis (A : Type 0) : Type 0 where
@@ -108,11 +108,9 @@ module _ {A : Type 0} (axis : Axis A) where
   tooFar find (centerOf v) limit = isBeyond (start v limit) || afterBeyond limit (successor find v)
   tooFar find last limit = false
 
-  -- 1: the value that a segment's value carries; `Last` carries none
+  -- 1: the value that a segment's value carries
   abbrev pub fitIn : Segment A → Bool
-  fitIn (exact v) = axis .fit v
-  fitIn (centerOf v) = axis .fit v
-  fitIn last = true
+  fitIn s = carries (axis .fit) s
 
   -- 9: a value that cannot be searched for. Placing `Exact` searches nothing.
   abbrev pub unsoughtPlace : Finder A → Segment A → Bool

@@ -3,12 +3,17 @@ use Prim.Native.Nat.{ℕ, _≤_}
 use mathlib.Core.Path.{_≡_}
 use mathlib.Core.Bool.{true, false}
 use mathlib.Core.List.{[], _∷_}
+use lib.Dec.{eqb}
 use lib.IntN.{ℤ}
-use Rattle.ranged1d.specs.Answer.{Answer, given, _when_, lowest}
+use Rattle.ranged1d.specs.Answer.{Answer, given, _when_, lowest, andThen}
 use Rattle.ranged1d.specs.declared.Limit.{Limit}
 use Rattle.segmented.specs.Values.{Segment}
 use Rattle.segmented.specs.Axes.{mostValues}
 use Rattle.segmented.specs.Segments.{Axis, Finder, counted, successor, middle, placed, afterBeyond, tooFar, unsoughtPlace}
+
+-- 4: a number of entries or marks that is given is at least 1
+abbrev pub atLeastOne : Answer ℕ → Answer ℕ
+atLeastOne r = andThen r (λ n. lowest (4 when eqb n 0 ∷ []) (given n))
 
 module _ {A : Type 0} (axis : Axis A) where
   -- how many entries the segments stand on, or why there are no segments

@@ -1,4 +1,5 @@
 -- 01 "Whole reading, segments, real labels": what a segmented axis has as its values, and what its calls answer. Assumes nothing.
+use mathlib.Core.Bool.{Bool, true}
 use lib.IntN.{ℤ}
 use lib.Ieee.{Float}
 use Rattle.ranged1d.specs.Answer.{Answer, given, none, refused}
@@ -17,6 +18,12 @@ pub data Segment (A : Type 0) : Type 0 where
   exact : A → Segment A
   centerOf : A → Segment A
   last : Segment A
+
+-- a test of the number that a value carries; `Last` carries none
+abbrev pub carries : {A : Type 0} → (A → Bool) → Segment A → Bool
+carries test (exact v) = test v
+carries test (centerOf v) = test v
+carries test last = true
 
 -- ---- the cases of the enums, whole numbers and reals each in their own form
 abbrev pub wholeSegment : SegmentValuei32 → Segment ℤ

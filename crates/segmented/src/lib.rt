@@ -7,11 +7,17 @@ mod wholes;
 ghost use mathlib.Core.Path.{_≡_};
 ghost use mathlib.Core.Bool.{true};
 ghost use Prim.Native.Nat.{_≤_};
-ghost use Rattle.ranged1d.specs.Admitted.{limitAdmitted};
+ghost use Rattle.ranged1d.specs.Admitted.{wholeAdmitted, limitAdmitted};
+ghost use Rattle.numeric.specs.Whole.{tellCount};
+ghost use Rattle.linspace.specs.Calls.{tellListed};
 ghost use lib.IntN.{pos, natAbs, _+ℤ_, _-ℤ_};
+ghost use Rattle.segmented.specs.Values.{wholeSegment, carries};
+ghost use Rattle.segmented.specs.Steps.{atLeastOne};
 ghost use Rattle.segmented.specs.Segments.{half, shared, margin, narrowed};
 use linspace::Linspacef64;
 use linspace::Linspacei32;
+use linspace::Listed;
+use numeric::Count;
 use numeric::RangedCoordi32;
 use ranged1d::Limit;
 use ranged1d::Refusal;
@@ -48,6 +54,47 @@ pub struct SegmentedCoordi32(pub RangedCoordi32);
 pub struct SegmentedLinspacei32(pub Linspacei32);
 
 pub struct SegmentedLinspacef64(pub Linspacef64);
+
+// Whether the number that a value carries is admitted.
+fn value_fits(value: SegmentValuei32) -> bool
+    ensures { λ r. ⌜ r ≡ carries wholeAdmitted (wholeSegment value) ⌝ }
+{
+    match value {
+        SegmentValuei32::Exact(v) => ranged1d::whole_admitted(v),
+        SegmentValuei32::CenterOf(v) => ranged1d::whole_admitted(v),
+        SegmentValuei32::Last => true,
+    }
+}
+
+// A count of entries, of which segments need at least 1.
+fn some_entries(count: Count) -> Count
+    ensures { λ r. ⌜ tellCount r ≡ atLeastOne (tellCount count) ⌝ }
+{
+    match count {
+        Count::Refused(r) => Count::Refused(r),
+        Count::Of(n) => {
+            if n == 0 {
+                return Count::Refused(Refusal::NoSegments);
+            }
+            Count::Of(n)
+        }
+    }
+}
+
+// The same of a number of marks that were written.
+fn some_marks(listed: Listed) -> Listed
+    ensures { λ r. ⌜ tellListed r ≡ atLeastOne (tellListed listed) ⌝ }
+{
+    match listed {
+        Listed::Refused(r) => Listed::Refused(r),
+        Listed::Written(size) => {
+            if size == 0 {
+                return Listed::Refused(Refusal::NoSegments);
+            }
+            Listed::Written(size)
+        }
+    }
+}
 
 // A length l of a film, shared among n, l being no less than 0. Twice l and n are exact as f32, so that their quotient is rounded once, to twice
 // what l ÷ n is rounded to. Cut, it counts halves, and a half over goes up.

@@ -19,6 +19,8 @@ use crate::Segmentf64;
 use crate::beside;
 use crate::between;
 use crate::narrow;
+use crate::some_entries;
+use crate::some_marks;
 use discrete::PixelIndex;
 use linspace::Linspacef64;
 use linspace::Listed;
@@ -34,15 +36,7 @@ use search::RoundingMethod;
 fn segments(axis: Linspacef64) -> Count
     ensures { λ r. ⌜ tellCount r ≡ countAnswer (steppedAxis real (axis .inner .0) (axis .inner .1) (axis .step)) ⌝ }
 {
-    match axis.size() {
-        Count::Refused(r) => Count::Refused(r),
-        Count::Of(n) => {
-            if n == 0 {
-                return Count::Refused(Refusal::NoSegments);
-            }
-            Count::Of(n)
-        }
-    }
+    some_entries(axis.size())
 }
 
 // The entry behind that which the search finds for v.
@@ -214,14 +208,6 @@ impl SegmentedLinspacef64 {
         ensures { λ r. ⌜ (tellListed r, now (out .exit)) ≡ segmentKeyPoints (steppedAxis real (self .0 .inner .0) (self .0 .inner .1) (self .0 .step)) (length (stepMarks real (self .0 .inner .0) (self .0 .inner .1) (self .0 .step) m)) m (now (out .entry)) ⌝ }
     {
         let axis = self.0;
-        match axis.key_points(m, out) {
-            Listed::Refused(r) => Listed::Refused(r),
-            Listed::Written(size) => {
-                if size == 0 {
-                    return Listed::Refused(Refusal::NoSegments);
-                }
-                Listed::Written(size)
-            }
-        }
+        some_marks(axis.key_points(m, out))
     }
 }

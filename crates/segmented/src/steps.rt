@@ -18,6 +18,9 @@ use crate::Segmenti32;
 use crate::beside;
 use crate::between;
 use crate::narrow;
+use crate::some_entries;
+use crate::some_marks;
+use crate::value_fits;
 use discrete::PixelIndex;
 use linspace::Linspacei32;
 use linspace::Listed;
@@ -36,26 +39,14 @@ fn fits(axis: Linspacei32, value: SegmentValuei32) -> bool
     if !axis.admitted() {
         return false;
     }
-    match value {
-        SegmentValuei32::Exact(v) => ranged1d::whole_admitted(v),
-        SegmentValuei32::CenterOf(v) => ranged1d::whole_admitted(v),
-        SegmentValuei32::Last => true,
-    }
+    value_fits(value)
 }
 
 // The count of an axis that segments can stand on, at least 1.
 fn segments(axis: Linspacei32) -> Count
     ensures { λ r. ⌜ tellCount r ≡ countAnswer (steppedAxis whole (axis .inner .0) (axis .inner .1) (axis .step)) ⌝ }
 {
-    match axis.size() {
-        Count::Refused(r) => Count::Refused(r),
-        Count::Of(n) => {
-            if n == 0 {
-                return Count::Refused(Refusal::NoSegments);
-            }
-            Count::Of(n)
-        }
-    }
+    some_entries(axis.size())
 }
 
 // The entry behind that which the search finds for v.
@@ -239,14 +230,6 @@ impl SegmentedLinspacei32 {
         ensures { λ r. ⌜ (tellListed r, now (out .exit)) ≡ segmentKeyPoints (steppedAxis whole (self .0 .inner .0) (self .0 .inner .1) (self .0 .step)) (length (stepMarks whole (self .0 .inner .0) (self .0 .inner .1) (self .0 .step) m)) m (now (out .entry)) ⌝ }
     {
         let axis = self.0;
-        match axis.key_points(m, out) {
-            Listed::Refused(r) => Listed::Refused(r),
-            Listed::Written(size) => {
-                if size == 0 {
-                    return Listed::Refused(Refusal::NoSegments);
-                }
-                Listed::Written(size)
-            }
-        }
+        some_marks(axis.key_points(m, out))
     }
 }

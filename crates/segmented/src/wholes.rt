@@ -19,6 +19,7 @@ use crate::Segmenti32;
 use crate::beside;
 use crate::between;
 use crate::narrow;
+use crate::value_fits;
 use discrete::PixelIndex;
 use numeric::Count;
 use numeric::Index;
@@ -37,11 +38,7 @@ fn fits(axis: RangedCoordi32, value: SegmentValuei32) -> bool
     if !axis.admitted() {
         return false;
     }
-    match value {
-        SegmentValuei32::Exact(v) => ranged1d::whole_admitted(v),
-        SegmentValuei32::CenterOf(v) => ranged1d::whole_admitted(v),
-        SegmentValuei32::Last => true,
-    }
+    value_fits(value)
 }
 
 // The count of an axis that segments can stand on, 1 to 16,777,216.
