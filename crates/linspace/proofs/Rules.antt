@@ -11,7 +11,8 @@ use lib.ListN.{length, drop}
 use Rattle.ranged1d.specs.Answer.{Answer, given, refused, _when_, lowest, written, andThen, listWritten}
 use Rattle.ranged1d.specs.Admitted.{pixelAdmitted, limitAdmitted}
 use Rattle.ranged1d.specs.declared.Limit.{Limit}
-use Rattle.ranged1d.proofs.Answers.{given-is, not-both}
+use Rattle.ranged1d.proofs.Answers.{given-is}
+use Rattle.ranged1d.proofs.Lowest.{given-tests, lowest-then}
 use Rattle.discrete.specs.Index.{pixelIndex}
 use Rattle.real.specs.Place.{isBeyond, number}
 use Rattle.search.specs.declared.RoundingMethod.{RoundingMethod}
@@ -45,21 +46,16 @@ module _ {A : Type 0} (kind : Kind A) (a b d : A) where
     pub few : n ≤ most
 
   pub counted : {n : ℕ} → counts ≡ given n → Counted n
-  counted {n} = go (against kind a b d) refl (tooLong kind a b d) refl
-    where
-      go : (t : Bool) → against kind a b d ≡ t → (u : Bool) → tooLong kind a b d ≡ u → lowest (6 when t ∷ 7 when u ∷ []) (given (length (stepped kind a b d))) ≡ given n → Counted n
-      go true e u f h = absurd (not-both (sym h))
-      go false e true f h = absurd (not-both (sym h))
-      go false e false f h = let s = given-is h in record { onward = e; short = f; all = sym s; few = omega (arith, s, ltb-false most (length (stepped kind a b d)) f) }
+  counted h =
+      let g = given-tests (6 when against kind a b d ∷ 7 when tooLong kind a b d ∷ []) (given (length (stepped kind a b d))) h in
+      let s = given-is (g .1) in
+      record { onward = g .0 .0; short = g .0 .1 .0; all = sym s; few = omega (arith, s, ltb-false most (length (stepped kind a b d)) (g .0 .1 .0)) }
 
   -- an answer with 6 and 7 in front of it, by the count
   once-listed : {B : Type 0} {s : Answer ℕ} → counts ≡ s → (r : Answer B) → lowest (6 when against kind a b d ∷ 7 when tooLong kind a b d ∷ []) r ≡ onceListed s r
-  once-listed {B} e r = go (against kind a b d) (tooLong kind a b d) ∙ ap (λ (s : Answer ℕ). onceListed s r) e
-    where
-      go : (t u : Bool) → lowest (6 when t ∷ 7 when u ∷ []) r ≡ onceListed (lowest (6 when t ∷ 7 when u ∷ []) (given (length (stepped kind a b d)))) r
-      go true u = refl
-      go false true = refl
-      go false false = refl
+  once-listed e r =
+      sym (lowest-then (6 when against kind a b d ∷ 7 when tooLong kind a b d ∷ []) (given (length (stepped kind a b d))) (λ n. r))
+      ∙ ap (λ (s : Answer ℕ). onceListed s r) e
 
   -- the place by the ends alone
   abbrev pub endsPlace : A → Limit → Answer ℤ
@@ -126,17 +122,10 @@ module _ {A : Type 0} (kind : Kind A) (a b d : A) where
 
       pub place-is : (v : A) (limit : Limit) {r : Answer ℤ} → endsPlace v limit ≡ r → placeListed r s ≡ stepPlace kind a b d v limit
       unfolding stepPlace
-      place-is v limit f = ap (λ (r : Answer ℤ). placeListed r s) (sym f) ∙ rw h (go (kind .admitted v) (limitAdmitted limit) (isBeyond (stepSpot kind a b d v limit)))
-        where
-          z : ℤ
-          z = number (stepSpot kind a b d v limit)
-
-          go : (t u w : Bool) → placeListed (lowest (1 when not t ∷ 2 when not u ∷ 5 when w ∷ []) (given z)) s
-              ≡ lowest (1 when not t ∷ 2 when not u ∷ 5 when w ∷ 6 when against kind a b d ∷ 7 when tooLong kind a b d ∷ []) (given z)
-          go false u w = refl
-          go true false w = refl
-          go true true true = refl
-          go true true false = sym (once-listed e (given z))
+      place-is v limit f =
+          let ends = 1 when not (kind .admitted v) ∷ 2 when not (limitAdmitted limit) ∷ 5 when isBeyond (stepSpot kind a b d v limit) ∷ [] in
+          let z = number (stepSpot kind a b d v limit) in
+          ap (λ (r : Answer ℤ). placeListed r s) (sym f) ∙ rw h (lowest-then ends (given z) (λ z. onceListed s (given z)) ∙ ap (lowest ends) (sym (once-listed e (given z))))
 
       pub reading-is : (x : ℤ) (limit : Limit) → (pixelAdmitted x && limitAdmitted limit) ≡ true
           → onceListed s (nthOf (stepped kind a b d) (pixelIndex x limit (length (stepped kind a b d)))) ≡ stepReading kind a b d x limit

@@ -1,7 +1,7 @@
 -- The list of a whole stepped axis: entry k is a + k · d, and their number is the distance of the ends over the step's size, rounded up.
 -- Assumes nothing.
 use mathlib.Core.Path.{_≡_, refl, sym, ap, subst, _∙_}
-use mathlib.Core.Bool.{Bool, true, false, cond, _&&_, _||_}
+use mathlib.Core.Bool.{Bool, true, false, cond, _&&_}
 use mathlib.Core.List.{[]}
 use Prim.Native.Nat.{ℕ, zero, suc, _+_, _-_, _*_, _/_, _≤_, _<_, min}
 use native.Mathlib.Nat.{le-div-iff-mul-le, add-zero, mul-zero, zero-mul, one-mul, min-zero, min-eq-left, min-eq-right}
@@ -12,8 +12,7 @@ use lib.IntN.{ℤ, ℤ-discrete, pos, negsuc, negℤ, natAbs, _+ℤ_, _-ℤ_, _*
 use lib.ListN.{length}
 use lib.Signed.{ltZ}
 use Rattle.ranged1d.specs.Admitted.{wholeAdmitted}
-use Rattle.ranged1d.specs.Numbers.{same}
-use Rattle.ranged1d.proofs.Bools.{both-false, both-true}
+use Rattle.ranged1d.proofs.Bools.{both-true}
 use Rattle.ranged1d.proofs.Whole.{sub-cases, minus-far, turned-far, minus-shift, from-start, near-on, less-not-above, not-lt, both-ways, neg-far, neg-lt, both-near, same-yes}
 use Rattle.numeric.specs.Marks.{listOf}
 use Rattle.numeric.specs.Calls.{element}
@@ -24,7 +23,7 @@ use Rattle.search.proofs.Orders.{not-itself}
 use Rattle.linspace.specs.List.{whole, most, entries, run, stepped, against, tooLong, axisAdmitted}
 use Rattle.linspace.specs.WholeSteps.{wholeCount, Known, Lies}
 use Rattle.linspace.proofs.Entries.{entries-list}
-use Rattle.linspace.proofs.Ways.{against-up, against-down}
+use Rattle.linspace.proofs.Ways.{leading}
 
 -- ---- order and sums
 -- one number is below another where their difference is below zero
@@ -148,10 +147,6 @@ led false x y h =
     let p = natAbs (x -ℤ y) in
     (rw (turned-far y x) (sym (+ℤ-negℤ-cancel y (pos p)) ∙ ap (λ (z : ℤ). z +ℤ negℤ (pos p)) (from-start y x (less-not-above y x h))), rw (turned-far y x) (apart-some y x h))
 
--- of two numbers, the one that is neither below the other nor the same lies above it
-above : (x y : ℤ) → (ltZ x y || same x y) ≡ false → ltZ y x ≡ true
-above x y h = let n = both-false (ltZ x y) (same x y) h in whole-order .total x y (same-yes x x refl) (same-yes y y refl) (n .0) (n .1)
-
 -- equal ends
 level-count : (a d : ℤ) → wholeCount a a d ≡ 0
 unfolding wholeCount
@@ -167,14 +162,10 @@ level a b d e =
     (level-list a d ∙ ap (λ (n : ℕ). listOf (element a d) n) (sym (min-zero (suc most))) ∙ ap (λ (n : ℕ). listOf (element a d) (min (suc most) n)) (sym (level-count a d)))
 
 module _ (a b d : ℤ) (h : against whole a b d ≡ false) where
-  leading : (rises : Bool) → toward rises ltZ a b ≡ true → toward rises ltZ (pos 0) d ≡ true
-  leading true e = above d (pos 0) (against-up whole whole-order a b d e ∙ h)
-  leading false e = above (pos 0) d (against-down whole whole-order a b d (whole-order .asym b a e) e ∙ h)
-
   slope : (rises : Bool) → toward rises ltZ a b ≡ true → Sloped rises a b d (natAbs (b -ℤ a)) (natAbs d)
   slope rises e =
       let u = led rises a b e in
-      let v : (d ≡ pos 0 +ℤ way rises (pos (natAbs d))) × (0 < natAbs d) = rw (+ℤ-idr d) at (led rises (pos 0) d (leading rises e)) in
+      let v : (d ≡ pos 0 +ℤ way rises (pos (natAbs d))) × (0 < natAbs d) = rw (+ℤ-idr d) at (led rises (pos 0) d (leading whole whole-order a b d rises e (same-yes d d refl) refl h)) in
       record { end = u .0; step = v .0 ∙ +ℤ-idl (way rises (pos (natAbs d))); apart = u .1; moves = v .1 }
 
   pub sloped : (a ≡ b → ⊥) → Sloped (ltZ a b) a b d (natAbs (b -ℤ a)) (natAbs d)
