@@ -15,7 +15,7 @@ use lib.Signed.{leZ, ltZ, quotZ, _<ℤ_}
 use Rattle.ranged1d.specs.Answer.{Answer, given, Reason, _when_, lowest, BothLong}
 use Rattle.ranged1d.specs.Admitted.{wholeAdmitted}
 use Rattle.ranged1d.proofs.Lowest.{lowest-then}
-use Rattle.ranged1d.proofs.Whole.{neg-far, other-way, less-not-above, yes-le, yes-lt, lt-yes, neg-below, below-all, both-ways, neg-le, neg-lt, neg-times, quot-neg}
+use Rattle.ranged1d.proofs.Whole.{low-neg, high-neg, low-high, neg-far, less-not-above, yes-le, yes-lt, lt-yes, neg-below, below-all, neg-le, neg-lt, neg-times, quot-neg}
 use Rattle.numeric.specs.Marks.{low, high, distance, stepAt, chosen, ceilDiv, firstIndex, lastIndex, multiple, multiples, noStepFor, stepFor, marksFor, noStep, stepOf, marks}
 use Rattle.numeric.specs.Calls.{wholeKeyPoints}
 use Rattle.numeric.specs.Mirror.{mirrored, nearest, Divides, NextTowardZero, OneMore, stepOnly, Mirrored}
@@ -114,33 +114,6 @@ module _ (s : ℕ) (hs : 0 < s) where
   }
 
 -- ---- the ends of the mirror
--- by the two tests of the ends
-by-ends : (a b : ℤ) (P : Bool → Bool → Type 0) → (a ≡ b → P true true) → P true false → P false true → P (leZ a b) (leZ b a)
-by-ends a b P f g h = go (leZ a b) (leZ b a) refl refl
-  where
-    go : (t u : Bool) → leZ a b ≡ t → leZ b a ≡ u → P t u
-    go true true p q = f (both-ways a b p q)
-    go true false p q = g
-    go false true p q = h
-    go false false p q = absurd (subst T (sym (other-way a b p) ∙ q) tt)
-
-pub low-neg : (a b : ℤ) → low (negℤ a) (negℤ b) ≡ negℤ (high a b)
-low-neg a b =
-    ap (λ (t : Bool). cond t (negℤ a) (negℤ b)) (neg-le a b)
-    ∙ by-ends a b (λ t u. cond u (negℤ a) (negℤ b) ≡ negℤ (cond t b a)) (λ e. ap negℤ e) refl refl
-
-pub high-neg : (a b : ℤ) → high (negℤ a) (negℤ b) ≡ negℤ (low a b)
-high-neg a b =
-    ap (λ (t : Bool). cond t (negℤ b) (negℤ a)) (neg-le a b)
-    ∙ by-ends a b (λ t u. cond u (negℤ b) (negℤ a) ≡ negℤ (cond t a b)) (λ e. ap negℤ (sym e)) refl refl
-
-pub low-high : (a b : ℤ) → leZ (low a b) (high a b) ≡ true
-low-high a b = go (leZ a b) refl
-  where
-    go : (t : Bool) → leZ a b ≡ t → leZ (cond t a b) (cond t b a) ≡ true
-    go true e = e
-    go false e = other-way a b e
-
 pub distance-neg : (lo hi : ℤ) → distance (negℤ hi) (negℤ lo) ≡ distance lo hi
 distance-neg lo hi = ap natAbs (ap (λ (z : ℤ). negℤ lo +ℤ z) (negℤ-negℤ hi) ∙ +ℤ-comm (negℤ lo) hi)
 

@@ -12,12 +12,11 @@ use lib.IntN.{ℤ, pos, negsuc, negℤ, natAbs, _+ℤ_, _-ℤ_, negℤ-negℤ}
 use lib.ListN.{length}
 use lib.Signed.{leZ}
 use Rattle.ranged1d.specs.Numbers.{raised}
-use Rattle.ranged1d.proofs.Whole.{sub-cases, sub-size}
+use Rattle.ranged1d.proofs.Whole.{low-high, sub-cases, sub-size}
 use Rattle.numeric.specs.Marks.{low, high, howMany, firstIndex, lastIndex, distance, stepAt, powerOfTen, ceilDiv, serves, firstOf, chosen, noStepFor, noStep, stepFor, marksFor, marks}
 use Rattle.numeric.proofs.Steps.{step-pos}
 use Rattle.numeric.proofs.Lists.{length-of}
 use Rattle.numeric.proofs.Reflect.{many-pos, many-turned}
-use Rattle.numeric.proofs.Mirror.{low-high}
 
 -- what the search found passes the test
 pub found-passes : (p : ℕ → Bool) (k n : ℕ) → firstOf p k n < k + n → p (firstOf p k n) ≡ true

@@ -13,13 +13,12 @@ use lib.IntN.{ℤ, pos, negsuc, negℤ, natAbs, subℕ, _+ℤ_, _-ℤ_, _*ℤ_, 
 use lib.ListN.{length}
 use mir.Facts.{and-yes}
 use lib.Signed.{leZ}
-use Rattle.ranged1d.proofs.Whole.{turned-far, sub-cases, sub-size, neg-far, neg-times, times-far, minus-shift, from-start, back-to-start}
+use Rattle.ranged1d.proofs.Whole.{low-high, turned-far, sub-cases, sub-size, neg-far, neg-times, times-far, minus-shift, from-start, back-to-start}
 use Rattle.ranged1d.specs.Answer.{given}
 use Rattle.numeric.specs.declared.KeyPoints.{KeyPoints}
 use Rattle.numeric.proofs.Lists.{length-of}
 use Rattle.numeric.proofs.Bounds.{between, last-times, max-times, multiple-element}
 use Rattle.numeric.proofs.Plans.{one-near, Good, planned-good}
-use Rattle.numeric.proofs.Mirror.{low-high}
 use Rattle.numeric.proofs.NoStep.{differ, served-none}
 use Rattle.ranged1d.proofs.Table.{at}
 use Rattle.numeric.specs.Marks.{low, high, distance, stepAt, powerOfTen, ceilDiv, chosen, firstIndex, lastIndex, howMany, listOf, multiple, stepFor, marksFor}

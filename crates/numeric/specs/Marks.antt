@@ -5,16 +5,11 @@ use mathlib.Core.Bool.{Bool, cond}
 use mathlib.Core.List.{List, [], _∷_, _++_}
 use lib.Dec.{leb, ltb, eqb}
 use lib.IntN.{ℤ, pos, negsuc, negℤ, natAbs, _+ℤ_, _-ℤ_, _*ℤ_}
-use lib.Signed.{leZ, quotZ}
+use lib.Signed.{quotZ}
 use Rattle.ranged1d.specs.Numbers.{raised}
+pub use Rattle.ranged1d.specs.Numbers.{low, high}
 
--- ---- the ends: the smaller, the larger, and how far they are apart
-abbrev pub low : ℤ → ℤ → ℤ
-low a b = cond (leZ a b) a b
-
-abbrev pub high : ℤ → ℤ → ℤ
-high a b = cond (leZ a b) b a
-
+-- ---- the ends, `low` and `high`: how far they are apart
 abbrev pub distance : ℤ → ℤ → ℕ
 distance lo hi = natAbs (hi -ℤ lo)
 

@@ -235,10 +235,7 @@ impl RangedCoordi32 {
     {
         let a = self.0;
         let b = self.1;
-        if !ranged1d::whole_admitted(a) {
-            return Planned::Refused(Refusal::WholeNotAdmitted);
-        }
-        if !ranged1d::whole_admitted(b) {
+        if !self.admitted() {
             return Planned::Refused(Refusal::WholeNotAdmitted);
         }
         if a <= b {

@@ -15,7 +15,7 @@ use mir.Syntax.{Width, w32, w64}
 use mir.Val.{SFits, hbits, toZ, ofZ}
 use Rattle.ranged1d.specs.Admitted.{wholeAdmitted, limitAdmitted}
 use Rattle.ranged1d.specs.declared.Limit.{Limit}
-use Rattle.ranged1d.specs.Numbers.{raised, same}
+use Rattle.ranged1d.specs.Numbers.{low, high, raised, same}
 use Rattle.ranged1d.proofs.Bools.{both-true}
 
 -- a − b is below 0 or not
@@ -299,3 +299,31 @@ pub quot-neg : (x : ℤ) (s : ℕ) → quotZ (negℤ x) (pos s) ≡ negℤ (quot
 quot-neg (pos zero) s = ap pos (zero-div s) ∙ sym (ap (λ (n : ℕ). negℤ (pos n)) (zero-div s))
 quot-neg (pos (suc a)) s = refl
 quot-neg (negsuc a) s = sym (negℤ-negℤ (pos (suc a / s)))
+
+-- ---- the smaller and the larger of two
+-- by the two tests of them
+by-ends : (a b : ℤ) (P : Bool → Bool → Type 0) → (a ≡ b → P true true) → P true false → P false true → P (leZ a b) (leZ b a)
+by-ends a b P f g h = go (leZ a b) (leZ b a) refl refl
+  where
+    go : (t u : Bool) → leZ a b ≡ t → leZ b a ≡ u → P t u
+    go true true p q = f (both-ways a b p q)
+    go true false p q = g
+    go false true p q = h
+    go false false p q = absurd (subst T (sym (other-way a b p) ∙ q) tt)
+
+pub low-neg : (a b : ℤ) → low (negℤ a) (negℤ b) ≡ negℤ (high a b)
+low-neg a b =
+    ap (λ (t : Bool). cond t (negℤ a) (negℤ b)) (neg-le a b)
+    ∙ by-ends a b (λ t u. cond u (negℤ a) (negℤ b) ≡ negℤ (cond t b a)) (λ e. ap negℤ e) refl refl
+
+pub high-neg : (a b : ℤ) → high (negℤ a) (negℤ b) ≡ negℤ (low a b)
+high-neg a b =
+    ap (λ (t : Bool). cond t (negℤ b) (negℤ a)) (neg-le a b)
+    ∙ by-ends a b (λ t u. cond u (negℤ b) (negℤ a) ≡ negℤ (cond t a b)) (λ e. ap negℤ (sym e)) refl refl
+
+pub low-high : (a b : ℤ) → leZ (low a b) (high a b) ≡ true
+low-high a b = go (leZ a b) refl
+  where
+    go : (t : Bool) → leZ a b ≡ t → leZ (cond t a b) (cond t b a) ≡ true
+    go true e = e
+    go false e = other-way a b e

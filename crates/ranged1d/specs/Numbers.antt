@@ -1,6 +1,6 @@
 -- What rules of several crates ask of whole numbers and of lists. Assumes nothing.
 use Prim.Native.Nat.{ℕ}
-use mathlib.Core.Bool.{Bool, true, _&&_}
+use mathlib.Core.Bool.{Bool, true, cond, _&&_}
 use mathlib.Core.List.{List, [], _∷_}
 use lib.IntN.{ℤ, pos, negsuc}
 use lib.Signed.{leZ}
@@ -12,6 +12,13 @@ isI32 z = leZ (negsuc 2_147_483_647) z && leZ z (pos 2_147_483_647)
 -- two whole numbers are the same: neither is below the other
 abbrev pub same : ℤ → ℤ → Bool
 same p q = leZ p q && leZ q p
+
+-- the smaller and the larger of two whole numbers
+abbrev pub low : ℤ → ℤ → ℤ
+low a b = cond (leZ a b) a b
+
+abbrev pub high : ℤ → ℤ → ℤ
+high a b = cond (leZ a b) b a
 
 -- a number below zero raised to zero
 abbrev pub raised : ℤ → ℕ

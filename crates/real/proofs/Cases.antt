@@ -5,13 +5,14 @@ use Prim.Native.Nat.{ℕ, _*_, _^_, _≤_, _<_, zero-le}
 use native.Mathlib.Nat.{zero-mul, mul-pos}
 use native.Mathlib.Omega.{arith}
 use lib.IntN.{ℤ, pos, negsuc, natAbs}
-use lib.Signed.{ltZ}
+use lib.Signed.{leZ, ltZ}
 use lib.Ieee.{Float, nan, inf, fin, binary64, up, down, unlike, add, mul, eq, ofInt}
 use lib.Ieee.Fits.{down-pos}
 use lib.Ieee.Exact.{HasValue}
 use borrow.Author.Tests.{ltb-true, le-leb, leb-true, ne-eqb}
 use Rattle.ranged1d.specs.declared.Limit.{Limit}
 use Rattle.ranged1d.specs.Admitted.{pixelAdmitted, limitAdmitted}
+use Rattle.ranged1d.specs.Numbers.{low, high}
 use Rattle.ranged1d.proofs.Bools.{both-false, chosen}
 use Rattle.ranged1d.proofs.Whole.{not-lt, both-near}
 pub use Rattle.ranged1d.proofs.Whole.{between-far}
@@ -22,7 +23,7 @@ use Rattle.rounding.specs.declared.Whole.the-variants.{Number, Beyond}
 use Rattle.rounding.proofs.Bounds.{Held, within-held}
 use Rattle.rounding.proofs.Signs.{negated}
 use Rattle.real.specs.Place.{farthest, along, product, isBeyond, number}
-use Rattle.real.specs.Reading.{lower, upper, outside}
+use Rattle.real.specs.Reading.{outside}
 use Rattle.real.proofs.Signs.{int-value}
 
 -- ---- `along`
@@ -105,7 +106,7 @@ inside-admitted x limit h o =
     let q = limit .1 in
     let n = near-limits limit h in
     let near-zero : ℤ → Type 0 = λ z. natAbs z ≤ 1_000_000 in
-    let w = both-false (ltZ x (lower p q)) (ltZ (upper p q) x) o in
+    let w = both-false (ltZ x (low p q)) (ltZ (high p q) x) o in
     le-leb (natAbs x) 1_000_000
-    (between-far 1_000_000 (lower p q) x (upper p q) (not-lt x (lower p q) (w .0)) (not-lt (upper p q) x (w .1))
-    (chosen near-zero (ltZ p q) (n .0) (n .1)) (chosen near-zero (ltZ p q) (n .1) (n .0)))
+    (between-far 1_000_000 (low p q) x (high p q) (not-lt x (low p q) (w .0)) (not-lt (high p q) x (w .1))
+    (chosen near-zero (leZ p q) (n .0) (n .1)) (chosen near-zero (leZ p q) (n .1) (n .0)))

@@ -4,15 +4,15 @@ use mathlib.Core.Logic.{inl, inr}
 use mathlib.Core.Bool.{Bool, true, false, not, cond, _&&_, _||_, true≢false, and-comm, or-comm}
 use Prim.Native.Nat.{ℕ}
 use lib.Dec.{leb}
-use lib.IntN.{ℤ, negℤ, negℤ-negℤ, negℤ-+ℤ, _-ℤ_}
+use lib.IntN.{ℤ, negℤ, negℤ-+ℤ, _-ℤ_}
 use lib.Signed.{ltZ, leZ}
 use lib.Ieee.{Float, nan, inf, fin, binary64, neg, add, sub, mul, ofInt, isNan}
 use Rattle.ranged1d.specs.Answer.{given, none, refused}
 use Rattle.ranged1d.specs.Admitted.{pixelAdmitted, limitAdmitted}
 use Rattle.ranged1d.specs.declared.Limit.{Limit}
-use Rattle.ranged1d.specs.Numbers.{same}
-use Rattle.ranged1d.proofs.Whole.{neg-far, neg-le, neg-lt, not-lt, lt-not, other-way, both-ways, same-yes, no-difference}
-use Rattle.real.specs.Reading.{lower, upper, outside, offset, valueAt, realReading}
+use Rattle.ranged1d.specs.Numbers.{low, high, same}
+use Rattle.ranged1d.proofs.Whole.{neg-far, neg-le, neg-lt, low-neg, high-neg, same-yes, no-difference}
+use Rattle.real.specs.Reading.{outside, offset, valueAt, realReading}
 use Rattle.real.specs.Mirror.{mirrored, Same, Opposite, values, both-none, both-refused}
 use Rattle.real.proofs.Signs.{Alike, zeros-equal, alike-on, alike-through, turns-alike, add-turns, sub-turns, mul-neg, mul-alike, div-alike, add-left, int-neg, int-alike}
 use Rattle.real.proofs.Exact.{eq-self}
@@ -25,24 +25,9 @@ pub limit-neg : (limit : Limit) → limitAdmitted (mirrored limit) ≡ limitAdmi
 limit-neg limit = rw (pixel-neg (limit .0), pixel-neg (limit .1))
 
 -- ---- which pixels can be read
--- the lower of the mirrored limits is the upper one's mirror
-lower-neg : (p q : ℤ) → lower (negℤ p) (negℤ q) ≡ negℤ (upper p q)
-lower-neg p q = rw (neg-lt p q) (go (ltZ q p) (ltZ p q) refl refl)
-  where
-    go : (a b : Bool) → ltZ q p ≡ a → ltZ p q ≡ b → cond a (negℤ p) (negℤ q) ≡ negℤ (cond b q p)
-    go true true h k = absurd (true≢false (sym (other-way q p (lt-not p q k)) ∙ lt-not q p h))
-    go true false h k = refl
-    go false true h k = refl
-    go false false h k = ap negℤ (both-ways q p (not-lt p q k) (not-lt q p h))
-
-upper-neg : (p q : ℤ) → upper (negℤ p) (negℤ q) ≡ negℤ (lower p q)
-upper-neg p q =
-    let e : lower p q ≡ negℤ (upper (negℤ p) (negℤ q)) = rw (negℤ-negℤ p, negℤ-negℤ q) at (lower-neg (negℤ p) (negℤ q)) in
-    sym (ap negℤ e ∙ negℤ-negℤ (upper (negℤ p) (negℤ q)))
-
 outside-neg : (x p q : ℤ) → outside (negℤ x) (negℤ p) (negℤ q) ≡ outside x p q
 outside-neg x p q =
-    rw (lower-neg p q, upper-neg p q, neg-lt x (upper p q), neg-lt (lower p q) x) (or-comm (ltZ (upper p q) x) (ltZ x (lower p q)))
+    rw (low-neg p q, high-neg p q, neg-lt x (high p q), neg-lt (low p q) x) (or-comm (ltZ (high p q) x) (ltZ x (low p q)))
 
 same-neg : (p q : ℤ) → same (negℤ p) (negℤ q) ≡ same p q
 same-neg p q = rw (neg-le p q, neg-le q p) (and-comm (leZ q p) (leZ p q))

@@ -9,7 +9,7 @@ use Rattle.ranged1d.specs.Answer.{Answer, given, none, refused, _when_, lowest}
 use Rattle.ranged1d.specs.Refusals.{numberOf}
 use Rattle.ranged1d.specs.Admitted.{pixelAdmitted, limitAdmitted}
 use Rattle.ranged1d.specs.declared.Limit.{Limit}
-use Rattle.ranged1d.specs.Numbers.{same}
+use Rattle.ranged1d.specs.Numbers.{same, low, high}
 use Rattle.real.specs.declared.RealReading.{RealReading}
 use Rattle.real.specs.declared.RealReading.the-variants as reading-is
 
@@ -20,16 +20,9 @@ tellReading reading-is.Nothing = none
 tellReading (reading-is.Refused r) = refused (numberOf r)
 
 -- ---- 01 "Mirroring, real reading, stepped axes": which pixels can be read
--- the limits in order, whichever way the film runs
-abbrev pub lower : ℤ → ℤ → ℤ
-lower p q = cond (ltZ p q) p q
-
-abbrev pub upper : ℤ → ℤ → ℤ
-upper p q = cond (ltZ p q) q p
-
 -- x lies before both limits or past both
 abbrev pub outside : ℤ → ℤ → ℤ → Bool
-outside x p q = ltZ x (lower p q) || ltZ (upper p q) x
+outside x p q = ltZ x (low p q) || ltZ (high p q) x
 
 -- ---- 01 "Mirroring, real reading, stepped axes": the value
 -- the share of the film at which x lies

@@ -89,8 +89,8 @@ pub fn place_along(p: i32, q: i32, l: i32, t: f64) -> Whole
 fn outside_limit(x: i32, p: i32, q: i32) -> bool
     ensures { λ r. ⌜ r ≡ outside x p q ⌝ }
 {
-    let lo = if p < q { p } else { q };
-    let hi = if p < q { q } else { p };
+    let lo = if p <= q { p } else { q };
+    let hi = if p <= q { q } else { p };
     if x < lo {
         return true;
     }

@@ -4,7 +4,7 @@ use mathlib.Core.Logic.{⊎-elim}
 use mir.Syntax.{w32}
 use mir.Val.{toZ}
 use mir.Facts.{toZ-ofZ}
-use Rattle.real.specs.Reading.{lower, upper}
+use Rattle.ranged1d.specs.Numbers.{low, high}
 use Rattle.real.proofs.outside_limit.Statement.{statement}
 use Rattle.real.proofs.outside_limit.Tie as tie
 
@@ -12,7 +12,7 @@ module _ (c : tie.Joined2) where
   abbrev S : tie.Start
   S = c .before .before
 
-  lo-is : toZ w32 (c .before .if1 .lo) ≡ lower (S .args .p) (S .args .q)
+  lo-is : toZ w32 (c .before .if1 .lo) ≡ low (S .args .p) (S .args .q)
   lo-is =
       let p = toZ-ofZ (S .fits .p) in
       let q = toZ-ofZ (S .fits .q) in
@@ -21,7 +21,7 @@ module _ (c : tie.Joined2) where
       (λ w. ap (toZ w32) (w .1) ∙ q ∙ rw (rw (p, q) at (w .0 .left)))
       (c .before .if1 .came)
 
-  hi-is : toZ w32 (c .if2 .hi) ≡ upper (S .args .p) (S .args .q)
+  hi-is : toZ w32 (c .if2 .hi) ≡ high (S .args .p) (S .args .q)
   hi-is =
       let p = toZ-ofZ (S .fits .p) in
       let q = toZ-ofZ (S .fits .q) in
