@@ -2,6 +2,8 @@
 mod segments;
 
 ghost use mathlib.Core.Path.{_≡_};
+ghost use lib.IntN.{pos};
+ghost use Rattle.ranged1d.specs.Refusals.{numberOf};
 ghost use Rattle.ranged1d.specs.Admitted.{limitOf};
 ghost use Rattle.numeric.specs.Calls.{tellMarks, wholeKeyPoints, indexKeyPoints};
 ghost use Rattle.numeric.specs.Whole.{tellCount, tellIndex, tellValue, wholeSize, wholeIndexOf, wholeFromIndex, wholeReading};
@@ -33,6 +35,7 @@ use numeric::RangedCoordusize;
 use numeric::RealReading;
 use numeric::Value;
 use ranged1d::Limit;
+use ranged1d::Refusal;
 use ruler::Reading;
 use ruler::Wrote;
 use search::RoundingMethod;
@@ -61,6 +64,13 @@ fn method_of(method: u32) -> Method
     Method::Unknown
 }
 
+// The number of a refusal, as every call returns it.
+pub(crate) fn refused(r: Refusal) -> i32
+    ensures { λ z. ⌜ z ≡ pos (numberOf r) ⌝ }
+{
+    r.number() as i32
+}
+
 // What is handed out behind a pointer, and what is returned: an index, a count, a whole value, a place, a real value.
 fn give_index(x: Index, k: &mut u64) -> i32
     ensures { λ r. ⌜ (r, now (k .exit)) ≡ single (tellIndex x) (now (k .entry)) ⌝ }
@@ -71,7 +81,7 @@ fn give_index(x: Index, k: &mut u64) -> i32
             0
         }
         Index::Nothing => -1,
-        Index::Refused(r) => r.number() as i32,
+        Index::Refused(r) => refused(r),
     }
 }
 
@@ -83,7 +93,7 @@ fn give_count(x: Count, n: &mut u64) -> i32
             *n = k;
             0
         }
-        Count::Refused(r) => r.number() as i32,
+        Count::Refused(r) => refused(r),
     }
 }
 
@@ -96,7 +106,7 @@ fn give_value(x: Value, v: &mut i32) -> i32
             0
         }
         Value::Nothing => -1,
-        Value::Refused(r) => r.number() as i32,
+        Value::Refused(r) => refused(r),
     }
 }
 
@@ -108,7 +118,7 @@ fn give_place(x: Place, pixel: &mut i32) -> i32
             *pixel = y;
             0
         }
-        Place::Refused(r) => r.number() as i32,
+        Place::Refused(r) => refused(r),
     }
 }
 
@@ -121,7 +131,7 @@ fn give_reading(x: RealReading, v: &mut f64) -> i32
             0
         }
         RealReading::Nothing => -1,
-        RealReading::Refused(r) => r.number() as i32,
+        RealReading::Refused(r) => refused(r),
     }
 }
 
@@ -133,7 +143,7 @@ fn give_listed(x: Listed, count: &mut usize) -> i32
             *count = n;
             0
         }
-        Listed::Refused(r) => r.number() as i32,
+        Listed::Refused(r) => refused(r),
     }
 }
 
@@ -145,7 +155,7 @@ fn give_label(x: Label, written: &mut usize) -> i32
             *written = n;
             0
         }
-        Label::Refused(r) => r.number() as i32,
+        Label::Refused(r) => refused(r),
     }
 }
 
@@ -158,7 +168,7 @@ fn give_marks(x: Marks, step: &mut i32, count: &mut usize) -> i32
             *count = n;
             0
         }
-        Marks::Refused(r) => r.number() as i32,
+        Marks::Refused(r) => refused(r),
     }
 }
 
@@ -193,7 +203,7 @@ pub extern "C" fn culv_index_key_points(
             *count = k;
             0
         }
-        IndexMarks::Refused(r) => r.number() as i32,
+        IndexMarks::Refused(r) => refused(r),
     }
 }
 
@@ -265,7 +275,7 @@ pub extern "C" fn culv_ruler_write(
             *marks = k;
             0
         }
-        Wrote::Refused(r) => r.number() as i32,
+        Wrote::Refused(r) => refused(r),
     }
 }
 
@@ -298,7 +308,7 @@ pub extern "C" fn culv_ruler_read(
             *marks = r.marks;
             0
         }
-        Reading::Refused(why) => why.number() as i32,
+        Reading::Refused(why) => refused(why),
     }
 }
 

@@ -22,6 +22,7 @@ use crate::give_listed;
 use crate::give_marks;
 use crate::give_place;
 use crate::method_of;
+use crate::refused;
 use linspace::Linspacef64;
 use linspace::Linspacei32;
 use numeric::RangedCoordf64;
@@ -105,7 +106,7 @@ fn give_whole_segment(x: Segmenti32, kind: &mut u32, v: &mut i32) -> i32
     match x {
         Segmenti32::At(s) => give_whole_value(s, kind, v),
         Segmenti32::Nothing => -1,
-        Segmenti32::Refused(r) => r.number() as i32,
+        Segmenti32::Refused(r) => refused(r),
     }
 }
 
@@ -138,7 +139,7 @@ fn give_real_segment(x: Segmentf64, kind: &mut u32, v: &mut f64) -> i32
     match x {
         Segmentf64::At(s) => give_real_value(s, kind, v),
         Segmentf64::Nothing => -1,
-        Segmentf64::Refused(r) => r.number() as i32,
+        Segmentf64::Refused(r) => refused(r),
     }
 }
 

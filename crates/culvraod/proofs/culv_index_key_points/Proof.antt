@@ -1,7 +1,6 @@
 -- `culvraod::culv_index_key_points` meets its contract. Assumes nothing.
-use native.Mathlib.Omega.{arith}
 use borrow.Author.Needs.{needs}
-use mir.Facts.{toZ-pos}
+use mir.Facts.{toZ-ofZ}
 use mir.Syntax.{w32}
 use Rattle.numeric.specs.Calls.{tellIndexMarks}
 use Rattle.culvraod.proofs.Crossing.{key-points-cross}
@@ -17,11 +16,8 @@ enum-known-t c = search needs
 enum-known-r : tie.Need-enum-known-r
 enum-known-r c = search needs
 
-number-requires : tie.Need-number-requires
-number-requires c κs = search needs
-
-cast-result : tie.Need-cast-result
-cast-result c = search needs
+refused-requires : tie.Need-refused-requires
+refused-requires c κs = search needs
 
 same-length : tie.Need-same-length
 same-length c = search needs
@@ -39,7 +35,7 @@ returns-2 : tie.Need-returns-2
 returns-2 c =
     let k = c .before .before .before .before .before .before in
     let at = k .before .before .before in
-    rw (toZ-pos w32 {n = c .number .result} (omega (arith, c .number .ok)), c .number .ensures)
+    rw (toZ-ofZ {w = w32} (record { sfits = c .refused .ok }), c .refused .ensures)
     (key-points-cross tellIndexMarks (k .key-points .last .1 .1 .0) (at .args .step .now) (at .args .count .now) (k .key-points .ensures) (c .before .before .r .given .1))
 
 pub culv-index-key-points-spec : {M : Type 1} → statement M
@@ -49,8 +45,7 @@ culv-index-key-points-spec =
     key-points-requires
     enum-known-t
     enum-known-r
-    number-requires
-    cast-result
+    refused-requires
     same-length
     returns
     same-length-2

@@ -1,8 +1,7 @@
 -- `culvraod::culv_ruler_read` meets its contract. Assumes nothing.
 use mathlib.Core.Path.{_≡_}
-use native.Mathlib.Omega.{arith}
 use borrow.Author.Needs.{needs}
-use mir.Facts.{toZ-ofZ, toZ-pos}
+use mir.Facts.{toZ-ofZ}
 use mir.Syntax.{w32}
 use mir.Val.{toZ, ofZ}
 use Rattle.ranged1d.specs.Answer.{Answer}
@@ -22,11 +21,8 @@ enum-known-r c = search needs
 enum-known-why : tie.Need-enum-known-why
 enum-known-why c = search needs
 
-number-requires : tie.Need-number-requires
-number-requires c κs = search needs
-
-cast-result : tie.Need-cast-result
-cast-result c = search needs
+refused-requires : tie.Need-refused-requires
+refused-requires c κs = search needs
 
 -- what lay behind the pointers
 before : tie.Start → Ruler
@@ -54,7 +50,7 @@ returns-2 c =
     let found = c .before .before in
     let k = found .before .before in
     let at = k .before .before in
-    rw (toZ-pos w32 {n = c .number .result} (omega (arith, c .number .ok)), c .number .ensures)
+    rw (toZ-ofZ {w = w32} (record { sfits = c .refused .ok }), c .refused .ensures)
     (answer-cross (λ (x : Answer Ruler). readC x (before at)) tellReading (k .read .ensures) (found .why .given .1))
 
 pub culv-ruler-read-spec : {M : Type 1} → statement M
@@ -64,7 +60,6 @@ culv-ruler-read-spec =
     read-requires
     enum-known-r
     enum-known-why
-    number-requires
-    cast-result
+    refused-requires
     returns
     returns-2)

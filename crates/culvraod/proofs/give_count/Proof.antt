@@ -1,9 +1,8 @@
 -- `culvraod::give_count` meets its contract. Assumes nothing.
 use mathlib.Core.Path.{refl}
-use native.Mathlib.Omega.{arith}
 use borrow.Author.Needs.{needs}
 use denote.Ref.{now}
-use mir.Facts.{toZ-pos}
+use mir.Facts.{toZ-ofZ}
 use mir.Syntax.{w32}
 use Rattle.numeric.specs.Whole.{tellCount}
 use Rattle.culvraod.proofs.Crossing.{single-cross}
@@ -16,19 +15,16 @@ enum-known-x c = search needs
 enum-known-x-2 : tie.Need-enum-known-x-2
 enum-known-x-2 c = search needs
 
-number-requires : tie.Need-number-requires
-number-requires c κs = search needs
-
-cast-result : tie.Need-cast-result
-cast-result c = search needs
+refused-requires : tie.Need-refused-requires
+refused-requires c κs = search needs
 
 returns : tie.Need-returns
 returns c = single-cross tellCount (now (c .before .before .before .args .n)) refl (c .before .x .given .1)
 
 returns-2 : tie.Need-returns-2
 returns-2 c =
-    rw (toZ-pos w32 {n = c .number .result} (omega (arith, c .number .ok)), c .number .ensures)
+    rw (toZ-ofZ {w = w32} (record { sfits = c .refused .ok }), c .refused .ensures)
     (single-cross tellCount (now (c .before .before .before .before .args .n)) refl (c .before .before .x2 .given .1))
 
 pub give-count-spec : {M : Type 1} → statement M
-give-count-spec = tie.close (tie.spec enum-known-x enum-known-x-2 number-requires cast-result returns returns-2)
+give-count-spec = tie.close (tie.spec enum-known-x enum-known-x-2 refused-requires returns returns-2)

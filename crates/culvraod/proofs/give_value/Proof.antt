@@ -1,9 +1,8 @@
 -- `culvraod::give_value` meets its contract. Assumes nothing.
 use mathlib.Core.Path.{refl}
-use native.Mathlib.Omega.{arith}
 use borrow.Author.Needs.{needs}
 use denote.Ref.{now}
-use mir.Facts.{toZ-ofZ, toZ-pos}
+use mir.Facts.{toZ-ofZ}
 use mir.Syntax.{w32}
 use Rattle.numeric.specs.Whole.{tellValue}
 use Rattle.culvraod.proofs.Crossing.{single-cross}
@@ -19,11 +18,8 @@ enum-told c = search needs
 enum-known-x-2 : tie.Need-enum-known-x-2
 enum-known-x-2 c = search needs
 
-number-requires : tie.Need-number-requires
-number-requires c κs = search needs
-
-cast-result : tie.Need-cast-result
-cast-result c = search needs
+refused-requires : tie.Need-refused-requires
+refused-requires c κs = search needs
 
 returns : tie.Need-returns
 returns c = rw (toZ-ofZ (record { sfits = c .known-told .given .0 .1 })) (single-cross tellValue (now (c .before .before .before .args .v)) refl (c .before .x .given .1))
@@ -33,8 +29,8 @@ returns-2 c = single-cross tellValue (now (c .before .before .args .v)) refl (c 
 
 returns-3 : tie.Need-returns-3
 returns-3 c =
-    rw (toZ-pos w32 {n = c .number .result} (omega (arith, c .number .ok)), c .number .ensures)
+    rw (toZ-ofZ {w = w32} (record { sfits = c .refused .ok }), c .refused .ensures)
     (single-cross tellValue (now (c .before .before .before .before .args .v)) refl (c .before .before .x2 .given .1))
 
 pub give-value-spec : {M : Type 1} → statement M
-give-value-spec = tie.close (tie.spec enum-known-x enum-told enum-known-x-2 number-requires cast-result returns returns-2 returns-3)
+give-value-spec = tie.close (tie.spec enum-known-x enum-told enum-known-x-2 refused-requires returns returns-2 returns-3)

@@ -1,9 +1,8 @@
 -- `culvraod::segments::give_real_segment` meets its contract. Assumes nothing.
 use mathlib.Core.Path.{refl, _∙_}
-use native.Mathlib.Omega.{arith}
 use borrow.Author.Needs.{needs}
 use denote.Ref.{now}
-use mir.Facts.{toZ-ofZ, toZ-pos}
+use mir.Facts.{toZ-ofZ}
 use mir.Syntax.{w32}
 use Rattle.segmented.specs.Values.{tellRealSegment}
 use Rattle.culvraod.specs.Segments.{nil, segmentC}
@@ -23,11 +22,8 @@ enum-told c = search needs
 enum-known-x-2 : tie.Need-enum-known-x-2
 enum-known-x-2 c = search needs
 
-number-requires : tie.Need-number-requires
-number-requires c κs = search needs
-
-cast-result : tie.Need-cast-result
-cast-result c = search needs
+refused-requires : tie.Need-refused-requires
+refused-requires c κs = search needs
 
 returns : tie.Need-returns
 returns c =
@@ -42,7 +38,7 @@ returns-3 : tie.Need-returns-3
 returns-3 c =
     let k = c .before .before in
     let s = k .before .before in
-    rw (toZ-pos w32 {n = c .number .result} (omega (arith, c .number .ok)), c .number .ensures) (answer-cross (λ x. segmentC nil x (now (s .args .kind)) (now (s .args .v))) tellRealSegment refl (k .x2 .given .1))
+    rw (toZ-ofZ {w = w32} (record { sfits = c .refused .ok }), c .refused .ensures) (answer-cross (λ x. segmentC nil x (now (s .args .kind)) (now (s .args .v))) tellRealSegment refl (k .x2 .given .1))
 
 pub give-real-segment-spec : {M : Type 1} → statement M
 give-real-segment-spec =
@@ -52,8 +48,7 @@ give-real-segment-spec =
     give-real-value-requires
     enum-told
     enum-known-x-2
-    number-requires
-    cast-result
+    refused-requires
     returns
     returns-2
     returns-3)

@@ -1,10 +1,9 @@
 -- `culvraod::segments::give_whole_segment` meets its contract. Assumes nothing.
 use mathlib.Core.Path.{refl, _∙_}
-use native.Mathlib.Omega.{arith}
 use borrow.Author.Needs.{needs}
 use denote.Ref.{now}
 use lib.IntN.{pos}
-use mir.Facts.{toZ-ofZ, toZ-pos}
+use mir.Facts.{toZ-ofZ}
 use mir.Syntax.{w32}
 use Rattle.segmented.specs.Values.{tellSegment}
 use Rattle.culvraod.specs.Segments.{segmentC}
@@ -24,11 +23,8 @@ enum-told c = search needs
 enum-known-x-2 : tie.Need-enum-known-x-2
 enum-known-x-2 c = search needs
 
-number-requires : tie.Need-number-requires
-number-requires c κs = search needs
-
-cast-result : tie.Need-cast-result
-cast-result c = search needs
+refused-requires : tie.Need-refused-requires
+refused-requires c κs = search needs
 
 returns : tie.Need-returns
 returns c =
@@ -43,7 +39,7 @@ returns-3 : tie.Need-returns-3
 returns-3 c =
     let k = c .before .before in
     let s = k .before .before in
-    rw (toZ-pos w32 {n = c .number .result} (omega (arith, c .number .ok)), c .number .ensures) (answer-cross (λ x. segmentC (pos 0) x (now (s .args .kind)) (now (s .args .v))) tellSegment refl (k .x2 .given .1))
+    rw (toZ-ofZ {w = w32} (record { sfits = c .refused .ok }), c .refused .ensures) (answer-cross (λ x. segmentC (pos 0) x (now (s .args .kind)) (now (s .args .v))) tellSegment refl (k .x2 .given .1))
 
 pub give-whole-segment-spec : {M : Type 1} → statement M
 give-whole-segment-spec =
@@ -53,8 +49,7 @@ give-whole-segment-spec =
     give-whole-value-requires
     enum-told
     enum-known-x-2
-    number-requires
-    cast-result
+    refused-requires
     returns
     returns-2
     returns-3)
