@@ -8,10 +8,7 @@ use Rattle.ruler.specs.Rule.{sideOf}
 use Rattle.culvraod.specs.Boundary.{code, outAfter}
 
 -- the numbers of a ruler, one behind each pointer
-abbrev pub rulerOf : ℤ → ℤ → ℤ → ℤ → ℕ → ℤ → ℕ → Ruler
-rulerOf a b p q m s n = record { a = a; b = b; p = p; q = q; m = m; step = s; marks = n }
-
-abbrev pub withNumbers : ℤ → Ruler → ℤ × ℤ × ℤ × ℤ × ℤ × ℕ × ℤ × ℕ
+abbrev withNumbers : ℤ → Ruler → ℤ × ℤ × ℤ × ℤ × ℤ × ℕ × ℤ × ℕ
 withNumbers c r = (c, r .a, r .b, r .p, r .q, r .m, r .step, r .marks)
 
 -- the reader: the code, and the numbers of the ruler, or those that were there

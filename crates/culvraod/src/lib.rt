@@ -15,8 +15,8 @@ ghost use Rattle.culvraod.specs.Steps.{listC};
 ghost use Rattle.float.specs.Calls.{tellLabel, labelPrint};
 ghost use Rattle.search.specs.Lists.{wholeSearch, realSearch};
 ghost use Rattle.culvraod.specs.Search.{methodOf, byMethod};
-ghost use Rattle.ruler.specs.Rule.{rulerWrite, rulerRead, recordIn, labelIn, sideOf};
-ghost use Rattle.culvraod.specs.Ruler.{rulerOf, readC, partC, pairC};
+ghost use Rattle.ruler.specs.Rule.{rulerWrite, rulerOf, rulerRead, recordIn, labelIn, sideOf};
+ghost use Rattle.culvraod.specs.Ruler.{readC, partC, pairC};
 ghost use Rattle.culvraod.specs.Boundary.{single};
 ghost use Rattle.culvraod.specs.Numeric.{marksC, keyPointsC};
 use float::FloatPrettyPrinter;
@@ -290,7 +290,7 @@ pub extern "C" fn culv_ruler_read(
     step: &mut i32,
     marks: &mut usize,
 ) -> i32
-    ensures { λ r. ⌜ (r, now (a .exit), now (b .exit), now (p .exit), now (q .exit), now (m .exit), now (step .exit), now (marks .exit)) ≡ readC (rulerRead (now (bytes .entry))) (rulerOf (now (a .entry)) (now (b .entry)) (now (p .entry)) (now (q .entry)) (now (m .entry)) (now (step .entry)) (now (marks .entry))) ⌝ }
+    ensures { λ r. ⌜ (r, now (a .exit), now (b .exit), now (p .exit), now (q .exit), now (m .exit), now (step .exit), now (marks .exit)) ≡ readC (rulerRead (now (bytes .entry))) (rulerOf (now (a .entry)) (now (b .entry)) (limitOf (now (p .entry)) (now (q .entry))) (now (m .entry)) (now (step .entry)) (now (marks .entry))) ⌝ }
 {
     match ruler::read(bytes) {
         Reading::Ruler(r) => {

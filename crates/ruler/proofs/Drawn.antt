@@ -6,7 +6,7 @@ use Prim.Native.Nat.{ℕ, _+_, _*_, _≤_, _<_}
 use native.Mathlib.Omega.{arith}
 use lib.Dec.{ltb}
 use lib.IntN.{ℤ}
-use lib.ListN.{length, take, drop, length-append, take-append-drop}
+use lib.ListN.{length, take, drop, take-append-drop}
 use lib.Seq.{take-at, drop-at}
 use borrow.Author.Tests.{lt-ltb, le-ltb}
 use Rattle.ruler.proofs.Places.{ends, film, served}
@@ -15,13 +15,16 @@ use Rattle.ranged1d.specs.Admitted.{wholeAdmitted, limitAdmitted}
 use Rattle.ranged1d.specs.declared.Limit.{Limit}
 use Rattle.numeric.specs.declared.KeyPoints.{KeyPoints}
 use Rattle.numeric.specs.Marks.{noStep, marks}
-use Rattle.numeric.specs.Calls.{wholePlan, planOf, element}
+use Rattle.numeric.specs.Calls.{wholePlan, planOf}
 use Rattle.numeric.proofs.Plans.{Good, planned-good}
 use Rattle.ruler.specs.declared.Draft.{Draft}
 use Rattle.ruler.specs.Bytes.{axis, laid, joined}
 use Rattle.ruler.specs.Rule.{markAt, rulerBytes, rulerWrite, hasRuler, rulerPlan}
 use Rattle.ruler.specs.Steps.{Reachable, firstOf}
-use Rattle.ruler.proofs.Records.{axis-long, run, run-long, first-more}
+use Rattle.ruler.proofs.Records.{axis-long, head, marksOf, first-long, first-more}
+
+abbrev pub drawnFor : ℤ → ℤ → Limit → ℕ → Draft
+drawnFor a b limit m = record { a = a; b = b; limit = limit; m = m }
 
 -- what is known of a ruler's plan that was given
 pub record Drawn (a b : ℤ) (limit : Limit) (m : ℕ) (p : KeyPoints) : Type 0 where
@@ -94,21 +97,20 @@ module _ (a b : ℤ) (limit : Limit) (m : ℕ) where
     unfolding DrawnBy
     is-drawn = subst DrawnBy e all-drawn
 
-    abbrev pub marksRun : List ℕ
-    marksRun = run a b limit (element (p .first) (p .step)) (p .count)
+    -- the axis's record, and those of the marks
+    abbrev axisRecord : List ℕ
+    axisRecord = head (drawnFor a b limit m) p
 
-    abbrev pub head : List ℕ
-    head = laid (axis a b limit m (p .step))
+    abbrev marksRun : List ℕ
+    marksRun = marksOf (drawnFor a b limit m) p (p .count)
 
-    pub ruler-is : rulerBytes a b limit m ≡ head ++ marksRun
+    pub ruler-is : rulerBytes a b limit m ≡ axisRecord ++ marksRun
     unfolding rulerBytes
     ruler-is =
         ap₂ (λ (s : ℤ) (l : List ℤ). laid (axis a b limit m s) ++ joined (map (markAt a b limit) l)) (ap (λ (q : KeyPoints). q .step) (is-drawn .good .plan)) (is-drawn .good .marks-are)
 
     pub ruler-long : length (rulerBytes a b limit m) ≡ 25 + 20 * p .count
-    ruler-long =
-        rw (ruler-is, length-append head marksRun)
-        (omega (arith, axis-long a b limit m (p .step), run-long a b limit (element (p .first) (p .step)) (p .count)))
+    ruler-long = ap length ruler-is ∙ first-long (drawnFor a b limit m) p (p .count)
 
     pub marks-long : length (marks a b m) ≡ p .count
     marks-long = ap (λ (q : KeyPoints). q .count) (is-drawn .good .plan)
@@ -122,13 +124,13 @@ module _ (a b : ℤ) (limit : Limit) (m : ℕ) where
     write-fits old h = by-plan old ∙ ap (byPlan old) e ∙ rw (ruler-long, le-ltb (length old) (25 + 20 * p .count) h, ruler-long)
 
     -- the first 25 bytes and the others
-    pub ruler-head : take 25 (rulerBytes a b limit m) ≡ head
-    ruler-head = rw ruler-is (take-at head marksRun 25 (axis-long a b limit m (p .step)))
+    pub ruler-head : take 25 (rulerBytes a b limit m) ≡ axisRecord
+    ruler-head = rw ruler-is (take-at axisRecord marksRun 25 (axis-long a b limit m (p .step)))
 
     pub ruler-rest : drop 25 (rulerBytes a b limit m) ≡ marksRun
-    ruler-rest = rw ruler-is (drop-at head marksRun 25 (axis-long a b limit m (p .step)))
+    ruler-rest = rw ruler-is (drop-at axisRecord marksRun 25 (axis-long a b limit m (p .step)))
 
-    pub ruler-whole : (l : List ℕ) → take 25 l ≡ head → drop 25 l ≡ marksRun → l ≡ rulerBytes a b limit m
+    pub ruler-whole : (l : List ℕ) → take 25 l ≡ axisRecord → drop 25 l ≡ marksRun → l ≡ rulerBytes a b limit m
     ruler-whole l x y = sym (take-append-drop 25 l) ∙ ap₂ (λ (t u : List ℕ). t ++ u) x y ∙ sym ruler-is
 
 -- all records of a ruler, put at the start of a list

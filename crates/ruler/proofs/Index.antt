@@ -2,16 +2,16 @@
 use mathlib.Core.Path.{_≡_, refl, sym, ap, _∙_}
 use mathlib.Core.Bool.{Bool, true, false, cond}
 use mathlib.Core.List.{List, [], _∷_, _++_}
-use Prim.Native.Nat.{ℕ, zero, suc, _+_, _≤_, _<_}
+use Prim.Native.Nat.{ℕ, zero, suc, _+_, _<_}
 use native.Mathlib.Numerals.{add-one}
 use native.Mathlib.Decide.{decLt}
 use native.Mathlib.Omega.{arith}
 use lib.IntN.{ℤ}
-use lib.ListN.{length}
+use lib.ListN.{length, getD}
 use Rattle.ranged1d.specs.Numbers.{same}
 use Rattle.ranged1d.proofs.Whole.{same-yes, same-no, same-is}
 use Rattle.numeric.specs.Marks.{listOf}
-use Rattle.numeric.proofs.Lists.{length-of}
+use Rattle.numeric.proofs.Lists.{length-of, entry}
 use Rattle.ruler.specs.Rule.{indexOf}
 
 -- where it is not in the first list, it is looked for in the second
@@ -50,25 +50,14 @@ module _ (v : ℤ) (f : ℕ → ℤ) (k : ℕ) (e : indexOf v (listOf f k) ≡ k
       go (yes u) rec = index-left v (listOf f n) (f n ∷ []) (omega (arith, rec u h, length-of f n)) ∙ rec u h
       go (no u) rec = let d : n ≡ k = omega arith in rw d (here h)
 
-pub index-most : (v : ℤ) (xs : List ℤ) → indexOf v xs ≤ length xs
-index-most v [] = omega arith
-index-most v (x ∷ xs) = go (same x v) (index-most v xs)
+-- what stands at that place; v itself stands for what is past the end
+at-index : (v : ℤ) (xs : List ℤ) → getD xs (indexOf v xs) v ≡ v
+at-index v [] = refl
+at-index v (x ∷ xs) = go (same x v) refl (at-index v xs)
   where
-    go : (t : Bool) → indexOf v xs ≤ length xs → cond t 0 (suc (indexOf v xs)) ≤ suc (length xs)
-    go true h = omega arith
-    go false h = omega arith
+    go : (t : Bool) → same x v ≡ t → getD xs (indexOf v xs) v ≡ v → getD (x ∷ xs) (cond t 0 (suc (indexOf v xs))) v ≡ v
+    go true e rec = same-is x v e
+    go false e rec = rec
 
--- what stands at that place
 pub index-found : (v : ℤ) (f : ℕ → ℤ) (n : ℕ) → indexOf v (listOf f n) < n → f (indexOf v (listOf f n)) ≡ v
-index-found v f zero h = absurd (omega arith)
-index-found v f (suc n) h = go (decLt (indexOf v (listOf f n)) n) (index-found v f n)
-  where
-    last : indexOf v (listOf f n) ≡ n → (t : Bool) → same (f n) v ≡ t → indexOf v (listOf f (suc n)) ≡ n + cond t 0 1 → f (indexOf v (listOf f (suc n))) ≡ v
-    last e true q w = let d : indexOf v (listOf f (suc n)) ≡ n = omega arith in ap f d ∙ same-is (f n) v q
-    last e false q w = absurd (omega arith)
-
-    go : Dec (indexOf v (listOf f n) < n) → (indexOf v (listOf f n) < n → f (indexOf v (listOf f n)) ≡ v) → f (indexOf v (listOf f (suc n))) ≡ v
-    go (yes u) rec = ap f (index-left v (listOf f n) (f n ∷ []) (omega (arith, length-of f n))) ∙ rec u
-    go (no u) rec =
-        let e : indexOf v (listOf f n) ≡ n = omega (arith, index-most v (listOf f n), length-of f n) in
-        last e (same (f n) v) refl (seam v f n e)
+index-found v f n h = sym (entry f v n (indexOf v (listOf f n)) h) ∙ at-index v (listOf f n)

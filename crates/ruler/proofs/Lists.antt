@@ -6,7 +6,7 @@ use Prim.Native.Nat.{ℕ, zero, suc, _+_, _-_, _≤_}
 use native.Mathlib.Nat.{zero-add, suc-add}
 use native.Mathlib.Omega.{arith}
 use lib.ListN.{length, getD, set, take, drop, drop-of-length-le}
-use lib.Seq.{drop-cons, take-length, take-nil}
+use lib.Seq.{drop-cons, set-split, take-length, take-nil}
 use borrow.Rule.Slice.PartMut.{putMid}
 use Rattle.decimal.specs.Read.{sameBytes}
 use Rattle.decimal.proofs.Texts.{same-no, same-is}
@@ -14,7 +14,7 @@ use Rattle.ranged1d.proofs.Pieces.{put-more, more-long}
 use Rattle.ruler.specs.Bytes.{word}
 
 -- a list by its elements
-abbrev pub gets : ℕ → ℕ → List ℕ → List ℕ
+abbrev gets : ℕ → ℕ → List ℕ → List ℕ
 gets zero k l = []
 gets (suc n) k l = getD l k 0 ∷ gets n (suc k) l
 
@@ -22,11 +22,6 @@ pub gets-drop : (n k : ℕ) (l : List ℕ) → length l ≡ k + n → gets n k l
 gets-drop zero k l e = let h : length l ≤ k = omega arith in sym (drop-of-length-le l h)
 gets-drop (suc n) k l e =
     ap (λ (t : List ℕ). getD l k 0 ∷ t) (gets-drop n (suc k) l (omega arith)) ∙ sym (drop-cons l k 0 (omega arith))
-
--- a kind is stored in front, and then a body
-pub put-first : (kind : ℕ) (o : List ℕ) → 1 ≤ length o → set o 0 kind ≡ kind ∷ drop 1 o
-put-first kind [] h = absurd (omega arith)
-put-first kind (x ∷ xs) h = refl
 
 -- a part of a part
 pub drop-take : (c w : ℕ) (l : List ℕ) → drop c (take (c + w) l) ≡ take w (drop c l)
@@ -44,16 +39,12 @@ mark-same e f g = rw (e, f, g)
 -- a kind and a body that were put in front of a list
 module _ (kind : ℕ) (body o y : List ℕ) (h : 1 + length body ≤ length o) (f : y ≡ take (length body) body ++ drop (length body) (take (length (set o 0 kind) - 1) (drop 1 (set o 0 kind)))) where
   pub record-put : putMid 1 (length (set o 0 kind) - 1) (set o 0 kind) y ≡ (kind ∷ body) ++ drop (1 + length body) o
-  record-put = put-more 1 (length body) (kind ∷ []) body o (set o 0 kind) y refl (put-first kind o (omega arith)) (rw (take-length body) at f)
+  record-put = put-more 1 (length body) (kind ∷ []) body o (set o 0 kind) y refl (set-split o 0 kind (omega arith)) (rw (take-length body) at f)
 
   pub record-put-long : length (putMid 1 (length (set o 0 kind) - 1) (set o 0 kind) y) ≡ length o
   record-put-long = ap length record-put ∙ more-long 1 (length body) (kind ∷ []) body o refl refl h
 
 -- a record, compared by its kind and its body
-head-split : (l : List ℕ) → (length l ≡ 0 → ⊥) → l ≡ getD l 0 0 ∷ drop 1 l
-head-split [] h = absurd (h refl)
-head-split (x ∷ xs) h = refl
-
 module _ (kind : ℕ) (body l : List ℕ) where
   pub record-empty : length l ≡ 0 → sameBytes l (kind ∷ body) ≡ false
   record-empty h = same-no l (kind ∷ body) (λ e. omega (arith, ap length e))
@@ -64,5 +55,5 @@ module _ (kind : ℕ) (body l : List ℕ) where
   pub record-same : (r : Bool) → (length l ≡ 0 → ⊥) → getD l 0 0 ≡ kind → (r ≡ true → drop 1 l ≡ body) → (drop 1 l ≡ body → r ≡ true) → r ≡ sameBytes l (kind ∷ body)
   record-same r n k f g =
       same-is r l (kind ∷ body)
-      (λ e. head-split l n ∙ ap₂ (λ (x : ℕ) (t : List ℕ). x ∷ t) k (f e))
+      (λ e. drop-cons l 0 0 (omega (arith, n)) ∙ ap₂ (λ (x : ℕ) (t : List ℕ). x ∷ t) k (f e))
       (λ e. g (ap (drop 1) e))

@@ -62,13 +62,13 @@ unfolding hasMark
 marked l v h =
     let both = both-true (isRuler l) (ltb (indexOf v (marksIn l)) (length (marksIn l))) h in
     record {
-      known = record { ruler = both .0; draft = refl; plan = ruler-in l (both .0) .0; bytes = ruler-in l (both .0) .1 };
+      known = ruler-in l (both .0);
       index = ltb-true _ _ (both .1);
     }
 
 -- the record of v is at its place
 module _ (l : List ℕ) (v : ℤ) (w : Marked l v) where
-  pub record-here : take 20 (drop (25 + 20 * indexOf v (marksIn l)) l) ≡ laid (markAt (aIn l) (bIn l) (limitIn l) v)
+  record-here : take 20 (drop (25 + 20 * indexOf v (marksIn l)) l) ≡ laid (markAt (aIn l) (bIn l) (limitIn l) v)
   record-here =
       let g = w .known in
       let p = planOf (aIn l) (bIn l) (mIn l) in
@@ -80,7 +80,7 @@ module _ (l : List ℕ) (v : ℤ) (w : Marked l v) where
       ∙ run-at (aIn l) (bIn l) (limitIn l) f (p .count) k (w .index)
       ∙ ap (λ (x : ℤ). laid (markAt (aIn l) (bIn l) (limitIn l) x)) at-k
 
-  pub ends-inside : 45 + 20 * indexOf v (marksIn l) ≤ length l
+  ends-inside : 45 + 20 * indexOf v (marksIn l) ≤ length l
   ends-inside = omega (arith, known-long (w .known), w .index)
 
 -- the end of a record is its number in base ten

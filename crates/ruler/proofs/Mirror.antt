@@ -26,7 +26,7 @@ use Rattle.ruler.specs.Bytes.{Record, axis, mark, laid, joined}
 use Rattle.ruler.specs.Place.{placeIn, placeOf}
 use Rattle.ruler.specs.Rule.{markAt, recordsOf, rulerBytes, rulerWrite, hasRuler}
 use Rattle.ruler.specs.Mirror.{negated, turned, Verdict, verdict, accepted, stopped, OneMore, Mirrored}
-use Rattle.ruler.proofs.Records.{mark-long, axis-long}
+use Rattle.ruler.proofs.Records.{axis-long, records-long}
 use Rattle.ruler.proofs.Drawn.{has-plan, ruler-long}
 
 -- ---- the place of the mirror is the negated place
@@ -79,13 +79,6 @@ records-back a b limit m z e =
     let back : marks (negℤ (negℤ a)) (negℤ (negℤ b)) m ≡ mirrored (marks (negℤ a) (negℤ b) m) ++ (z ∷ []) = rw (negℤ-negℤ a, negℤ-negℤ b) e in
     rw (negℤ-negℤ a, negℤ-negℤ b, negℤ-negℤ (limit .0), negℤ-negℤ (limit .1))
     (rw (negℤ-negℤ a, negℤ-negℤ b, negℤ-negℤ (limit .0), negℤ-negℤ (limit .1)) at (records-more (negℤ a) (negℤ b) (film.mirrored limit) m z back))
-
--- how long the records of a list of marks are; one mark more is one more
-marks-long : (a b : ℤ) (limit : Limit) (l : List ℤ) → length (joined (map (markAt a b limit) l)) ≡ 20 * length l
-marks-long a b limit [] = refl
-marks-long a b limit (v ∷ l) =
-    length-append (laid (markAt a b limit v)) (joined (map (markAt a b limit) l))
-    ∙ omega (arith, mark-long v (placeOf a b limit v), marks-long a b limit l)
 
 -- ---- refusals
 module _ (a b : ℤ) (limit : Limit) (m : ℕ) where
@@ -141,7 +134,7 @@ module _ (a b : ℤ) (limit : Limit) (m : ℕ) where
     turned-long =
         let l = marks a b m in
         length-append (laid (axis (negℤ a) (negℤ b) −limit m (pos (stepOf a b m)))) (joined (reverse (map negated (map (markAt a b limit) l))))
-        ∙ ap₂ (λ (x y : ℕ). x + y) (axis-long (negℤ a) (negℤ b) −limit m (pos (stepOf a b m))) (ap (λ (rs : List Record). length (joined rs)) (sym (marks-turned a b limit l)) ∙ marks-long (negℤ a) (negℤ b) −limit (mirrored l) ∙ ap (λ (n : ℕ). 20 * n) (marks.length-mirrored l))
+        ∙ ap₂ (λ (x y : ℕ). x + y) (axis-long (negℤ a) (negℤ b) −limit m (pos (stepOf a b m))) (ap (λ (rs : List Record). length (joined rs)) (sym (marks-turned a b limit l)) ∙ records-long (negℤ a) (negℤ b) −limit (mirrored l) ∙ ap (λ (n : ℕ). 20 * n) (marks.length-mirrored l))
 
     lengths : rulerBytes (negℤ a) (negℤ b) −limit m ≡ joined (turned (recordsOf a b limit m)) → length (marks (negℤ a) (negℤ b) m) ≡ length (marks a b m)
     lengths e = omega (arith, ap length e, turned-long, ruler-long (negℤ a) (negℤ b) −limit m (has-plan (negℤ a) (negℤ b) −limit m (ruler-same ∙ h)))

@@ -15,7 +15,7 @@ use Rattle.decimal.proofs.Texts.{same-equal, same-yes, same-no}
 use Rattle.ruler.specs.declared.Draft.{Draft}
 use Rattle.ruler.specs.declared.Seen.{Seen}
 use Rattle.ruler.specs.declared.Seen.the-variants as seen-is
-use Rattle.ruler.specs.Rule.{aIn, bIn, limitIn, mIn, marksIn, rulerBytes, hasRuler, isRuler, rulerRead, rulerPlan}
+use Rattle.ruler.specs.Rule.{aIn, bIn, limitIn, mIn, marksIn, rulerBytes, hasRuler, isRuler, rulerOf, rulerRead, rulerPlan}
 use Rattle.ruler.specs.Steps.{seenBy, draftIn, seenOf}
 use Rattle.ruler.proofs.Drawn.{Drawn, is-drawn, none-drawn, has-plan, ruler-long}
 
@@ -48,33 +48,29 @@ module _ (l : List ℕ) (d : Draft) where
       go false e = refl
 
 -- ---- bytes examined by themselves
-pub seen-in : (l : List ℕ) → seenBy l (draftIn l) ≡ seenOf l
-unfolding seenOf seenBy isRuler
-seen-in l = refl
-
-pub ruler-in : (l : List ℕ) → isRuler l ≡ true → (planFor (draftIn l) ≡ given (planOf (aIn l) (bIn l) (mIn l))) × (l ≡ bytesOf (draftIn l))
-unfolding isRuler
-ruler-in l h =
-    let both = both-true (hasRuler (aIn l) (bIn l) (limitIn l) (mIn l)) (sameBytes l (bytesOf (draftIn l))) h in
-    (has-plan _ _ _ _ (both .0), same-equal l (bytesOf (draftIn l)) (both .1))
-
--- what is known of bytes that were seen to be a ruler
+-- what is known of bytes that are a ruler
 pub record Known (l : List ℕ) (d : Draft) (p : KeyPoints) : Type 0 where
   pub ruler : isRuler l ≡ true
   pub draft : draftIn l ≡ d
   pub plan : planFor d ≡ given p
   pub bytes : l ≡ bytesOf d
 
+pub ruler-in : (l : List ℕ) → isRuler l ≡ true → Known l (draftIn l) (planOf (aIn l) (bIn l) (mIn l))
+unfolding isRuler
+ruler-in l h =
+    let both = both-true (hasRuler (aIn l) (bIn l) (limitIn l) (mIn l)) (sameBytes l (bytesOf (draftIn l))) h in
+    record { ruler = h; draft = refl; plan = has-plan _ _ _ _ (both .0); bytes = same-equal l (bytesOf (draftIn l)) (both .1) }
+
 KnownBy : List ℕ → Seen → Type 0
 KnownBy l (seen-is.Ruler d p) = Known l d p
 KnownBy l seen-is.Nothing = isRuler l ≡ false
 
 all-known : (l : List ℕ) → KnownBy l (seenOf l)
-unfolding KnownBy seenOf
+unfolding KnownBy seenBy isRuler
 all-known l = go (isRuler l) refl
   where
     go : (t : Bool) → isRuler l ≡ t → KnownBy l (cond t (seen-is.Ruler (draftIn l) (planOf (aIn l) (bIn l) (mIn l))) seen-is.Nothing)
-    go true e = record { ruler = e; draft = refl; plan = ruler-in l e .0; bytes = ruler-in l e .1 }
+    go true e = ruler-in l e
     go false e = e
 
 pub seen-known : {l : List ℕ} {d : Draft} {p : KeyPoints} → seenOf l ≡ seen-is.Ruler d p → Known l d p
@@ -95,13 +91,13 @@ module _ {l : List ℕ} {d : Draft} {p : KeyPoints} (k : Known l d p) where
   pub known-marks : marksIn l ≡ listOf (element (p .first) (p .step)) (p .count)
   known-marks = subst (λ (d : Draft). Drawn (d .a) (d .b) (d .limit) (d .m) p) (sym (k .draft)) known-drawn .good .marks-are
 
-  pub read-known : rulerRead l ≡ given (record { a = d .a; b = d .b; p = d .limit .0; q = d .limit .1; m = d .m; step = p .step; marks = p .count })
+  pub read-known : rulerRead l ≡ given (rulerOf (d .a) (d .b) (d .limit) (d .m) (p .step) (p .count))
   unfolding rulerRead
   read-known =
       let plan = subst (λ (d : Draft). planOf (d .a) (d .b) (d .m) ≡ p) (sym (k .draft)) (known-drawn .good .plan) in
       rw (k .ruler)
-      (ap (λ (q : KeyPoints). given (record { a = aIn l; b = bIn l; p = limitIn l .0; q = limitIn l .1; m = mIn l; step = q .step; marks = q .count })) plan
-      ∙ ap (λ (d : Draft). given (record { a = d .a; b = d .b; p = d .limit .0; q = d .limit .1; m = d .m; step = p .step; marks = p .count })) (k .draft))
+      (ap (λ (q : KeyPoints). given (rulerOf (aIn l) (bIn l) (limitIn l) (mIn l) (q .step) (q .count))) plan
+      ∙ ap (λ (d : Draft). given (rulerOf (d .a) (d .b) (d .limit) (d .m) (p .step) (p .count))) (k .draft))
 
 pub read-nothing : (l : List ℕ) → isRuler l ≡ false → rulerRead l ≡ refused 14
 unfolding rulerRead

@@ -12,14 +12,16 @@ use Rattle.ranged1d.specs.declared.Limit.{Limit}
 use Rattle.numeric.specs.declared.KeyPoints.{KeyPoints}
 use Rattle.numeric.specs.Marks.{listOf}
 use Rattle.numeric.specs.Calls.{element}
+use Rattle.numeric.proofs.Lists.{length-of}
 use Rattle.decimal.specs.Print.{decimal}
 use Rattle.decimal.proofs.Digits.{decimal-most, filled-to-long}
 use Rattle.ruler.specs.declared.Draft.{Draft}
 use Rattle.ruler.specs.Bytes.{Record, axis, mark, axisBody, markBody, laid, joined}
+use Rattle.ruler.specs.Place.{placeOf}
 use Rattle.ruler.specs.Rule.{markAt}
 use Rattle.ruler.specs.Steps.{firstOf}
 
-pub part-left : (xs ys : List ℕ) (a n : ℕ) → a + n ≤ length xs → take n (drop a (xs ++ ys)) ≡ take n (drop a xs)
+part-left : (xs ys : List ℕ) (a n : ℕ) → a + n ≤ length xs → take n (drop a (xs ++ ys)) ≡ take n (drop a xs)
 part-left xs ys a n h =
     let u : a ≤ length xs = omega arith in
     rw (drop-append-le a xs ys u)
@@ -41,6 +43,13 @@ pub axis-long : (a b : ℤ) (limit : Limit) (m : ℕ) (s : ℤ) → length (laid
 unfolding laid axisBody
 axis-long a b limit m s = refl
 
+-- how long the records of a list of marks are; one mark more is one more
+pub records-long : (a b : ℤ) (limit : Limit) (l : List ℤ) → length (joined (map (markAt a b limit) l)) ≡ 20 * length l
+records-long a b limit [] = refl
+records-long a b limit (v ∷ l) =
+    length-append (laid (markAt a b limit v)) (joined (map (markAt a b limit) l))
+    ∙ omega (arith, mark-long v (placeOf a b limit v), records-long a b limit l)
+
 module _ (a b : ℤ) (limit : Limit) (f : ℕ → ℤ) where
   -- the first n, and each
   abbrev pub run : ℕ → List ℕ
@@ -49,10 +58,10 @@ module _ (a b : ℤ) (limit : Limit) (f : ℕ → ℤ) where
   abbrev pub one : ℕ → List ℕ
   one k = laid (markAt a b limit (f k))
 
-  pub one-long : (k : ℕ) → length (one k) ≡ 20
+  one-long : (k : ℕ) → length (one k) ≡ 20
   one-long k = mark-long (f k) _
 
-  pub run-suc : (n : ℕ) → run (suc n) ≡ run n ++ one n
+  run-suc : (n : ℕ) → run (suc n) ≡ run n ++ one n
   run-suc n =
       ap joined (map-append (markAt a b limit) (listOf f n) (f n ∷ []))
       ∙ joined-append (map (markAt a b limit) (listOf f n)) (markAt a b limit (f n) ∷ [])
@@ -62,8 +71,7 @@ module _ (a b : ℤ) (limit : Limit) (f : ℕ → ℤ) where
   run-more n = rw add-one (run-suc n)
 
   pub run-long : (n : ℕ) → length (run n) ≡ 20 * n
-  run-long zero = refl
-  run-long (suc n) = rw (run-suc n, length-append (run n) (one n)) (omega (arith, run-long n, one-long n))
+  run-long n = records-long a b limit (listOf f n) ∙ ap (λ (k : ℕ). 20 * k) (length-of f n)
 
   -- record k of them
   pub run-at : (n k : ℕ) → k < n → take 20 (drop (20 * k) (run n)) ≡ one k
@@ -78,11 +86,16 @@ module _ (a b : ℤ) (limit : Limit) (f : ℕ → ℤ) where
 
 -- the first records of a ruler, at the start of a list
 module _ (d : Draft) (p : KeyPoints) where
-  abbrev head : List ℕ
+  abbrev pub head : List ℕ
   head = laid (axis (d .a) (d .b) (d .limit) (d .m) (p .step))
 
-  abbrev marksOf : ℕ → List ℕ
+  abbrev pub marksOf : ℕ → List ℕ
   marksOf n = run (d .a) (d .b) (d .limit) (element (p .first) (p .step)) n
+
+  pub first-long : (n : ℕ) → length (head ++ marksOf n) ≡ 25 + 20 * n
+  first-long n =
+      length-append head (marksOf n)
+      ∙ omega (arith, axis-long (d .a) (d .b) (d .limit) (d .m) (p .step), run-long (d .a) (d .b) (d .limit) (element (p .first) (p .step)) n)
 
   pub first-more : (n : ℕ) → joined (firstOf d p (n + 1)) ≡ head ++ marksOf n
   unfolding firstOf
@@ -93,6 +106,4 @@ module _ (d : Draft) (p : KeyPoints) where
   first-none old e = rw e
 
   pub first-put : (k : ℕ) {n : ℕ} {x : List ℕ} (old : List ℕ) → n ≡ k + 1 → x ≡ (head ++ marksOf k) ++ drop (25 + 20 * k) old → x ≡ joined (firstOf d p n) ++ drop (length (joined (firstOf d p n))) old
-  first-put k old e f =
-      let long : length (head ++ marksOf k) ≡ 25 + 20 * k = rw (length-append head (marksOf k)) (omega (arith, axis-long (d .a) (d .b) (d .limit) (d .m) (p .step), run-long (d .a) (d .b) (d .limit) (element (p .first) (p .step)) k)) in
-      f ∙ rw (e, first-more k, long)
+  first-put k old e f = f ∙ rw (e, first-more k, first-long k)

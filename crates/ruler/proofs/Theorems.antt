@@ -1,7 +1,7 @@
 -- The reader takes what the writer gives, and nothing else. Assumes nothing.
 use mathlib.Core.Path.{_≡_, refl, sym, ap, _∙_, subst}
-use mathlib.Core.Bool.{Bool, true, false, _&&_}
-use mathlib.Core.List.{List, _++_}
+use mathlib.Core.Bool.{Bool, true, false}
+use mathlib.Core.List.{List, _++_, append-nil}
 use mathlib.Core.Logic.{_⊎_, inl, inr}
 use Prim.Native.Nat.{ℕ, _+_, _*_, _^_, _≤_, _<_}
 use native.Mathlib.Decide.{decLt}
@@ -9,7 +9,6 @@ use native.Mathlib.Omega.{arith}
 use lib.IntN.{ℤ, pos}
 use lib.ListN.{length, take, drop, drop-of-length-le}
 use lib.Seq.{take-at, take-length}
-use mathlib.Core.List.{append-nil}
 use mir.Syntax.{w32}
 use mir.Val.{SFits}
 use Rattle.ranged1d.specs.Answer.{Answer, given, none, refused}
@@ -20,26 +19,21 @@ use Rattle.ranged1d.proofs.Whole.{fits32, both-near}
 use Rattle.numeric.specs.declared.KeyPoints.{KeyPoints}
 use Rattle.numeric.specs.Marks.{stepOf, marks}
 use Rattle.numeric.specs.Calls.{planOf}
-use Rattle.decimal.specs.Read.{sameBytes}
 use Rattle.decimal.proofs.Texts.{same-yes}
-use Rattle.ruler.specs.declared.Draft.{Draft}
 use Rattle.ruler.specs.declared.Ruler.{Ruler}
 use Rattle.ruler.specs.Bytes.{wholeAt, axis, axisBody, laid}
-use Rattle.ruler.specs.Rule.{aIn, bIn, limitIn, mIn, rulerBytes, rulerWrite, rulerRead, hasRuler, isRuler, rulerPlan}
-use Rattle.ruler.specs.Steps.{draftIn}
+use Rattle.ruler.specs.Rule.{aIn, bIn, limitIn, mIn, rulerBytes, rulerWrite, rulerOf, rulerRead, hasRuler, isRuler, rulerPlan}
+use Rattle.ruler.specs.Steps.{isBy, draftIn}
 use Rattle.ruler.proofs.Numbers.{word-back, number-back}
-use Rattle.ruler.proofs.Drawn.{is-drawn, has-plan, ruler-is, ruler-long, marks-long, marksRun, write-refused, write-none, write-short, write-fits}
+use Rattle.ruler.proofs.Drawn.{drawnFor, is-drawn, has-plan, ruler-is, ruler-long, marks-long, write-refused, write-none, write-short, write-fits}
 use Rattle.ruler.proofs.Places.{film}
-use Rattle.ruler.proofs.Reader.{bytesOf, Known, ruler-in, read-known, read-nothing}
+use Rattle.ruler.proofs.Reader.{Known, ruler-in, known-long, read-known, read-nothing}
 
 -- ---- the numbers in a ruler are its own
 limit-fits : (limit : Limit) → limitAdmitted limit ≡ true → SFits w32 (limit .0) × SFits w32 (limit .1)
 limit-fits limit h =
     let near = both-near 1000000 (limit .0) (limit .1) h in
     (fits32 (limit .0) (omega (arith, near .0)), fits32 (limit .1) (omega (arith, near .1)))
-
-abbrev drawnFor : ℤ → ℤ → Limit → ℕ → Draft
-drawnFor a b limit m = record { a = a; b = b; limit = limit; m = m }
 
 numbers-back : (l : List ℕ) (a b : ℤ) (limit : Limit) (m : ℕ) (s : ℤ) (rest : List ℕ) → SFits w32 a → SFits w32 b → SFits w32 (limit .0) × SFits w32 (limit .1) → m < 2 ^ 32 → l ≡ laid (axis a b limit m s) ++ rest → draftIn l ≡ drawnFor a b limit m
 unfolding laid axisBody
@@ -52,24 +46,17 @@ numbers-back l a b limit m s rest fa fb fl fm e =
     rw (a-is, b-is, p-is, q-is, m-is)
 
 -- ---- a ruler is read as what it is
-isBy : List ℕ → Draft → Bool
-isBy l d = hasRuler (d .a) (d .b) (d .limit) (d .m) && sameBytes l (bytesOf d)
-
 is-by : (l : List ℕ) → isRuler l ≡ isBy l (draftIn l)
-unfolding isRuler isBy
+unfolding isRuler
 is-by l = refl
-
-abbrev rulerOf : ℤ → ℤ → Limit → ℕ → ℤ → ℕ → Ruler
-rulerOf a b limit m s n = record { a = a; b = b; p = limit .0; q = limit .1; m = m; step = s; marks = n }
 
 module _ (a b : ℤ) (limit : Limit) (m : ℕ) (fm : m < 2 ^ 32) (h : hasRuler a b limit m ≡ true) where
   known : Known (rulerBytes a b limit m) (drawnFor a b limit m) (planOf a b m)
-  unfolding isBy
   known =
       let e = has-plan a b limit m h in
       let ends = is-drawn a b limit m e .good .ends in
       let l = rulerBytes a b limit m in
-      let own = numbers-back l a b limit m (pos (stepOf a b m)) (marksRun a b limit m e) (fits32 a (omega (arith, ends .0))) (fits32 b (omega (arith, ends .1))) (limit-fits limit (film a b limit m h)) fm (ruler-is a b limit m e) in
+      let own = numbers-back l a b limit m (pos (stepOf a b m)) _ (fits32 a (omega (arith, ends .0))) (fits32 b (omega (arith, ends .1))) (limit-fits limit (film a b limit m h)) fm (ruler-is a b limit m e) in
       record {
         ruler = is-by l ∙ ap (isBy l) own ∙ rw (h, same-yes l l refl);
         draft = own;
@@ -138,17 +125,15 @@ read-sound l r e old same = go (isRuler l) refl
   where
     given-by : isRuler l ≡ true → rulerWrite (r .a) (r .b) (limitOf (r .p) (r .q)) (r .m) old ≡ (given (length l, r .marks), l)
     given-by t =
-        let plan = ruler-in l t .0 in
-        let bytes = ruler-in l t .1 in
-        let long : 25 + 20 * length (marks (aIn l) (bIn l) (mIn l)) ≡ length l = sym (ap length bytes ∙ ruler-long _ _ _ _ plan) in
+        let k = ruler-in l t in
+        let long : 25 + 20 * length (marks (aIn l) (bIn l) (mIn l)) ≡ length l = sym (known-long k) in
         let enough : 25 + 20 * length (marks (aIn l) (bIn l) (mIn l)) ≤ length old = omega (arith, long) in
         let nothing : length old ≤ 25 + 20 * length (marks (aIn l) (bIn l) (mIn l)) = omega (arith, long) in
-        let k : Known l (draftIn l) (planOf (aIn l) (bIn l) (mIn l)) = record { ruler = t; draft = refl; plan = plan; bytes = bytes } in
         let x : _≡_ {A = Answer Ruler} (given (rulerOf (aIn l) (bIn l) (limitIn l) (mIn l) (pos (stepOf (aIn l) (bIn l) (mIn l))) (length (marks (aIn l) (bIn l) (mIn l))))) (given r) = sym (read-known k) ∙ e in
         let is : rulerOf (aIn l) (bIn l) (limitIn l) (mIn l) (pos (stepOf (aIn l) (bIn l) (mIn l))) (length (marks (aIn l) (bIn l) (mIn l))) ≡ r = cc in
         subst (λ (r : Ruler). rulerWrite (r .a) (r .b) (limitOf (r .p) (r .q)) (r .m) old ≡ (given (length l, r .marks), l)) is
-        (write-fits (aIn l) (bIn l) (limitIn l) (mIn l) plan old enough
-        ∙ rw (drop-of-length-le old nothing, append-nil (rulerBytes (aIn l) (bIn l) (limitIn l) (mIn l)), long, ← bytes))
+        (write-fits (aIn l) (bIn l) (limitIn l) (mIn l) (k .plan) old enough
+        ∙ rw (drop-of-length-le old nothing, append-nil (rulerBytes (aIn l) (bIn l) (limitIn l) (mIn l)), long, ← k .bytes))
 
     go : (t : Bool) → isRuler l ≡ t → rulerWrite (r .a) (r .b) (limitOf (r .p) (r .q)) (r .m) old ≡ (given (length l, r .marks), l)
     go true t = given-by t
@@ -159,5 +144,5 @@ pub read-or-14 : (l : List ℕ) → ((r : Ruler) × (rulerRead l ≡ given r)) �
 read-or-14 l = go (isRuler l) refl
   where
     go : (t : Bool) → isRuler l ≡ t → ((r : Ruler) × (rulerRead l ≡ given r)) ⊎ (rulerRead l ≡ refused 14)
-    go true t = inl (_, read-known (record { ruler = t; draft = refl; plan = ruler-in l t .0; bytes = ruler-in l t .1 }))
+    go true t = inl (_, read-known (ruler-in l t))
     go false t = inr (read-nothing l t)

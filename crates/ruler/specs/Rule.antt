@@ -99,18 +99,13 @@ abbrev pub marksIn : List ℕ → List ℤ
 marksIn l = marks (aIn l) (bIn l) (mIn l)
 
 -- `read`: those numbers, the step and the number of marks; 14 where the bytes are no ruler
+abbrev pub rulerOf : ℤ → ℤ → Limit → ℕ → ℤ → ℕ → Ruler
+rulerOf a b limit m s n = record { a = a; b = b; p = limit .0; q = limit .1; m = m; step = s; marks = n }
+
 unfoldable pub rulerRead : List ℕ → Answer Ruler
 rulerRead l =
     lowest (14 when not (isRuler l) ∷ [])
-    (given (record {
-      a = aIn l;
-      b = bIn l;
-      p = limitIn l .0;
-      q = limitIn l .1;
-      m = mIn l;
-      step = pos (stepOf (aIn l) (bIn l) (mIn l));
-      marks = length (marksIn l);
-    }))
+    (given (rulerOf (aIn l) (bIn l) (limitIn l) (mIn l) (pos (stepOf (aIn l) (bIn l) (mIn l))) (length (marksIn l))))
 
 -- ---- 01 "Ruler bytes": the look-ups
 -- where v stands first in a list; the list's length if it does not

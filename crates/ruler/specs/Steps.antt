@@ -1,6 +1,6 @@
 -- What private functions ask for and promise on the way to the rules: no part of the rules. Assumes nothing.
 use Prim.Native.Nat.{ℕ, zero, suc, _≤_, _<_}
-use mathlib.Core.Bool.{cond, _&&_}
+use mathlib.Core.Bool.{Bool, cond, _&&_}
 use mathlib.Core.List.{List, [], _∷_, map}
 use lib.IntN.{pos, natAbs, _*ℤ_}
 use lib.ListN.{length}
@@ -13,7 +13,7 @@ use Rattle.ruler.specs.declared.Part.{Part}
 use Rattle.ruler.specs.declared.Seen.{Seen}
 use Rattle.ruler.specs.declared.Seen.the-variants as seen-is
 use Rattle.ruler.specs.Bytes.{Record, axis}
-use Rattle.ruler.specs.Rule.{aIn, bIn, limitIn, mIn, markAt, rulerBytes, hasRuler, isRuler}
+use Rattle.ruler.specs.Rule.{aIn, bIn, limitIn, mIn, markAt, rulerBytes, hasRuler}
 
 -- the numbers on the way to mark k fit an i32
 pub record Reachable (p : KeyPoints) (k : ℕ) : Type 0 where
@@ -32,15 +32,16 @@ firstOf d p (suc n) =
 abbrev pub Inside : List ℕ → Part → Type 0
 Inside l r = (r .start ≤ r .end) × (r .end ≤ length l)
 
--- the ruler d, if bytes are it; the ruler that bytes are
+-- whether bytes are the ruler d; the ruler d, if they are
+abbrev pub isBy : List ℕ → Draft → Bool
+isBy l d = hasRuler (d .a) (d .b) (d .limit) (d .m) && sameBytes l (rulerBytes (d .a) (d .b) (d .limit) (d .m))
+
 unfoldable pub seenBy : List ℕ → Draft → Seen
-seenBy l d =
-    cond (hasRuler (d .a) (d .b) (d .limit) (d .m) && sameBytes l (rulerBytes (d .a) (d .b) (d .limit) (d .m)))
-    (seen-is.Ruler d (planOf (d .a) (d .b) (d .m)))
-    seen-is.Nothing
+seenBy l d = cond (isBy l d) (seen-is.Ruler d (planOf (d .a) (d .b) (d .m))) seen-is.Nothing
 
 abbrev pub draftIn : List ℕ → Draft
 draftIn l = record { a = aIn l; b = bIn l; limit = limitIn l; m = mIn l }
 
-unfoldable pub seenOf : List ℕ → Seen
-seenOf l = cond (isRuler l) (seen-is.Ruler (draftIn l) (planOf (aIn l) (bIn l) (mIn l))) seen-is.Nothing
+-- the ruler that bytes are
+abbrev pub seenOf : List ℕ → Seen
+seenOf l = seenBy l (draftIn l)

@@ -5,9 +5,10 @@ use mir.Facts.{toZ-ofZ}
 use mir.Syntax.{w32}
 use mir.Val.{toZ, ofZ}
 use Rattle.ranged1d.specs.Answer.{Answer}
+use Rattle.ranged1d.specs.Admitted.{limitOf}
 use Rattle.ruler.specs.declared.Ruler.{Ruler}
-use Rattle.ruler.specs.Rule.{tellReading}
-use Rattle.culvraod.specs.Ruler.{rulerOf, readC}
+use Rattle.ruler.specs.Rule.{rulerOf, tellReading}
+use Rattle.culvraod.specs.Ruler.{readC}
 use Rattle.culvraod.proofs.Crossing.{answer-cross}
 use Rattle.culvraod.proofs.culv_ruler_read.Statement.{statement}
 use Rattle.culvraod.proofs.culv_ruler_read.Tie as tie
@@ -26,7 +27,7 @@ refused-requires c κs = search needs
 
 -- what lay behind the pointers
 before : tie.Start → Ruler
-before at = rulerOf (at .args .a .now) (at .args .b .now) (at .args .p .now) (at .args .q .now) (at .args .m .now) (at .args .step .now) (at .args .marks .now)
+before at = rulerOf (at .args .a .now) (at .args .b .now) (limitOf (at .args .p .now) (at .args .q .now)) (at .args .m .now) (at .args .step .now) (at .args .marks .now)
 
 returns : tie.Need-returns
 unfolding before

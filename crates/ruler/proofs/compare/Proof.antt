@@ -12,7 +12,8 @@ use Rattle.numeric.specs.Calls.{tellPlanned}
 use Rattle.decimal.specs.Read.{sameBytes}
 use Rattle.decimal.proofs.Texts.{same-equal, same-yes}
 use Rattle.ranged1d.proofs.Pieces.{rest-is}
-use Rattle.ruler.proofs.Drawn.{is-drawn, head, marksRun, ruler-long, ruler-head, ruler-rest, ruler-whole}
+use Rattle.ruler.proofs.Records.{head, marksOf}
+use Rattle.ruler.proofs.Drawn.{is-drawn, ruler-long, ruler-head, ruler-rest, ruler-whole}
 use Rattle.ruler.proofs.Reader.{bytesOf, planFor, seen-none, seen-same, seen-other}
 use borrow.Author.Needs.{needs}
 use Rattle.ruler.proofs.compare.Statement.{statement}
@@ -48,10 +49,10 @@ module _ (c : tie.After-p) where
   plan-is = sym (c .before .before .planned .ensures) ∙ ap tellPlanned (c .p .given .1)
 
   first : List ℕ
-  first = head (at .args .d .a) (at .args .d .b) (at .args .d .limit) (at .args .d .m) plan-is
+  first = head (at .args .d) (c .p .given .0 .0)
 
   others : List ℕ
-  others = marksRun (at .args .d .a) (at .args .d .b) (at .args .d .limit) (at .args .d .m) plan-is
+  others = marksOf (at .args .d) (c .p .given .0 .0) (c .p .given .0 .0 .count)
 
 -- what was compared: the first record, and the others
 first-told : (c : tie.After-is-record) → let q = c .before .before .before .before .before .before .before in c .is-record .result ≡ sameBytes (take 25 (l q)) (first q)

@@ -1,16 +1,14 @@
 -- `ruler::examine` meets its contract. Assumes nothing.
-use mathlib.Core.Path.{sym, _∙_}
+use mathlib.Core.Path.{sym}
 use Rattle.ruler.specs.Steps.{draftIn}
 use Rattle.ruler.proofs.Numbers.{read-is}
-use Rattle.ruler.proofs.Reader.{seen-short, seen-in}
+use Rattle.ruler.proofs.Reader.{seen-short}
 use borrow.Author.Needs.{needs}
 use Rattle.ruler.proofs.examine.Statement.{statement}
 use Rattle.ruler.proofs.examine.Tie as tie
 
 returns : tie.Need-returns
-returns c =
-    let l = c .before .before .args .l .now in
-    sym (sym (seen-in l) ∙ seen-short l (draftIn l) (c .if1 .taken))
+returns c = let l = c .before .before .args .l .now in sym (seen-short l (draftIn l) (c .if1 .taken))
 
 word-at-requires : tie.Need-word-at-requires
 word-at-requires c κs = search needs
@@ -53,7 +51,7 @@ returns-2 c =
     let b-is = read-is (two .signed2 .ok) (two .signed2 .ensures) (two .before .word-at2 .ensures) in
     let p-is = read-is (three .signed3 .ok) (three .signed3 .ensures) (three .before .word-at3 .ensures) in
     let q-is = read-is (four .signed4 .ok) (four .signed4 .ensures) (four .before .word-at4 .ensures) in
-    rw (a-is, b-is, p-is, q-is, five .word-at5 .ensures) at (c .compare .ensures) ∙ seen-in _
+    rw (a-is, b-is, p-is, q-is, five .word-at5 .ensures) at (c .compare .ensures)
 
 pub examine-spec : {M : Type 1} → statement M
 examine-spec =
