@@ -15,29 +15,48 @@ use numeric::Value;
 use ranged1d::Limit;
 use ranged1d::Refusal;
 
-// What a call gave: the code, and after 0 the answer.
+// What a call gave: the code, and after 0 its answers, one number or two.
 pub struct Outcome {
     pub code: u64,
-    pub answer: u64,
+    pub answers: usize,
+    pub first: u64,
+    pub second: u64,
 }
 
 fn answered(answer: u64) -> Outcome {
-    Outcome { code: 0, answer }
+    Outcome {
+        code: 0,
+        answers: 1,
+        first: answer,
+        second: 0,
+    }
+}
+
+pub(crate) fn answered_two(first: u64, second: u64) -> Outcome {
+    Outcome {
+        code: 0,
+        answers: 2,
+        first,
+        second,
+    }
+}
+
+fn without(code: u64) -> Outcome {
+    Outcome {
+        code,
+        answers: 0,
+        first: 0,
+        second: 0,
+    }
 }
 
 // -1 in two's complement
-fn nothing() -> Outcome {
-    Outcome {
-        code: 18446744073709551615,
-        answer: 0,
-    }
+pub(crate) fn nothing() -> Outcome {
+    without(u64::MAX)
 }
 
 pub(crate) fn refused(r: Refusal) -> Outcome {
-    Outcome {
-        code: r.number() as u64,
-        answer: 0,
-    }
+    without(r.number() as u64)
 }
 
 pub(crate) fn of_place(p: Place) -> Outcome {
@@ -88,13 +107,19 @@ pub(crate) fn same(numbers: &[u64], n: usize, args: usize, o: Outcome) -> bool
     if numbers[args] != o.code {
         return false;
     }
-    if o.code != 0 {
-        return n == args + 1;
-    }
-    if n != args + 2 {
+    if n - args - 1 != o.answers {
         return false;
     }
-    numbers[args + 1] == o.answer
+    if o.answers == 0 {
+        return true;
+    }
+    if numbers[args + 1] != o.first {
+        return false;
+    }
+    if o.answers == 1 {
+        return true;
+    }
+    numbers[args + 2] == o.second
 }
 
 pub(crate) fn word(numbers: &[u64], k: usize) -> u64 {
@@ -105,29 +130,34 @@ pub(crate) fn whole(numbers: &[u64], k: usize) -> i32 {
     ranged1d::signed(low_half(word(numbers, k)))
 }
 
+pub(crate) fn real(numbers: &[u64], k: usize) -> f64 {
+    double(word(numbers, k))
+}
+
 pub(crate) fn whole_axis(numbers: &[u64]) -> RangedCoordi32 {
     RangedCoordi32(whole(numbers, 0), whole(numbers, 1))
 }
 
-fn real_axis(numbers: &[u64]) -> RangedCoordf64 {
-    RangedCoordf64(double(word(numbers, 0)), double(word(numbers, 1)))
+pub(crate) fn real_axis(numbers: &[u64]) -> RangedCoordf64 {
+    RangedCoordf64(real(numbers, 0), real(numbers, 1))
 }
 
-fn limit(numbers: &[u64]) -> Limit {
-    Limit(whole(numbers, 3), whole(numbers, 4))
+// The limits that are words p and q of the line.
+pub(crate) fn limit(numbers: &[u64], p: usize, q: usize) -> Limit {
+    Limit(whole(numbers, p), whole(numbers, q))
 }
 
 pub(crate) fn whole_map(numbers: &[u64], n: usize) -> bool
     requires { ⌜ n ≤ length (now numbers) ⌝ }
 {
-    let x = whole_axis(numbers).map(whole(numbers, 2), limit(numbers));
+    let x = whole_axis(numbers).map(whole(numbers, 2), limit(numbers, 3, 4));
     same(numbers, n, 5, of_place(x))
 }
 
 pub(crate) fn real_map(numbers: &[u64], n: usize) -> bool
     requires { ⌜ n ≤ length (now numbers) ⌝ }
 {
-    let x = real_axis(numbers).map(double(word(numbers, 2)), limit(numbers));
+    let x = real_axis(numbers).map(real(numbers, 2), limit(numbers, 3, 4));
     same(numbers, n, 5, of_place(x))
 }
 
@@ -154,13 +184,13 @@ pub(crate) fn from_index(numbers: &[u64], n: usize) -> bool
 pub(crate) fn whole_unmap(numbers: &[u64], n: usize) -> bool
     requires { ⌜ n ≤ length (now numbers) ⌝ }
 {
-    let v = whole_axis(numbers).unmap(whole(numbers, 2), limit(numbers));
+    let v = whole_axis(numbers).unmap(whole(numbers, 2), limit(numbers, 3, 4));
     same(numbers, n, 5, of_value(v))
 }
 
 pub(crate) fn real_unmap(numbers: &[u64], n: usize) -> bool
     requires { ⌜ n ≤ length (now numbers) ⌝ }
 {
-    let v = real_axis(numbers).unmap(whole(numbers, 2), limit(numbers));
+    let v = real_axis(numbers).unmap(whole(numbers, 2), limit(numbers, 3, 4));
     same(numbers, n, 5, of_reading(v))
 }

@@ -3,6 +3,8 @@ ghost use Prim.Native.Nat.{_≤_};
 ghost use lib.ListN.{length};
 use crate::bits::double;
 use crate::bits::low_half;
+use crate::calls::refused;
+use crate::calls::same;
 use float::FloatPrettyPrinter;
 use float::Label;
 
@@ -24,23 +26,17 @@ fn printed(line: &[u8], numbers: &[u64], n: usize, out: &mut [u8]) -> bool
     if n < 4 {
         return false;
     }
-    let code = numbers[3];
     let printer = FloatPrettyPrinter {
         min_decimal: low_half(numbers[2]),
         max_decimal: low_half(numbers[1]),
     };
     match printer.print(double(numbers[0]), out) {
-        Label::Refused(r) => {
-            if n != 4 {
-                return false;
-            }
-            code == r.number() as u64
-        }
+        Label::Refused(r) => same(numbers, n, 3, refused(r)),
         Label::Written(k) => {
             if n < 5 {
                 return false;
             }
-            if code != 0 {
+            if numbers[3] != 0 {
                 return false;
             }
             if out.len() < k {

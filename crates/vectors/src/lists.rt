@@ -100,7 +100,7 @@ fn same_entries(
 
 // Whether the line of n numbers, `args` of them arguments, has this and nothing after it, and the list, whose every place held `before`,
 // holds its entries and no others.
-fn same_list(
+pub(crate) fn same_list(
     numbers: &[u64],
     n: usize,
     args: usize,
@@ -159,7 +159,7 @@ fn reals(list: &[f64; 64]) -> [u64; 64] {
     words
 }
 
-fn indices(list: &[usize; 64]) -> [u64; 64] {
+pub(crate) fn indices(list: &[usize; 64]) -> [u64; 64] {
     let mut words = [0u64; 64];
     let mut k = 0;
     while k < 64 {
@@ -193,17 +193,4 @@ pub(crate) fn same_reals(
 {
     let words = reals(list);
     same_list(numbers, n, args, told, &words, pattern(REAL))
-}
-
-pub(crate) fn same_indices(
-    numbers: &[u64],
-    n: usize,
-    args: usize,
-    told: Told,
-    list: &[usize; 64],
-) -> bool
-    requires { ⌜ n ≤ length (now numbers) ⌝ }
-{
-    let words = indices(list);
-    same_list(numbers, n, args, told, &words, INDEX as u64)
 }

@@ -24,156 +24,27 @@ const DIFFERS: usize = 44;
 
 const COMMENT: usize = 45;
 
+// The place of a word among those of a text, which has one blank between two of them; where it is none of them, how many they are.
+fn position(word: &[u8], words: &[u8]) -> usize {
+    let mut at = 0;
+    let mut k = 0;
+    while at < words.len() {
+        let end = bytes::scan::find(words, at, words.len(), b' ');
+        if check::same(word, &words[at..end]) {
+            return k;
+        }
+        k += 1;
+        at = end + 1;
+    }
+    k
+}
+
+// The number of the call that a line names; DIFFERS where it names none.
 fn call_of(word: &[u8]) -> usize {
-    if check::same(word, b"whole") {
-        return 0;
-    }
-    if check::same(word, b"index") {
-        return 1;
-    }
-    if check::same(word, b"wmap") {
-        return 2;
-    }
-    if check::same(word, b"rmap") {
-        return 3;
-    }
-    if check::same(word, b"size") {
-        return 4;
-    }
-    if check::same(word, b"index_of") {
-        return 5;
-    }
-    if check::same(word, b"from_index") {
-        return 6;
-    }
-    if check::same(word, b"unmap") {
-        return 7;
-    }
-    if check::same(word, b"runmap") {
-        return 8;
-    }
-    if check::same(word, b"wsearch") {
-        return 9;
-    }
-    if check::same(word, b"rsearch") {
-        return 10;
-    }
-    step_call_of(word)
-}
-
-fn step_call_of(word: &[u8]) -> usize {
-    if check::same(word, b"wstepsize") {
-        return 11;
-    }
-    if check::same(word, b"wstepat") {
-        return 12;
-    }
-    if check::same(word, b"wstepidx") {
-        return 13;
-    }
-    if check::same(word, b"wstepmap") {
-        return 14;
-    }
-    if check::same(word, b"wstepread") {
-        return 15;
-    }
-    if check::same(word, b"rstepsize") {
-        return 16;
-    }
-    if check::same(word, b"rstepat") {
-        return 17;
-    }
-    if check::same(word, b"rstepidx") {
-        return 18;
-    }
-    if check::same(word, b"rstepmap") {
-        return 19;
-    }
-    if check::same(word, b"rstepread") {
-        return 20;
-    }
-    segment_call_of(word)
-}
-
-fn segment_call_of(word: &[u8]) -> usize {
-    if check::same(word, b"segsize") {
-        return 21;
-    }
-    if check::same(word, b"segat") {
-        return 22;
-    }
-    if check::same(word, b"segidx") {
-        return 23;
-    }
-    if check::same(word, b"segmap") {
-        return 24;
-    }
-    if check::same(word, b"segread") {
-        return 25;
-    }
-    step_segment_call_of(word)
-}
-
-fn step_segment_call_of(word: &[u8]) -> usize {
-    if check::same(word, b"wsegsize") {
-        return 26;
-    }
-    if check::same(word, b"wsegat") {
-        return 27;
-    }
-    if check::same(word, b"wsegidx") {
-        return 28;
-    }
-    if check::same(word, b"wsegmap") {
-        return 29;
-    }
-    if check::same(word, b"wsegread") {
-        return 30;
-    }
-    if check::same(word, b"rsegsize") {
-        return 31;
-    }
-    if check::same(word, b"rsegat") {
-        return 32;
-    }
-    if check::same(word, b"rsegidx") {
-        return 33;
-    }
-    if check::same(word, b"rsegmap") {
-        return 34;
-    }
-    if check::same(word, b"rsegread") {
-        return 35;
-    }
-    list_call_of(word)
-}
-
-fn list_call_of(word: &[u8]) -> usize {
-    if check::same(word, b"wsteplist") {
-        return 36;
-    }
-    if check::same(word, b"wstepmarks") {
-        return 37;
-    }
-    if check::same(word, b"rsteplist") {
-        return 38;
-    }
-    if check::same(word, b"rstepmarks") {
-        return 39;
-    }
-    if check::same(word, b"segmarks") {
-        return 40;
-    }
-    if check::same(word, b"wsegmarks") {
-        return 41;
-    }
-    if check::same(word, b"rsegmarks") {
-        return 42;
-    }
-    if check::same(word, b"label") {
-        return LABEL;
-    }
-    DIFFERS
+    position(
+        word,
+        b"whole index wmap rmap size index_of from_index unmap runmap wsearch rsearch wstepsize wstepat wstepidx wstepmap wstepread rstepsize rstepat rstepidx rstepmap rstepread segsize segat segidx segmap segread wsegsize wsegat wsegidx wsegmap wsegread rsegsize rsegat rsegidx rsegmap rsegread wsteplist wstepmarks rsteplist rstepmarks segmarks wsegmarks rsegmarks label",
+    )
 }
 
 // Whether the call answers as the line of n numbers has it.
@@ -285,7 +156,7 @@ fn count(totals: &mut [u32], which: usize) {
     if totals.len() <= which {
         return;
     }
-    if totals[which] < 4294967295 {
+    if totals[which] < u32::MAX {
         totals[which] += 1;
     }
 }

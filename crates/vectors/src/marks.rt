@@ -6,9 +6,10 @@ use crate::calls::whole_axis;
 use crate::calls::word;
 use crate::lists::INDEX;
 use crate::lists::WHOLE;
+use crate::lists::indices;
 use crate::lists::of_index_marks;
 use crate::lists::of_marks;
-use crate::lists::same_indices;
+use crate::lists::same_list;
 use crate::lists::same_wholes;
 use numeric::RangedCoordusize;
 
@@ -28,5 +29,6 @@ pub(crate) fn index(numbers: &[u64], n: usize) -> bool
     let axis = RangedCoordusize(word(numbers, 0) as usize, word(numbers, 1) as usize);
     let mut list = [INDEX; 64];
     let told = axis.key_points(m, &mut list);
-    same_indices(numbers, n, 3, of_index_marks(told), &list)
+    let words = indices(&list);
+    same_list(numbers, n, 3, of_index_marks(told), &words, INDEX as u64)
 }

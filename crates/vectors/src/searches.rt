@@ -1,8 +1,8 @@
 // Lines on searches of a list: the number of entries, the entries, the target, the method, and what is returned.
 ghost use Prim.Native.Nat.{_≤_};
 ghost use lib.ListN.{length};
-use crate::bits::double;
 use crate::calls::of_index;
+use crate::calls::real;
 use crate::calls::same;
 use crate::calls::whole;
 use crate::calls::word;
@@ -33,7 +33,7 @@ fn fill_wholes(numbers: &[u64], list: &mut [i32]) {
 fn fill_reals(numbers: &[u64], list: &mut [f64]) {
     let mut k = 0;
     while k < list.len() {
-        list[k] = double(word(numbers, k + 1));
+        list[k] = real(numbers, k + 1);
         k += 1;
     }
 }
@@ -62,7 +62,7 @@ pub(crate) fn real_search(numbers: &[u64], n: usize) -> bool
     }
     let mut list = [0.0; 64];
     fill_reals(numbers, &mut list);
-    let target = double(word(numbers, size + 1));
+    let target = real(numbers, size + 1);
     let by = method(word(numbers, size + 2));
     let found = search::search_real(&list[0..size], target, by);
     same(numbers, n, size + 3, of_index(found))

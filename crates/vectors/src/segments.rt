@@ -3,12 +3,17 @@
 ghost use Prim.Native.Nat.{_≤_};
 ghost use lib.ListN.{length};
 use crate::bits::bits;
-use crate::bits::double;
 use crate::bits::low_half;
 use crate::bits::pattern;
+use crate::calls::Outcome;
+use crate::calls::answered_two;
+use crate::calls::limit;
+use crate::calls::nothing;
 use crate::calls::of_count;
 use crate::calls::of_index;
 use crate::calls::of_place;
+use crate::calls::real;
+use crate::calls::refused;
 use crate::calls::same;
 use crate::calls::whole;
 use crate::calls::whole_axis;
@@ -22,8 +27,6 @@ use crate::lists::same_wholes;
 use crate::searches::method;
 use crate::steps::real_steps;
 use crate::steps::whole_steps;
-use ranged1d::Limit;
-use ranged1d::Refusal;
 use segmented::SegmentValuef64;
 use segmented::SegmentValuei32;
 use segmented::SegmentedCoordi32;
@@ -32,47 +35,15 @@ use segmented::SegmentedLinspacei32;
 use segmented::Segmentf64;
 use segmented::Segmenti32;
 
-// What a call gave: the code, and after 0 the kind and the number of the value.
-pub struct Found {
-    pub code: u64,
-    pub kind: u64,
-    pub number: u64,
-}
-
-fn answered(kind: u64, number: u64) -> Found {
-    Found {
-        code: 0,
-        kind,
-        number,
-    }
-}
-
-// -1 in two's complement
-fn nothing() -> Found {
-    Found {
-        code: 18446744073709551615,
-        kind: 0,
-        number: 0,
-    }
-}
-
-fn refused(r: Refusal) -> Found {
-    Found {
-        code: r.number() as u64,
-        kind: 0,
-        number: 0,
-    }
-}
-
-fn of_whole(s: SegmentValuei32) -> Found {
+fn of_whole(s: SegmentValuei32) -> Outcome {
     match s {
-        SegmentValuei32::Exact(v) => answered(0, bits(v)),
-        SegmentValuei32::CenterOf(v) => answered(1, bits(v)),
-        SegmentValuei32::Last => answered(2, 0),
+        SegmentValuei32::Exact(v) => answered_two(0, bits(v)),
+        SegmentValuei32::CenterOf(v) => answered_two(1, bits(v)),
+        SegmentValuei32::Last => answered_two(2, 0),
     }
 }
 
-fn of_segment(x: Segmenti32) -> Found {
+fn of_segment(x: Segmenti32) -> Outcome {
     match x {
         Segmenti32::At(s) => of_whole(s),
         Segmenti32::Nothing => nothing(),
@@ -80,42 +51,20 @@ fn of_segment(x: Segmenti32) -> Found {
     }
 }
 
-fn of_real(s: SegmentValuef64) -> Found {
+fn of_real(s: SegmentValuef64) -> Outcome {
     match s {
-        SegmentValuef64::Exact(v) => answered(0, pattern(v)),
-        SegmentValuef64::CenterOf(v) => answered(1, pattern(v)),
-        SegmentValuef64::Last => answered(2, 0),
+        SegmentValuef64::Exact(v) => answered_two(0, pattern(v)),
+        SegmentValuef64::CenterOf(v) => answered_two(1, pattern(v)),
+        SegmentValuef64::Last => answered_two(2, 0),
     }
 }
 
-fn of_real_segment(x: Segmentf64) -> Found {
+fn of_real_segment(x: Segmentf64) -> Outcome {
     match x {
         Segmentf64::At(s) => of_real(s),
         Segmentf64::Nothing => nothing(),
         Segmentf64::Refused(r) => refused(r),
     }
-}
-
-// Whether the line of n numbers, `args` of them arguments, has this and nothing after it.
-fn same_value(numbers: &[u64], n: usize, args: usize, f: Found) -> bool
-    requires { ⌜ n ≤ length (now numbers) ⌝ }
-{
-    if n <= args {
-        return false;
-    }
-    if numbers[args] != f.code {
-        return false;
-    }
-    if f.code != 0 {
-        return n == args + 1;
-    }
-    if n != args + 3 {
-        return false;
-    }
-    if numbers[args + 1] != f.kind {
-        return false;
-    }
-    numbers[args + 2] == f.number
 }
 
 // 0 Exact, 1 CenterOf, 2 Last; the lines have no other.
@@ -153,7 +102,7 @@ pub(crate) fn from_index(numbers: &[u64], n: usize) -> bool
     requires { ⌜ n ≤ length (now numbers) ⌝ }
 {
     let v = plain_segments(numbers).from_index(word(numbers, 2));
-    same_value(numbers, n, 3, of_segment(v))
+    same(numbers, n, 3, of_segment(v))
 }
 
 pub(crate) fn index_of(numbers: &[u64], n: usize) -> bool
@@ -168,17 +117,15 @@ pub(crate) fn map(numbers: &[u64], n: usize) -> bool
     requires { ⌜ n ≤ length (now numbers) ⌝ }
 {
     let value = whole_value(word(numbers, 2), whole(numbers, 3));
-    let limit = Limit(whole(numbers, 4), whole(numbers, 5));
-    let x = plain_segments(numbers).map(value, limit);
+    let x = plain_segments(numbers).map(value, limit(numbers, 4, 5));
     same(numbers, n, 6, of_place(x))
 }
 
 pub(crate) fn unmap(numbers: &[u64], n: usize) -> bool
     requires { ⌜ n ≤ length (now numbers) ⌝ }
 {
-    let limit = Limit(whole(numbers, 3), whole(numbers, 4));
-    let v = plain_segments(numbers).unmap(whole(numbers, 2), limit);
-    same_value(numbers, n, 5, of_segment(v))
+    let v = plain_segments(numbers).unmap(whole(numbers, 2), limit(numbers, 3, 4));
+    same(numbers, n, 5, of_segment(v))
 }
 
 pub(crate) fn key_points(numbers: &[u64], n: usize) -> bool
@@ -208,7 +155,7 @@ pub(crate) fn whole_from_index(numbers: &[u64], n: usize) -> bool
     requires { ⌜ n ≤ length (now numbers) ⌝ }
 {
     let v = whole_segments(numbers).from_index(word(numbers, 3));
-    same_value(numbers, n, 4, of_segment(v))
+    same(numbers, n, 4, of_segment(v))
 }
 
 pub(crate) fn whole_index_of(numbers: &[u64], n: usize) -> bool
@@ -225,17 +172,15 @@ pub(crate) fn whole_map(numbers: &[u64], n: usize) -> bool
 {
     let by = method(word(numbers, 3));
     let value = whole_value(word(numbers, 4), whole(numbers, 5));
-    let limit = Limit(whole(numbers, 6), whole(numbers, 7));
-    let x = whole_segments(numbers).map(by, value, limit);
+    let x = whole_segments(numbers).map(by, value, limit(numbers, 6, 7));
     same(numbers, n, 8, of_place(x))
 }
 
 pub(crate) fn whole_unmap(numbers: &[u64], n: usize) -> bool
     requires { ⌜ n ≤ length (now numbers) ⌝ }
 {
-    let limit = Limit(whole(numbers, 4), whole(numbers, 5));
-    let v = whole_segments(numbers).unmap(whole(numbers, 3), limit);
-    same_value(numbers, n, 6, of_segment(v))
+    let v = whole_segments(numbers).unmap(whole(numbers, 3), limit(numbers, 4, 5));
+    same(numbers, n, 6, of_segment(v))
 }
 
 pub(crate) fn whole_key_points(numbers: &[u64], n: usize) -> bool
@@ -265,14 +210,14 @@ pub(crate) fn real_from_index(numbers: &[u64], n: usize) -> bool
     requires { ⌜ n ≤ length (now numbers) ⌝ }
 {
     let v = real_segments(numbers).from_index(word(numbers, 3));
-    same_value(numbers, n, 4, of_real_segment(v))
+    same(numbers, n, 4, of_real_segment(v))
 }
 
 pub(crate) fn real_index_of(numbers: &[u64], n: usize) -> bool
     requires { ⌜ n ≤ length (now numbers) ⌝ }
 {
     let by = method(word(numbers, 3));
-    let value = real_value(word(numbers, 4), double(word(numbers, 5)));
+    let value = real_value(word(numbers, 4), real(numbers, 5));
     let k = real_segments(numbers).index_of(by, value);
     same(numbers, n, 6, of_index(k))
 }
@@ -281,18 +226,16 @@ pub(crate) fn real_map(numbers: &[u64], n: usize) -> bool
     requires { ⌜ n ≤ length (now numbers) ⌝ }
 {
     let by = method(word(numbers, 3));
-    let value = real_value(word(numbers, 4), double(word(numbers, 5)));
-    let limit = Limit(whole(numbers, 6), whole(numbers, 7));
-    let x = real_segments(numbers).map(by, value, limit);
+    let value = real_value(word(numbers, 4), real(numbers, 5));
+    let x = real_segments(numbers).map(by, value, limit(numbers, 6, 7));
     same(numbers, n, 8, of_place(x))
 }
 
 pub(crate) fn real_unmap(numbers: &[u64], n: usize) -> bool
     requires { ⌜ n ≤ length (now numbers) ⌝ }
 {
-    let limit = Limit(whole(numbers, 4), whole(numbers, 5));
-    let v = real_segments(numbers).unmap(whole(numbers, 3), limit);
-    same_value(numbers, n, 6, of_real_segment(v))
+    let v = real_segments(numbers).unmap(whole(numbers, 3), limit(numbers, 4, 5));
+    same(numbers, n, 6, of_real_segment(v))
 }
 
 pub(crate) fn real_key_points(numbers: &[u64], n: usize) -> bool

@@ -1,15 +1,18 @@
 // Lines on stepped axes: the ends and the step, what the call takes besides, and what is returned.
 ghost use Prim.Native.Nat.{_≤_};
 ghost use lib.ListN.{length};
-use crate::bits::double;
 use crate::bits::low_half;
+use crate::calls::limit;
 use crate::calls::of_count;
 use crate::calls::of_index;
 use crate::calls::of_place;
 use crate::calls::of_reading;
 use crate::calls::of_value;
+use crate::calls::real;
+use crate::calls::real_axis;
 use crate::calls::same;
 use crate::calls::whole;
+use crate::calls::whole_axis;
 use crate::calls::word;
 use crate::lists::REAL;
 use crate::lists::WHOLE;
@@ -19,17 +22,10 @@ use crate::lists::same_wholes;
 use crate::searches::method;
 use linspace::Linspacef64;
 use linspace::Linspacei32;
-use numeric::RangedCoordf64;
-use numeric::RangedCoordi32;
-use ranged1d::Limit;
-
-fn limit(numbers: &[u64]) -> Limit {
-    Limit(whole(numbers, 4), whole(numbers, 5))
-}
 
 pub(crate) fn whole_steps(numbers: &[u64]) -> Linspacei32 {
     Linspacei32 {
-        inner: RangedCoordi32(whole(numbers, 0), whole(numbers, 1)),
+        inner: whole_axis(numbers),
         step: whole(numbers, 2),
     }
 }
@@ -58,14 +54,14 @@ pub(crate) fn whole_index_of(numbers: &[u64], n: usize) -> bool
 pub(crate) fn whole_map(numbers: &[u64], n: usize) -> bool
     requires { ⌜ n ≤ length (now numbers) ⌝ }
 {
-    let x = whole_steps(numbers).map(whole(numbers, 3), limit(numbers));
+    let x = whole_steps(numbers).map(whole(numbers, 3), limit(numbers, 4, 5));
     same(numbers, n, 6, of_place(x))
 }
 
 pub(crate) fn whole_unmap(numbers: &[u64], n: usize) -> bool
     requires { ⌜ n ≤ length (now numbers) ⌝ }
 {
-    let v = whole_steps(numbers).unmap(whole(numbers, 3), limit(numbers));
+    let v = whole_steps(numbers).unmap(whole(numbers, 3), limit(numbers, 4, 5));
     same(numbers, n, 6, of_value(v))
 }
 
@@ -96,8 +92,8 @@ pub(crate) fn whole_key_points(numbers: &[u64], n: usize) -> bool
 
 pub(crate) fn real_steps(numbers: &[u64]) -> Linspacef64 {
     Linspacef64 {
-        inner: RangedCoordf64(double(word(numbers, 0)), double(word(numbers, 1))),
-        step: double(word(numbers, 2)),
+        inner: real_axis(numbers),
+        step: real(numbers, 2),
     }
 }
 
@@ -118,21 +114,21 @@ pub(crate) fn real_index_of(numbers: &[u64], n: usize) -> bool
     requires { ⌜ n ≤ length (now numbers) ⌝ }
 {
     let by = method(word(numbers, 4));
-    let k = real_steps(numbers).index_of(double(word(numbers, 3)), by);
+    let k = real_steps(numbers).index_of(real(numbers, 3), by);
     same(numbers, n, 5, of_index(k))
 }
 
 pub(crate) fn real_map(numbers: &[u64], n: usize) -> bool
     requires { ⌜ n ≤ length (now numbers) ⌝ }
 {
-    let x = real_steps(numbers).map(double(word(numbers, 3)), limit(numbers));
+    let x = real_steps(numbers).map(real(numbers, 3), limit(numbers, 4, 5));
     same(numbers, n, 6, of_place(x))
 }
 
 pub(crate) fn real_unmap(numbers: &[u64], n: usize) -> bool
     requires { ⌜ n ≤ length (now numbers) ⌝ }
 {
-    let v = real_steps(numbers).unmap(whole(numbers, 3), limit(numbers));
+    let v = real_steps(numbers).unmap(whole(numbers, 3), limit(numbers, 4, 5));
     same(numbers, n, 6, of_reading(v))
 }
 

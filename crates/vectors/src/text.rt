@@ -12,7 +12,7 @@ fn push(v: u64, digit: u8) -> u64
     requires { ⌜ digit < 10 ⌝ }
 {
     let d = digit as u64;
-    if v <= (18446744073709551615 - d) / 10 {
+    if v <= (u64::MAX - d) / 10 {
         return v * 10 + d;
     }
     v

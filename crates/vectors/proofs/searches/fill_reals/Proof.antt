@@ -15,14 +15,11 @@ abbrev μ-loop : tie.MeasureT-loop
 loop-holds : tie.Need-loop-holds Inv-loop μ-loop
 loop-holds c = search needs
 
-add-word : tie.Need-add-word Inv-loop μ-loop
-add-word c = search needs
+add-real : tie.Need-add-real Inv-loop μ-loop
+add-real c = search needs
 
-word-requires : tie.Need-word-requires Inv-loop μ-loop
-word-requires c κs = search needs
-
-double-requires : tie.Need-double-requires Inv-loop μ-loop
-double-requires c κs = search needs
+real-requires : tie.Need-real-requires Inv-loop μ-loop
+real-requires c κs = search needs
 
 mul-list : tie.Need-mul-list Inv-loop μ-loop
 mul-list c = search needs
@@ -52,9 +49,8 @@ fill-reals-spec =
     Inv-loop
     μ-loop
     loop-holds
-    add-word
-    word-requires
-    double-requires
+    add-real
+    real-requires
     mul-list
     slice-write-list
     add-k
