@@ -98,10 +98,11 @@ isRuler l = hasRuler (aIn l) (bIn l) (limitIn l) (mIn l) && sameBytes l (rulerBy
 abbrev pub marksIn : List ℕ → List ℤ
 marksIn l = marks (aIn l) (bIn l) (mIn l)
 
--- `read`: those numbers, the step and the number of marks; 14 where the bytes are no ruler
+-- a ruler by its numbers
 abbrev pub rulerOf : ℤ → ℤ → Limit → ℕ → ℤ → ℕ → Ruler
 rulerOf a b limit m s n = record { a = a; b = b; p = limit .0; q = limit .1; m = m; step = s; marks = n }
 
+-- `read`: those numbers, the step and the number of marks; 14 where the bytes are no ruler
 unfoldable pub rulerRead : List ℕ → Answer Ruler
 rulerRead l =
     lowest (14 when not (isRuler l) ∷ [])
