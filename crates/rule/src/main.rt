@@ -3,8 +3,6 @@
 mod input;
 mod output;
 
-ghost use Prim.Native.Nat.{_≤_};
-ghost use lib.ListN.{length};
 use libc::STDIN_FILENO;
 use line::Line;
 use line::Request;

@@ -1,10 +1,8 @@
 // Lines are gathered and written in large parts. Each call takes how much of out is used, and returns it.
-ghost use Prim.Native.Nat.{_≤_};
-ghost use lib.ListN.{length};
 use libc::STDOUT_FILENO;
 
 // Stands for how much is used once a write has failed: more than any buffer has. Nothing is written from then on.
-const FAILED: usize = 18446744073709551615;
+const FAILED: usize = usize::MAX;
 
 // Writes what is used of out; whether that was done.
 pub(crate) fn send(out: &[u8], used: usize) -> bool {

@@ -71,7 +71,7 @@ fn bits(z: i32) -> u32
     ensures { λ r. ⌜ r ≡ ofZ w32 z ⌝ }
 {
     let n = ranged1d::unsigned_abs(z);
-    if z < 0 { 4294967295 - (n - 1) } else { n }
+    if z < 0 { u32::MAX - (n - 1) } else { n }
 }
 
 // Six numbers, the lowest byte of each first.
