@@ -10,7 +10,8 @@ use lib.ListN.{length, take, drop, take-append-drop}
 use lib.Seq.{take-at, drop-at}
 use borrow.Author.Tests.{lt-ltb, le-ltb}
 use Rattle.ruler.proofs.Places.{ends, film, served}
-use Rattle.ranged1d.specs.Answer.{Answer, given, none, refused, _when_, lowest, written}
+use Rattle.ranged1d.specs.Answer.{Answer, given, none, refused, _when_, lowest, written, andThen}
+use Rattle.ranged1d.proofs.Lowest.{lowest-then}
 use Rattle.ranged1d.specs.Admitted.{wholeAdmitted, limitAdmitted}
 use Rattle.ranged1d.specs.declared.Limit.{Limit}
 use Rattle.numeric.specs.declared.KeyPoints.{KeyPoints}
@@ -59,29 +60,21 @@ module _ (a b : ℤ) (limit : Limit) (m : ℕ) where
       go false e u f v g = rw e
 
   -- the writer's rule, by the plan
-  byPlan : List ℕ → Answer KeyPoints → Answer (ℕ × ℕ) × List ℕ
-  byPlan old (given p) = written (lowest (13 when ltb (length old) (length (rulerBytes a b limit m)) ∷ []) (given (length (rulerBytes a b limit m), p .count))) (rulerBytes a b limit m) old
-  byPlan old none = (none, old)
-  byPlan old (refused n) = (refused n, old)
+  abbrev byPlan : List ℕ → Answer KeyPoints → Answer (ℕ × ℕ) × List ℕ
+  byPlan old r = written (andThen r (λ p. lowest (13 when ltb (length old) (length (rulerBytes a b limit m)) ∷ []) (given (length (rulerBytes a b limit m), p .count)))) (rulerBytes a b limit m) old
 
-  by-plan : (old : List ℕ) → rulerWrite a b limit m old ≡ byPlan old (rulerPlan a b limit m)
-  unfolding rulerWrite rulerPlan byPlan
-  by-plan old = go (not (wholeAdmitted a && wholeAdmitted b)) (not (limitAdmitted limit)) (noStep a b m)
-    where
-      go : (t u v : Bool) → written (lowest (1 when t ∷ 2 when u ∷ 3 when v ∷ 13 when ltb (length old) (length (rulerBytes a b limit m)) ∷ []) (given (length (rulerBytes a b limit m), length (marks a b m)))) (rulerBytes a b limit m) old
-          ≡ byPlan old (lowest (1 when t ∷ 2 when u ∷ 3 when v ∷ []) (given (planOf a b m)))
-      go true u v = refl
-      go false true v = refl
-      go false false true = refl
-      go false false false = refl
+  by-plan : (old : List ℕ) {r : Answer KeyPoints} → rulerPlan a b limit m ≡ r → rulerWrite a b limit m old ≡ byPlan old r
+  unfolding rulerWrite rulerPlan
+  by-plan old e =
+      ap (λ (r : Answer (ℕ × ℕ)). written r (rulerBytes a b limit m) old)
+      (sym (lowest-then (1 when not (wholeAdmitted a && wholeAdmitted b) ∷ 2 when not (limitAdmitted limit) ∷ 3 when noStep a b m ∷ []) (given (planOf a b m)) (λ p. lowest (13 when ltb (length old) (length (rulerBytes a b limit m)) ∷ []) (given (length (rulerBytes a b limit m), p .count)))))
+      ∙ ap (byPlan old) e
 
   pub write-refused : (old : List ℕ) {n : ℕ} → rulerPlan a b limit m ≡ refused n → rulerWrite a b limit m old ≡ (refused n, old)
-  unfolding byPlan
-  write-refused old e = by-plan old ∙ ap (byPlan old) e
+  write-refused old e = by-plan old e
 
   pub write-none : (old : List ℕ) → rulerPlan a b limit m ≡ none → rulerWrite a b limit m old ≡ (none, old)
-  unfolding byPlan
-  write-none old e = by-plan old ∙ ap (byPlan old) e
+  write-none old e = by-plan old e
 
   pub none-drawn : {n : ℕ} → rulerPlan a b limit m ≡ refused n → hasRuler a b limit m ≡ false
   unfolding DrawnBy
@@ -116,12 +109,10 @@ module _ (a b : ℤ) (limit : Limit) (m : ℕ) where
     marks-long = ap (λ (q : KeyPoints). q .count) (is-drawn .good .plan)
 
     pub write-short : (old : List ℕ) → length old < 25 + 20 * p .count → rulerWrite a b limit m old ≡ (refused 13, old)
-    unfolding byPlan
-    write-short old h = by-plan old ∙ ap (byPlan old) e ∙ rw (ruler-long, lt-ltb (length old) (25 + 20 * p .count) h)
+    write-short old h = by-plan old e ∙ rw (ruler-long, lt-ltb (length old) (25 + 20 * p .count) h)
 
     pub write-fits : (old : List ℕ) → 25 + 20 * p .count ≤ length old → rulerWrite a b limit m old ≡ (given (25 + 20 * p .count, p .count), rulerBytes a b limit m ++ drop (25 + 20 * p .count) old)
-    unfolding byPlan
-    write-fits old h = by-plan old ∙ ap (byPlan old) e ∙ rw (ruler-long, le-ltb (length old) (25 + 20 * p .count) h, ruler-long)
+    write-fits old h = by-plan old e ∙ rw (ruler-long, le-ltb (length old) (25 + 20 * p .count) h, ruler-long)
 
     -- the first 25 bytes and the others
     pub ruler-head : take 25 (rulerBytes a b limit m) ≡ axisRecord

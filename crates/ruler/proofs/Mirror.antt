@@ -11,7 +11,7 @@ use lib.ListN.{length, length-append}
 use lib.Signed.{_<ℤ_}
 use borrow.Author.Tests.{eqb-true, eqb-false}
 use Rattle.ruler.proofs.Places.{served}
-use Rattle.ranged1d.specs.Answer.{Answer, given, none, refused, _when_, lowest, BothLong}
+use Rattle.ranged1d.specs.Answer.{Answer, given, none, refused, Reason, _when_, lowest, BothLong}
 use Rattle.ranged1d.specs.Admitted.{wholeAdmitted, limitAdmitted}
 use Rattle.ranged1d.specs.declared.Limit.{Limit}
 use Rattle.ranged1d.proofs.Whole.{admitted-neg}
@@ -25,7 +25,7 @@ use Rattle.real.proofs.Readings.{limit-neg}
 use Rattle.ruler.specs.Bytes.{Record, axis, mark, laid, joined}
 use Rattle.ruler.specs.Place.{placeIn, placeOf}
 use Rattle.ruler.specs.Rule.{markAt, recordsOf, rulerBytes, rulerWrite, hasRuler}
-use Rattle.ruler.specs.Mirror.{negated, turned, Verdict, verdict, accepted, stopped, OneMore, Mirrored}
+use Rattle.ruler.specs.Mirror.{negated, turned, verdict, OneMore, Mirrored}
 use Rattle.ruler.proofs.Records.{axis-long, records-long}
 use Rattle.ruler.proofs.Drawn.{has-plan, ruler-long}
 
@@ -81,6 +81,15 @@ records-back a b limit m z e =
     (rw (negℤ-negℤ a, negℤ-negℤ b, negℤ-negℤ (limit .0), negℤ-negℤ (limit .1)) at (records-more (negℤ a) (negℤ b) (film.mirrored limit) m z back))
 
 -- ---- refusals
+-- a verdict does not see the numbers of an answer
+verdict-of : {A B : Type 0} (x : A) (y : B) (rs : List Reason) → verdict (lowest rs (given x)) ≡ verdict (lowest rs (given y))
+verdict-of x y [] = refl
+verdict-of x y (r ∷ rs) = go (r .applies) (verdict-of x y rs)
+  where
+    go : (t : Bool) → verdict (lowest rs (given x)) ≡ verdict (lowest rs (given y)) → verdict (cond t (refused (r .number)) (lowest rs (given x))) ≡ verdict (cond t (refused (r .number)) (lowest rs (given y)))
+    go true e = refl
+    go false e = e
+
 module _ (a b : ℤ) (limit : Limit) (m : ℕ) where
   abbrev −limit : Limit
   −limit = film.mirrored limit
@@ -92,24 +101,11 @@ module _ (a b : ℤ) (limit : Limit) (m : ℕ) where
   unfolding hasRuler
   ruler-same = ap₂ (λ (x y : Bool). x && y) ends-same (ap₂ (λ (x y : Bool). x && not y) (limit-neg limit) (marks.mirror a b m .same-refusal))
 
-  by : Bool → Bool → Bool → Bool → Verdict
-  by t u v w = cond t (stopped 1) (cond u (stopped 2) (cond v (stopped 3) (cond w (stopped 13) accepted)))
-
-  by-tests : (t u v w : Bool) (n k : ℕ) → verdict {A = ℕ × ℕ} (lowest (1 when t ∷ 2 when u ∷ 3 when v ∷ 13 when w ∷ []) (given (n, k))) ≡ by t u v w
-  unfolding by
-  by-tests true u v w n k = refl
-  by-tests false true v w n k = refl
-  by-tests false false true w n k = refl
-  by-tests false false false true n k = refl
-  by-tests false false false false n k = refl
-
   verdict-same : (old old′ : List ℕ) → BothLong (length (rulerBytes a b limit m)) old (length (rulerBytes (negℤ a) (negℤ b) −limit m)) old′ → verdict (rulerWrite (negℤ a) (negℤ b) −limit m old′ .0) ≡ verdict (rulerWrite a b limit m old .0)
   unfolding rulerWrite
   verdict-same old old′ e =
-      by-tests (not (wholeAdmitted (negℤ a) && wholeAdmitted (negℤ b))) (not (limitAdmitted −limit)) (noStep (negℤ a) (negℤ b) m) (ltb (length old′) (length (rulerBytes (negℤ a) (negℤ b) −limit m))) _ _
-      ∙ ap₂ (λ (x y : Bool). by (not x) (not y) (noStep (negℤ a) (negℤ b) m) (ltb (length old′) (length (rulerBytes (negℤ a) (negℤ b) −limit m)))) ends-same (limit-neg limit)
-      ∙ ap₂ (λ (x y : Bool). by (not (wholeAdmitted a && wholeAdmitted b)) (not (limitAdmitted limit)) x y) (marks.mirror a b m .same-refusal) (sym e)
-      ∙ sym (by-tests (not (wholeAdmitted a && wholeAdmitted b)) (not (limitAdmitted limit)) (noStep a b m) (ltb (length old) (length (rulerBytes a b limit m))) _ _)
+      rw (ends-same, limit-neg limit, marks.mirror a b m .same-refusal, ← e)
+      (verdict-of _ _ (1 when not (wholeAdmitted a && wholeAdmitted b) ∷ 2 when not (limitAdmitted limit) ∷ 3 when noStep a b m ∷ 13 when ltb (length old) (length (rulerBytes a b limit m)) ∷ []))
 
   -- ---- where there is a ruler
   module _ (h : hasRuler a b limit m ≡ true) where
