@@ -14,6 +14,7 @@ use lib.ListN.{length}
 use lib.Signed.{leZ}
 use Rattle.ranged1d.specs.Answer.{Answer, given, none, refused, _when_, lowest}
 use Rattle.ranged1d.specs.Admitted.{wholeAdmitted}
+use Rattle.ranged1d.proofs.Bools.{cond-same}
 use Rattle.ranged1d.proofs.Whole.{minus-far, some-size, no-difference}
 use Rattle.numeric.specs.Marks.{low, high, distance, stepAt, ceilDiv, serves, chosen, noStepFor, noStep, stepOf, marks}
 use Rattle.numeric.specs.Calls.{wholeKeyPoints}
@@ -76,11 +77,7 @@ module _ (d m : ℕ) where
 
 -- equal ends have no distance between them, and others have one
 zero-apart : (a : ℤ) → distance (low a a) (high a a) ≡ 0
-zero-apart a = go (leZ a a)
-  where
-    go : (t : Bool) → distance (cond t a a) (cond t a a) ≡ 0
-    go true = ap natAbs (+ℤ-invr a)
-    go false = ap natAbs (+ℤ-invr a)
+zero-apart a = rw (cond-same (leZ a a) {x = a} {y = a} refl) (ap natAbs (+ℤ-invr a))
 
 pub differ : (a b : ℤ) → (a ≡ b → ⊥) → 0 < distance (low a b) (high a b)
 differ a b f = go (leZ a b)

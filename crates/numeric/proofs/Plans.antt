@@ -1,6 +1,6 @@
 -- A plan of an axis: the list that `key_points` writes is read off it, and every number on the way fits. Assumes nothing.
 use mathlib.Core.Path.{_≡_, refl, sym, ap, _∙_, subst}
-use mathlib.Core.Bool.{Bool, true, false, cond, not, _&&_}
+use mathlib.Core.Bool.{Bool, cond, not, _&&_}
 use mathlib.Core.List.{List, [], _∷_, _++_, map}
 use Prim.Native.Nat.{ℕ, suc, _+_, _*_, _≤_, _<_}
 use native.Mathlib.Omega.{arith}
@@ -113,11 +113,7 @@ module _ (a b : ℤ) (m : ℕ) (old : List ℤ) where
 
 -- On an index axis: a plan of its ends as whole numbers has nothing below zero.
 pub low-pos : (a b : ℕ) → pos (natAbs (low (pos a) (pos b))) ≡ low (pos a) (pos b)
-low-pos a b = go (leb a b)
-  where
-    go : (t : Bool) → pos (natAbs (cond t (pos a) (pos b))) ≡ cond t (pos a) (pos b)
-    go true = refl
-    go false = refl
+low-pos a b = tests.chosen (λ (z : ℤ). pos (natAbs z) ≡ z) (leb a b) refl refl
 
 first-pos : (z : ℤ) (s : ℕ) → pos (natAbs z) ≡ z → pos (natAbs (firstIndex z s *ℤ pos s)) ≡ firstIndex z s *ℤ pos s
 first-pos (pos n) s e = refl

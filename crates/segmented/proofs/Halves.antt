@@ -17,6 +17,7 @@ use Rattle.rounding.specs.Integral.{halves}
 use Rattle.rounding.specs.Within.{wholeOf, AtMost}
 use Rattle.rounding.proofs.Small.{Plus}
 use Rattle.real.proofs.Sizes.{div-round, plus-div, small-quotient}
+use Rattle.segmented.specs.Axes.{mostValues}
 use Rattle.segmented.specs.Segments.{shared}
 use Rattle.segmented.proofs.Margin.{quotient, int-plus, no-share}
 
@@ -68,7 +69,7 @@ small-finite : (C : ℕ) (x : Float) → AtMost C x → T (finite x)
 small-finite C (fin s m e) h = tt
 
 -- ---- l ÷ n
-module _ (n : ℕ) (some : 1 ≤ n) (few : n ≤ 16777216) where
+module _ (n : ℕ) (some : 1 ≤ n) (few : n ≤ mostValues) where
   rounds : (k : ℕ) → k ≤ 16777216 → quotient n (pos k) ≡ round binary32 false k n
   rounds k h = div-round binary32 (ofInt binary32 (pos k)) (ofInt binary32 (pos n)) false false k n some (int-plus k h) (int-plus n few)
 

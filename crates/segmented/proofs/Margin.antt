@@ -28,6 +28,7 @@ use Rattle.real.proofs.Readings.{length-neg}
 use Rattle.real.proofs.Signs.{unlike-one, zeroOf, zero-one, round-zero, int-neg}
 use Rattle.rounding.proofs.Small.{Plus}
 use Rattle.real.proofs.Sizes.{plus-div, small-quotient}
+use Rattle.segmented.specs.Axes.{mostValues}
 use Rattle.segmented.specs.Segments.{half, shared, margin, narrowed}
 
 -- l ÷ n in f32, and its nearest whole number
@@ -118,7 +119,7 @@ pub int-plus : (k : ℕ) → k ≤ 16777216 → HasValue (ofInt binary32 (pos k)
 unfolding ofInt
 int-plus k h = round-whole binary32 false k h
 
-module _ (n : ℕ) (some : 1 ≤ n) (few : n ≤ 16777216) where
+module _ (n : ℕ) (some : 1 ≤ n) (few : n ≤ mostValues) where
   share-pos : (k : ℕ) → k ≤ 16777216 → (j : ℕ) × (shareOf n (pos k) ≡ pos j) × (j ≤ k)
   share-pos k h =
       told k (quotient n (pos k))
@@ -162,7 +163,7 @@ in-f32 (negsuc n) h = subst T (sym (lt-ltb n 16777216 h)) tt
 
 -- ---- of admitted limits
 module _ (n : ℕ) (limit : Limit) (admitted : limitAdmitted limit ≡ true) where
-  pub narrowed-admitted : 1 ≤ n → n ≤ 16777216 → limitAdmitted (narrowed n limit) ≡ true
+  pub narrowed-admitted : 1 ≤ n → n ≤ mostValues → limitAdmitted (narrowed n limit) ≡ true
   narrowed-admitted some few =
       let h = near-limits limit admitted in
       let g = length-near limit admitted in
@@ -179,7 +180,7 @@ module _ (n : ℕ) (limit : Limit) {within : Limit} (e : within ≡ narrowed n l
       let k = margin n limit in
       ap (λ (w : Limit). q -ℤ w .1) e ∙ ap (λ z. z -ℤ (q -ℤ k)) (sym (-ℤ-+ℤ-cancel q k) ∙ +ℤ-comm (q -ℤ k) k) ∙ +ℤ-negℤ-cancel k (q -ℤ k)
 
-  pub within-admitted : limitAdmitted limit ≡ true → 1 ≤ n → n ≤ 16777216 → limitAdmitted within ≡ true
+  pub within-admitted : limitAdmitted limit ≡ true → 1 ≤ n → n ≤ mostValues → limitAdmitted within ≡ true
   within-admitted h some few = ap limitAdmitted e ∙ narrowed-admitted n limit h some few
 
 -- ---- what fits an i32: the sum of two places, and half of one

@@ -6,12 +6,12 @@ use Prim.Native.Nat.{ℕ, suc, _+_, _-_, _≤_, _<_}
 use native.Mathlib.Decide.{decLt}
 use native.Mathlib.Numerals.{add-one}
 use native.Mathlib.Omega.{arith}
-use borrow.Author.Tests.{eq-eqb, ne-eqb, ltb-false, lt-ltb, le-ltb, le-leb, not-false}
+use borrow.Author.Tests.{ltb-false, lt-ltb, le-ltb, le-leb, not-false}
 use lib.Dec.{ltb, eqb}
 use lib.IntN.{ℤ, pos, natAbs, _+ℤ_, _-ℤ_}
 use lib.ListN.{length}
 use lib.Signed.{ltZ}
-use Rattle.ranged1d.specs.Answer.{Answer, given, none, refused, Reason, _when_, lowest, written}
+use Rattle.ranged1d.specs.Answer.{Answer, given, none, refused, Reason, _when_, lowest, written, andThen}
 use Rattle.ranged1d.specs.Admitted.{wholeAdmitted, limitAdmitted}
 use Rattle.ranged1d.specs.declared.Limit.{Limit}
 use Rattle.ranged1d.proofs.Answers.{given-is, not-none}
@@ -26,7 +26,7 @@ use Rattle.numeric.specs.Whole.{countOf, endsAdmitted, wholeSize, wholeIndexOf}
 use Rattle.segmented.specs.Values.{exact}
 use Rattle.segmented.specs.Segments.{Axis, narrowed, start, segmentAt, segmentIndexOf, segmentKeyPoints}
 use Rattle.segmented.specs.Axes.{mostValues, wholeAxis, wholeFinder}
-use Rattle.segmented.specs.Steps.{countAnswer, Stands, nextAnswer}
+use Rattle.segmented.specs.Steps.{atLeastOne, countAnswer, Stands, nextAnswer}
 use Rattle.segmented.proofs.Margin.{narrowed-admitted}
 use Rattle.segmented.proofs.Rules.{stands, some-entries, exact-at}
 
@@ -45,27 +45,29 @@ module _ (a b : ℤ) where
   unfolding countAnswer
   size-tests = refl
 
-  pub count-refused : {n : ℕ} → wholeSize a b ≡ refused n → refused n ≡ countAnswer axis
+  -- at least 1, and then not too many
+  abbrev notMany : Answer ℕ → Answer ℕ
+  notMany r = andThen r (λ n. lowest (4 when ltb mostValues n ∷ []) (given n))
+
+  counts-by : notMany (atLeastOne (wholeSize a b)) ≡ countAnswer axis
   unfolding wholeSize
-  count-refused e = sym (size-tests ∙ stops (1 when not (endsAdmitted a b) ∷ []) (none-or-many ∷ []) (given (countOf a b)) (countOf a b) e)
+  counts-by = go (endsAdmitted a b) (eqb (countOf a b) 0) refl ∙ sym size-tests
+    where
+      go : (t o : Bool) → eqb (countOf a b) 0 ≡ o
+          → notMany (atLeastOne (lowest (1 when not t ∷ []) (given (countOf a b)))) ≡ lowest (1 when not t ∷ 4 when (o || ltb mostValues (countOf a b)) ∷ []) (given (countOf a b))
+      go false o h = refl
+      go true true h = rw h refl
+      go true false h = rw h refl
 
-  module _ {n : ℕ} (e : wholeSize a b ≡ given n) where
-    counted : (endsAdmitted a b ≡ true) × (countOf a b ≡ n)
-    unfolding wholeSize
-    counted = let told = given-tests (1 when not (endsAdmitted a b) ∷ []) (given (countOf a b)) e in (not-false (endsAdmitted a b) (told .0 .0), given-is (told .1))
+  pub count-refused : {n : ℕ} → atLeastOne (wholeSize a b) ≡ refused n → refused n ≡ countAnswer axis
+  count-refused e = sym (ap notMany e) ∙ counts-by
 
-    pub count-none : n ≡ 0 → refused 4 ≡ countAnswer axis
-    count-none z = sym (size-tests ∙ rw (counted .0, eq-eqb (countOf a b) 0 (counted .1 ∙ z)) refl)
+  module _ {n : ℕ} (e : atLeastOne (wholeSize a b) ≡ given n) where
+    pub count-many : mostValues < n → refused 4 ≡ countAnswer axis
+    count-many l = rw (lt-ltb mostValues n l) at (sym (ap notMany e) ∙ counts-by)
 
-    module _ (some : n ≡ 0 → ⊥) where
-      there : eqb (countOf a b) 0 ≡ false
-      there = ne-eqb (countOf a b) 0 (λ z. some (sym (counted .1) ∙ z))
-
-      pub count-many : mostValues < n → refused 4 ≡ countAnswer axis
-      count-many l = sym (size-tests ∙ rw (counted .0, there, lt-ltb mostValues (countOf a b) (omega (arith, l, counted .1))) refl)
-
-      pub count-some : n ≤ mostValues → given n ≡ countAnswer axis
-      count-some l = sym (size-tests ∙ rw (counted .0, there, le-ltb mostValues (countOf a b) (omega (arith, l, counted .1))) (ap given (counted .1)))
+    pub count-some : n ≤ mostValues → given n ≡ countAnswer axis
+    count-some l = rw (le-ltb mostValues n l) at (sym (ap notMany e) ∙ counts-by)
 
   module _ {n : ℕ} (s : Stands axis n) where
     -- ---- places

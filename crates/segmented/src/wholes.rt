@@ -19,6 +19,7 @@ use crate::Segmenti32;
 use crate::beside;
 use crate::between;
 use crate::narrow;
+use crate::some_entries;
 use crate::value_fits;
 use discrete::PixelIndex;
 use numeric::Count;
@@ -45,12 +46,9 @@ fn fits(axis: RangedCoordi32, value: SegmentValuei32) -> bool
 fn segments(axis: RangedCoordi32) -> Count
     ensures { λ r. ⌜ tellCount r ≡ countAnswer (wholeAxis (axis .0) (axis .1)) ⌝ }
 {
-    match axis.size() {
+    match some_entries(axis.size()) {
         Count::Refused(r) => Count::Refused(r),
         Count::Of(n) => {
-            if n == 0 {
-                return Count::Refused(Refusal::NoSegments);
-            }
             if 16777216 < n {
                 return Count::Refused(Refusal::NoSegments);
             }

@@ -3,7 +3,8 @@ use mathlib.Core.Path.{_≡_, sym, ap, _∙_}
 use lib.IntN.{ℤ}
 use Rattle.numeric.specs.Whole.{tellCount, wholeSize}
 use Rattle.numeric.specs.declared.whole.Count.{Count}
-use Rattle.segmented.proofs.WholeRules.{count-refused, count-none, count-many, count-some}
+use Rattle.segmented.specs.Steps.{atLeastOne}
+use Rattle.segmented.proofs.WholeRules.{count-refused, count-many, count-some}
 use borrow.Author.Needs.{needs}
 use Rattle.segmented.proofs.wholes.segments.Statement.{statement}
 use Rattle.segmented.proofs.wholes.segments.Tie as tie
@@ -15,11 +16,14 @@ module _ (s : tie.Start) where
   abbrev b : ℤ
   b = s .args .axis .1
 
-told : (c : tie.After-size) {r : Count} → c .size .result ≡ r → let s = c .before in wholeSize (a s) (b s) ≡ tellCount r
-told c e = sym (c .size .ensures) ∙ ap tellCount e
+told : (c : tie.After-some-entries) {r : Count} → c .some-entries .result ≡ r → let s = c .before .before in atLeastOne (wholeSize (a s) (b s)) ≡ tellCount r
+told c e = sym (ap atLeastOne (c .before .size .ensures)) ∙ sym (c .some-entries .ensures) ∙ ap tellCount e
 
 size-requires : tie.Need-size-requires
 size-requires c κs = search needs
+
+some-entries-requires : tie.Need-some-entries-requires
+some-entries-requires c κs = search needs
 
 enum-known-r : tie.Need-enum-known-r
 enum-known-r c = search needs
@@ -31,26 +35,20 @@ returns : tie.Need-returns
 returns c =
     let n = c .before .before in
     let at = n .before .before in
-    count-none (a (at .before)) (b (at .before)) (told at (n .n .given .1)) (c .if1 .taken)
+    count-many (a (at .before .before)) (b (at .before .before)) (told at (n .n .given .1)) (c .if1 .taken)
 
 returns-2 : tie.Need-returns-2
 returns-2 c =
-    let n = c .before .before .before in
-    let at = n .before .before in
-    count-many (a (at .before)) (b (at .before)) (told at (n .n .given .1)) (c .before .if1 .left) (c .if2 .taken)
+    let at = c .before .before .before in
+    count-refused (a (at .before .before)) (b (at .before .before)) (told at (c .before .r .given .1))
 
 returns-3 : tie.Need-returns-3
 returns-3 c =
-    let at = c .before .before .before in
-    count-refused (a (at .before)) (b (at .before)) (told at (c .before .r .given .1))
-
-returns-4 : tie.Need-returns-4
-returns-4 c =
-    let n = c .before .before .before in
+    let n = c .before .before in
     let at = n .before .before in
-    count-some (a (at .before)) (b (at .before)) (told at (n .n .given .1)) (c .before .if1 .left) (c .if2 .left)
+    count-some (a (at .before .before)) (b (at .before .before)) (told at (n .n .given .1)) (c .if1 .left)
 
 pub segments-spec : {M : Type 1} → statement M
 segments-spec =
     tie.close
-    (tie.spec size-requires enum-known-r enum-known-n returns returns-2 returns-3 returns-4)
+    (tie.spec size-requires some-entries-requires enum-known-r enum-known-n returns returns-2 returns-3)
