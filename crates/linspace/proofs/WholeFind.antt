@@ -6,11 +6,11 @@ use native.Mathlib.Nat.{suc-mul}
 use native.Mathlib.Omega.{arith}
 use borrow.Author.Tests.{lt-ltb, le-ltb, ltb-true, ltb-false, leb-true, leb-false, eq-eqb, ne-eqb}
 use lib.Dec.{ltb, eqb}
-use lib.IntN.{ℤ, pos, negsuc, negℤ, natAbs, _+ℤ_, _-ℤ_, +ℤ-comm, -ℤ-+ℤ-cancel, negℤ-+ℤ, negℤ-negℤ, +ℤ-assoc, +ℤ-invr, +ℤ-idl}
+use lib.IntN.{ℤ, pos, negsuc, natAbs, _+ℤ_, _-ℤ_}
 use lib.ListN.{getD}
 use lib.Signed.{ltZ, leZ}
 use Rattle.ranged1d.specs.Admitted.{wholeAdmitted}
-use Rattle.ranged1d.proofs.Whole.{minus-far}
+use Rattle.ranged1d.proofs.Whole.{minus-far, neg-minus, start-to}
 use Rattle.numeric.specs.Marks.{listOf}
 use Rattle.numeric.specs.Calls.{element}
 use Rattle.numeric.proofs.Lists.{length-of, entry}
@@ -28,12 +28,8 @@ use Rattle.linspace.proofs.WholeList.{way, rounded-up, Sloped, element-
 
 -- v lies so far past a on the way
 past-way : (rises : Bool) (a v : ℤ) → v ≡ a +ℤ way rises (cond rises (v -ℤ a) (a -ℤ v))
-past-way true a v = sym (-ℤ-+ℤ-cancel v a) ∙ +ℤ-comm (v -ℤ a) a
-past-way false a v =
-    sym (+ℤ-idl v)
-    ∙ ap (λ (z : ℤ). z +ℤ v) (sym (+ℤ-invr a))
-    ∙ +ℤ-assoc a (negℤ a) v
-    ∙ ap (λ (z : ℤ). a +ℤ z) (sym (negℤ-+ℤ a (negℤ v) ∙ ap (λ (z : ℤ). negℤ a +ℤ z) (negℤ-negℤ v)))
+past-way true a v = sym (start-to a v)
+past-way false a v = sym (ap (λ (z : ℤ). a +ℤ z) (neg-minus a v) ∙ start-to a v)
 
 pub past-near : (a b d v : ℤ) → axisAdmitted whole a b d ≡ true → wholeAdmitted v ≡ true → natAbs (past a b v) ≤ 2000000000
 past-near a b d v h w = go (ltZ a b)

@@ -8,12 +8,12 @@ use native.Mathlib.Nat.{le-div-iff-mul-le, add-zero, mul-zero, zero-mul, one-mul
 use native.Mathlib.Omega.{arith}
 use borrow.Author.Tests.{lt-ltb, le-ltb, le-leb, lt-leb, leb-true, ltb-true, ltb-false}
 use lib.Dec.{leb, ltb}
-use lib.IntN.{ℤ, ℤ-discrete, pos, negsuc, negℤ, natAbs, _+ℤ_, _-ℤ_, _*ℤ_, +ℤ-comm, +ℤ-assoc, +ℤ-idl, +ℤ-idr, +ℤ-invr, +ℤ-negℤ-cancel, negℤ-+ℤ, negℤ-negℤ, zero-*ℤ, sucℤ-*ℤ}
+use lib.IntN.{ℤ, ℤ-discrete, pos, negsuc, negℤ, natAbs, _+ℤ_, _-ℤ_, _*ℤ_, +ℤ-assoc, +ℤ-idl, +ℤ-idr, +ℤ-invr, +ℤ-negℤ-cancel, negℤ-+ℤ, negℤ-negℤ, zero-*ℤ, sucℤ-*ℤ}
 use lib.ListN.{length}
 use lib.Signed.{ltZ}
 use Rattle.ranged1d.specs.Admitted.{wholeAdmitted}
 use Rattle.ranged1d.proofs.Bools.{both-true}
-use Rattle.ranged1d.proofs.Whole.{sub-cases, minus-far, turned-far, minus-shift, from-start, near-on, less-not-above, not-lt, both-ways, neg-far, neg-lt, both-near, same-yes}
+use Rattle.ranged1d.proofs.Whole.{sub-cases, minus-far, turned-far, minus-shift, from-start, back-to-start, near-on, less-not-above, not-lt, both-ways, neg-far, neg-lt, both-near, same-yes}
 use Rattle.numeric.specs.Marks.{listOf}
 use Rattle.numeric.specs.Calls.{element}
 use Rattle.numeric.proofs.Lists.{length-of}
@@ -97,7 +97,7 @@ module _ {rises : Bool} {a b d : ℤ} {p s : ℕ} (x : Sloped rises a b d p s) w
   element-before k = element-toward k b (pos p) (x .end)
 
   span-is : natAbs (b -ℤ a) ≡ p
-  span-is = ap natAbs (ap (λ (z : ℤ). z -ℤ a) (x .end ∙ +ℤ-comm a (way rises (pos p))) ∙ +ℤ-negℤ-cancel (way rises (pos p)) a) ∙ way-far rises p
+  span-is = ap natAbs (ap (λ (z : ℤ). z -ℤ a) (x .end) ∙ back-to-start a (way rises (pos p))) ∙ way-far rises p
 
   size-is : natAbs d ≡ s
   size-is = ap natAbs (x .step) ∙ way-far rises s

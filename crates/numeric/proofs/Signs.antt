@@ -8,7 +8,6 @@ use lib.IntN.{ℤ, pos, negsuc, _+ℤ_, _-ℤ_}
 use lib.Signed.{ltZ, quotZ}
 use borrow.Author.Tests.{ltb-true}
 use Rattle.ranged1d.proofs.Whole.{sub-cases}
-pub use Rattle.ranged1d.proofs.Whole.{yes-le, yes-lt, lt-yes}
 use Rattle.numeric.specs.Marks.{firstIndex}
 
 pub first-below : (z : ℤ) (s : ℕ) → ltZ z (pos 0) ≡ true → quotZ z (pos s) ≡ firstIndex z s

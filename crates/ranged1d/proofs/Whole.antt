@@ -44,8 +44,11 @@ neg-far (negsuc n) = refl
 pub minus-far : (x y : ℤ) → natAbs (x -ℤ y) ≤ natAbs x + natAbs y
 minus-far x y = omega (arith, add-far x (negℤ y), neg-far y)
 
+pub neg-minus : (x y : ℤ) → negℤ (x -ℤ y) ≡ y -ℤ x
+neg-minus x y = negℤ-+ℤ x (negℤ y) ∙ ap (λ (z : ℤ). negℤ x +ℤ z) (negℤ-negℤ y) ∙ +ℤ-comm (negℤ x) y
+
 pub turned-far : (x y : ℤ) → natAbs (x -ℤ y) ≡ natAbs (y -ℤ x)
-turned-far x y = sym (neg-far (x -ℤ y)) ∙ ap natAbs (negℤ-+ℤ x (negℤ y) ∙ ap (λ (z : ℤ). negℤ x +ℤ z) (negℤ-negℤ y) ∙ +ℤ-comm (negℤ x) y)
+turned-far x y = sym (neg-far (x -ℤ y)) ∙ ap natAbs (neg-minus x y)
 
 -- 0 − z
 pub zero-minus-far : (z : ℤ) → natAbs (pos 0 -ℤ z) ≡ natAbs z
@@ -204,8 +207,11 @@ pub lt-yes : {x y : ℤ} → x <ℤ y → ltZ x y ≡ true
 lt-yes h = is-true _ (h .lt)
 
 -- ---- so far after a number
+pub start-to : (a v : ℤ) → a +ℤ (v -ℤ a) ≡ v
+start-to a v = +ℤ-comm a (v -ℤ a) ∙ -ℤ-+ℤ-cancel v a
+
 pub from-start : (a v : ℤ) → leZ a v ≡ true → a +ℤ pos (natAbs (v -ℤ a)) ≡ v
-from-start a v h = ap (λ (z : ℤ). a +ℤ z) (pos-natAbs (v -ℤ a) (ordered a v h)) ∙ +ℤ-comm a (v -ℤ a) ∙ -ℤ-+ℤ-cancel v a
+from-start a v h = ap (λ (z : ℤ). a +ℤ z) (pos-natAbs (v -ℤ a) (ordered a v h)) ∙ start-to a v
 
 pub back-to-start : (a x : ℤ) → (a +ℤ x) -ℤ a ≡ x
 back-to-start a x = ap (λ (z : ℤ). z -ℤ a) (+ℤ-comm a x) ∙ +ℤ-negℤ-cancel x a

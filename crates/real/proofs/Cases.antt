@@ -14,8 +14,7 @@ use Rattle.ranged1d.specs.declared.Limit.{Limit}
 use Rattle.ranged1d.specs.Admitted.{pixelAdmitted, limitAdmitted}
 use Rattle.ranged1d.specs.Numbers.{low, high}
 use Rattle.ranged1d.proofs.Bools.{both-false, chosen}
-use Rattle.ranged1d.proofs.Whole.{not-lt, both-near}
-pub use Rattle.ranged1d.proofs.Whole.{between-far}
+use Rattle.ranged1d.proofs.Whole.{not-lt, both-near, between-far}
 use Rattle.rounding.specs.Integral.{Way}
 use Rattle.rounding.specs.Within.{within}
 use Rattle.rounding.specs.declared.Whole.{Whole}

@@ -1,6 +1,6 @@
 -- What a caller needs of places: how far from 0 they are; that a whole place is the real one behind the refusal 1; and that 5 is not met
 -- where the value lies within eleven times the axis's length of its first end. Assumes nothing.
-use mathlib.Core.Path.{_≡_, refl, sym, ap}
+use mathlib.Core.Path.{_≡_, refl, ap}
 use mathlib.Core.Bool.{Bool, true, false, not, cond, _&&_}
 use mathlib.Core.List.{[], _∷_}
 use Prim.Native.Nat.{zero, suc, _*_, _≤_, zero-le}
@@ -11,10 +11,9 @@ use lib.Signed.{quotZ}
 use lib.Ieee.{Float, inf, binary64, neg, add, sub, eq, ofInt, ofBits}
 use lib.Ieee.Back.{round-whole}
 use borrow.Author.Tests.{leb-true}
-use Rattle.ranged1d.specs.Answer.{Answer, given, refused, _when_, lowest}
+use Rattle.ranged1d.specs.Answer.{Answer, given, _when_, lowest}
 use Rattle.ranged1d.specs.Admitted.{wholeAdmitted, limitAdmitted}
 use Rattle.ranged1d.specs.declared.Limit.{Limit}
-use Rattle.ranged1d.proofs.Answers.{given-is, not-both}
 use Rattle.ranged1d.proofs.Whole.{add-far, minus-far, quotient-far, length-near, some-size, no-difference}
 use Rattle.rounding.specs.Within.{AtMost}
 use Rattle.rounding.specs.Integral.{Way, floors, ceils}
@@ -70,18 +69,6 @@ pub spot-near : (a b v : Float) (limit : Limit) → limitAdmitted limit ≡ true
 spot-near a b v limit h =
     spot-by (λ (w : Whole). natAbs (number w) ≤ 1_001_000_000) limit h (λ z n. omega arith) a b v
     (λ e w d s. plus-near (limit .0) (steps w farthest d _ _) (near-limits limit h .0) (steps-near w farthest _ (lit≤ tt)))
-
-pub given-near : (a b v : Float) (limit : Limit) (z : ℤ) → realPlace a b v limit ≡ given z → natAbs z ≤ 1_001_000_000
-unfolding realPlace
-given-near a b v limit z e = go (limitAdmitted limit) refl e
-  where
-    of-answer : (w : Whole) → natAbs (number w) ≤ 1_001_000_000 → spotAnswer w ≡ given z → natAbs z ≤ 1_001_000_000
-    of-answer (Number k) n e = omega (arith, ap natAbs (given-is e))
-    of-answer Beyond n e = absurd (not-both (sym e))
-
-    go : (c : Bool) → limitAdmitted limit ≡ c → cond (not c) (refused 2) (spotAnswer (spot a b v limit)) ≡ given z → natAbs z ≤ 1_001_000_000
-    go true h e = of-answer (spot a b v limit) (spot-near a b v limit h) e
-    go false h e = absurd (not-both (sym e))
 
 -- ---- a whole place is the real place of the three numbers as floats
 pub whole-is-real : (a b v : ℤ) (limit : Limit)

@@ -9,10 +9,8 @@ use mir.Facts.{toZ-ofZ}
 use mir.Syntax.{w32}
 use mir.Val.{SFits, toZ, ofZ}
 use lib.Signed.{ltZ, leZ, <ℤ-≤ℤ-trans}
-use Rattle.real.proofs.Cases.{between-far}
 use Rattle.ranged1d.specs.Numbers.{same}
-use Rattle.ranged1d.proofs.Whole.{not-lt, lt-le, lt-not, same-yes, same-no, same-is, less-not-above}
-use Rattle.numeric.proofs.Signs.{yes-le, yes-lt, lt-yes}
+use Rattle.ranged1d.proofs.Whole.{not-lt, lt-le, lt-not, same-yes, same-no, same-is, less-not-above, between-far, yes-le, yes-lt, lt-yes}
 use Rattle.search.proofs.Orders.{Order, Between}
 
 pub whole-order : Order ℤ ltZ same

@@ -6,7 +6,7 @@ use Prim.Native.Nat.{ℕ, zero, suc, _+_, _-_, _*_, _≤_}
 use native.Mathlib.Nat.{zero-mul, mul-pos, le-mul-of-pos-right, le-trans}
 use native.Mathlib.Omega.{arith}
 use lib.Dec.{T, eqb, eqb·suc-zero}
-use lib.IntN.{ℤ, pos, negsuc, natAbs, negℤ, _+ℤ_, _-ℤ_, negℤ-negℤ, negℤ-+ℤ, -ℤ-+ℤ-cancel, +ℤ-negℤ-cancel, +ℤ-comm, +ℤ-assoc, +ℤ-idl}
+use lib.IntN.{ℤ, pos, negsuc, natAbs, negℤ, _+ℤ_, _-ℤ_, negℤ-negℤ, negℤ-+ℤ, +ℤ-negℤ-cancel, +ℤ-assoc, +ℤ-idl}
 use lib.Ieee.{Format, Float, nan, inf, fin, binary32, up, down, unlike, round, neg, div, ofInt, inFloat}
 use lib.Ieee.Fits.{down-pos, up-pos}
 use lib.Ieee.Exact.{HasValue}
@@ -17,7 +17,7 @@ use borrow.Author.Tests.{le-leb, lt-ltb, ltb-true}
 use lib.Signed.{ltZ}
 use Rattle.ranged1d.specs.Admitted.{limitAdmitted}
 use Rattle.ranged1d.specs.declared.Limit.{Limit}
-use Rattle.ranged1d.proofs.Whole.{add-far, neg-far, quotient-far, length-near, near-on, fits32}
+use Rattle.ranged1d.proofs.Whole.{add-far, neg-far, quotient-far, length-near, start-to, near-on, fits32}
 use Rattle.rounding.specs.Integral.{halves, sized}
 use Rattle.rounding.specs.Within.{wholeOf, AtMost}
 use Rattle.rounding.proofs.Quotients.{sized-le}
@@ -132,7 +132,7 @@ module _ (n : ℕ) (some : 1 ≤ n) (few : n ≤ mostValues) where
       let s = share-pos k h in
       let j = s .0 in
       let i = k - j in
-      let end : p +ℤ pos k ≡ q = +ℤ-comm p (pos k) ∙ ap (λ z. z +ℤ p) (sym e) ∙ -ℤ-+ℤ-cancel q p in
+      let end : p +ℤ pos k ≡ q = ap (λ z. p +ℤ z) (sym e) ∙ start-to p q in
       let split : p +ℤ pos k ≡ (p +ℤ pos i) +ℤ pos j = ap (λ m. p +ℤ pos m) (let w : k ≡ i + j = omega (arith, s .2) in w) ∙ sym (+ℤ-assoc p (pos i) (pos j)) in
       let is : q -ℤ shareOf n (pos k) ≡ p +ℤ pos i =
       ap (λ z. q -ℤ z) (s .1) ∙ ap (λ z. z -ℤ pos j) (sym end ∙ split) ∙ +ℤ-negℤ-cancel (p +ℤ pos i) (pos j) in
@@ -178,7 +178,7 @@ module _ (n : ℕ) (limit : Limit) {within : Limit} (e : within ≡ narrowed n l
   moved-by =
       let q = limit .1 in
       let k = margin n limit in
-      ap (λ (w : Limit). q -ℤ w .1) e ∙ ap (λ z. z -ℤ (q -ℤ k)) (sym (-ℤ-+ℤ-cancel q k) ∙ +ℤ-comm (q -ℤ k) k) ∙ +ℤ-negℤ-cancel k (q -ℤ k)
+      ap (λ (w : Limit). q -ℤ w .1) e ∙ ap (λ z. z -ℤ (q -ℤ k)) (sym (start-to k q)) ∙ +ℤ-negℤ-cancel k (q -ℤ k)
 
   pub within-admitted : limitAdmitted limit ≡ true → 1 ≤ n → n ≤ mostValues → limitAdmitted within ≡ true
   within-admitted h some few = ap limitAdmitted e ∙ narrowed-admitted n limit h some few

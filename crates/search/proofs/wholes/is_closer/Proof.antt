@@ -2,18 +2,12 @@
 use mathlib.Core.Path.{_≡_, refl}
 use native.Mathlib.Omega.{arith}
 use lib.IntN.{ℤ, _-ℤ_}
-use mir.Facts.{toZ-ofZ, sfits-widen}
+use mir.Facts.{toZ-ofZ}
 use mir.Syntax.{w32, w64}
 use mir.Val.{SFits, toZ, ofZ}
-use Rattle.ranged1d.proofs.Whole.{fits64, far32, minus-far}
+use Rattle.ranged1d.proofs.Whole.{fits64, far32, minus-far, wide, widens}
 use Rattle.search.proofs.wholes.is_closer.Statement.{statement}
 use Rattle.search.proofs.wholes.is_closer.Tie as tie
-
-wide : (z : ℤ) → SFits w32 z → toZ w64 (ofZ w64 (toZ w32 (ofZ w32 z))) ≡ z
-wide z f = rw (toZ-ofZ f) (toZ-ofZ (sfits-widen tt f))
-
-widens : (z : ℤ) → SFits w32 z → SFits w64 (toZ w32 (ofZ w32 z))
-widens z f = rw (toZ-ofZ f) (sfits-widen tt f)
 
 less-fits : (x y : ℤ) → SFits w32 x → SFits w32 y → SFits w64 (x -ℤ y)
 less-fits x y f g = fits64 (x -ℤ y) (omega (arith, minus-far x y, far32 x f, far32 y g))
