@@ -6,16 +6,26 @@ use std::io::{self, BufRead, BufWriter, Write};
 use std::str::FromStr;
 
 use crate::admitted::{film, whole, BOUND};
-use crate::numeric::marks;
+use crate::numeric::{marks, Marks};
 use crate::random::Random;
 
 const LINES: usize = 1_000_000;
 
-/// The numbers of a line that asks for a ruler.
-struct Request {
-    ends: [i32; 2],
-    limits: [i32; 2],
-    m: u32,
+/// What a ruler is asked for.
+#[derive(Clone, Copy)]
+pub struct Draft {
+    pub ends: [i32; 2],
+    pub limits: [i32; 2],
+    pub m: u32,
+}
+
+impl Draft {
+    /// The marks by the rule, or the number of the refusal.
+    pub fn rule(self) -> Result<Marks, i32> {
+        let ([a, b], bound) = (self.ends, i128::from(BOUND));
+        whole(self.ends).and(film(self.limits))?;
+        marks(&(-bound..=bound), a.into(), b.into(), self.m)
+    }
 }
 
 /// A number, if the text is what is printed of it.
@@ -24,10 +34,10 @@ fn number<N: FromStr + ToString>(text: &str) -> Option<N> {
     (n.to_string() == text).then_some(n)
 }
 
-fn request(line: &[u8]) -> Option<Request> {
+fn asked(line: &[u8]) -> Option<Draft> {
     let mut words = std::str::from_utf8(line).ok()?.split(' ');
     let read = match (words.next()?, words.next()?, words.next()?) {
-        ("rule", a, b) => Request {
+        ("rule", a, b) => Draft {
             ends: [number(a)?, number(b)?],
             limits: [number(words.next()?)?, number(words.next()?)?],
             m: number(words.next()?)?,
@@ -38,13 +48,9 @@ fn request(line: &[u8]) -> Option<Request> {
 }
 
 /// Plotters' marks and places. It returns no step; that is the rule's.
-fn draw(out: &mut impl Write, asked: &Request) -> io::Result<()> {
-    let Request { ends, limits, m } = *asked;
-    let bound = i128::from(BOUND);
-    let rule = whole(ends)
-        .and(film(limits))
-        .and_then(|()| marks(&(-bound..=bound), ends[0].into(), ends[1].into(), m));
-    match rule {
+fn draw(out: &mut impl Write, draft: Draft) -> io::Result<()> {
+    let Draft { ends, limits, m } = draft;
+    match draft.rule() {
         Err(refusal) => writeln!(out, "refused {refusal}"),
         Ok(rule) => {
             let axis = RangedCoordi32::from(ends[0]..ends[1]);
@@ -63,8 +69,8 @@ fn draw(out: &mut impl Write, asked: &Request) -> io::Result<()> {
 pub fn rule() -> bool {
     let mut out = BufWriter::with_capacity(1 << 16, io::stdout().lock());
     for line in io::stdin().lock().split(b'\n') {
-        match request(&line.expect("standard input cannot be read")) {
-            Some(asked) => draw(&mut out, &asked),
+        match asked(&line.expect("standard input cannot be read")) {
+            Some(draft) => draw(&mut out, draft),
             None => writeln!(out, "bad line"),
         }
         .expect("standard output cannot be written");
@@ -90,7 +96,7 @@ fn good(random: &mut Random) -> String {
 
 /// Whether a line asks for no more than a few marks.
 fn asks_for_few(line: &str) -> bool {
-    request(line.as_bytes()).is_none_or(|asked| asked.m < 100)
+    asked(line.as_bytes()).is_none_or(|draft| draft.m < 100)
 }
 
 /// A line that is damaged in one place; some can still be read.

@@ -7,23 +7,13 @@ use plotters::coord::ranged1d::Ranged;
 use std::fmt::{self, Display};
 use std::hint::black_box;
 
-use crate::admitted::{film, whole, BOUND};
-use crate::numeric::marks;
-use crate::program::drawn;
+use crate::program::{drawn, Draft};
 use crate::random::Random;
 use crate::tally::{ensure, Tally};
 use crate::timing::written;
 
 const DRAWN: usize = 5_000_000;
 const DAMAGED: usize = 20_000;
-
-/// What a ruler is asked for.
-#[derive(Clone, Copy)]
-struct Draft {
-    ends: [i32; 2],
-    limits: [i32; 2],
-    m: u32,
-}
 
 impl Display for Draft {
     fn fmt(&self, out: &mut fmt::Formatter) -> fmt::Result {
@@ -58,9 +48,7 @@ impl Draft {
     /// The step, and plotters' marks with their places; or the refusal.
     fn plotters(self) -> Result<(i32, Vec<(i32, i32)>), i32> {
         let [a, b] = self.ends;
-        let bound = i128::from(BOUND);
-        whole(self.ends).and(film(self.limits))?;
-        let rule = marks(&(-bound..=bound), a.into(), b.into(), self.m)?;
+        let rule = self.rule()?;
         let axis = plotters::coord::RangedCoordi32::from(a..b);
         let limits = (self.limits[0], self.limits[1]);
         let needles = axis.key_points(self.m as usize);
@@ -193,12 +181,9 @@ fn is_ruler(bytes: &[u8]) -> bool {
         limits: [word(9), word(13)],
         m: word(17) as u32,
     };
-    let bound = i128::from(BOUND);
-    let [a, b] = draft.ends;
-    let rule = whole(draft.ends)
-        .and(film(draft.limits))
-        .and_then(|()| marks(&(-bound..=bound), a.into(), b.into(), draft.m));
-    let right_size = rule.is_ok_and(|rule| bytes.len() == 25 + 20 * rule.count);
+    let right_size = draft
+        .rule()
+        .is_ok_and(|rule| bytes.len() == 25 + 20 * rule.count);
     right_size
         && draft
             .plotters()

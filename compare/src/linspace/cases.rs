@@ -182,8 +182,8 @@ impl Numbers for f64 {
 
 /// An axis, and about how many entries it has.
 #[derive(Clone, Copy)]
-pub struct Drawn<N> {
-    pub axis: Steps<N>,
+pub struct Drawn<A> {
+    pub axis: A,
     pub n: u64,
 }
 
@@ -200,7 +200,7 @@ fn entries(random: &mut Random) -> u64 {
 }
 
 /// An axis that ends at an entry, or about there; now and then one of any three numbers.
-pub fn drawn<N: Numbers>(random: &mut Random) -> Drawn<N> {
+pub fn drawn<N: Numbers>(random: &mut Random) -> Drawn<Steps<N>> {
     if random.below(300) == 0 {
         let ((a, b), d) = (N::ends(random), N::any(random));
         return Drawn {
@@ -227,7 +227,7 @@ pub fn drawn<N: Numbers>(random: &mut Random) -> Drawn<N> {
 }
 
 /// A value at an entry, close to one or between two, as a rule.
-pub fn value<N: Numbers>(random: &mut Random, Drawn { axis, n }: Drawn<N>) -> N {
+pub fn value<N: Numbers>(random: &mut Random, Drawn { axis, n }: Drawn<Steps<N>>) -> N {
     let Steps { a, b, d } = axis;
     match random.below(12) {
         0 => return N::odd(random),
@@ -271,7 +271,7 @@ pub fn picked<N: Copy>(pick: &mut impl Pick, numbers: &[N]) -> Steps<N> {
 
 /// An ordinary axis, of 10 to 100 entries.
 #[cfg(feature = "library")]
-pub fn ordinary_axis<N: Numbers>(random: &mut Random) -> Drawn<N> {
+pub fn ordinary_axis<N: Numbers>(random: &mut Random) -> Drawn<Steps<N>> {
     let ((a, d), n) = (N::ordinary_start(random), 10 + random.below(91));
     Drawn {
         axis: steps(a, N::after(a, d, n), d),
@@ -281,7 +281,7 @@ pub fn ordinary_axis<N: Numbers>(random: &mut Random) -> Drawn<N> {
 
 /// A value between two entries of an ordinary axis.
 #[cfg(feature = "library")]
-pub fn ordinary_value<N: Numbers>(random: &mut Random, Drawn { axis, n }: Drawn<N>) -> N {
+pub fn ordinary_value<N: Numbers>(random: &mut Random, Drawn { axis, n }: Drawn<Steps<N>>) -> N {
     let entry = N::after(axis.a, axis.d, random.below(n));
     N::middle(entry, N::after(entry, axis.d, 1))
 }

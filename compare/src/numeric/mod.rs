@@ -12,7 +12,7 @@ mod key_points;
 #[cfg(feature = "library")]
 mod mirror;
 
-pub use rule::marks;
+pub use rule::{marks, Marks};
 pub use vectors::vectors;
 
 #[cfg(feature = "library")]

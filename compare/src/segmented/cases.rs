@@ -6,7 +6,7 @@ use super::value::{Value, CENTER_OF, EXACT, LAST};
 use crate::admitted::FILM;
 use crate::cases::{self, held, whole, whole_ends, Cases, Pick};
 use crate::counts::rule::count;
-use crate::linspace::cases::{self as stepped, Numbers};
+use crate::linspace::cases::{self as stepped, Drawn, Numbers};
 use crate::linspace::Steps;
 use crate::random::Random;
 use crate::readings::cases::{any_pixel, pixel_at};
@@ -17,13 +17,6 @@ use crate::search::rule::{self as search, DOWN, NEAREST, UP};
 use crate::cases::{ordinary, SMALL};
 #[cfg(feature = "library")]
 use crate::linspace::cases::{ordinary_axis, ordinary_value, SMALL_LIMITS};
-
-/// An axis, and about how many entries it has.
-#[derive(Clone, Copy)]
-pub struct Drawn<A> {
-    pub axis: A,
-    pub n: u64,
-}
 
 /// Axes of a sort that segments stand on.
 pub trait Axes: Axis {
@@ -159,14 +152,6 @@ impl Axes for Whole {
     fn ordinary_method(_: &mut Random) {}
 }
 
-fn of_steps<N>(stepped::Drawn { axis, n }: stepped::Drawn<N>) -> Drawn<Steps<N>> {
-    Drawn { axis, n }
-}
-
-fn to_steps<N>(Drawn { axis, n }: Drawn<Steps<N>>) -> stepped::Drawn<N> {
-    stepped::Drawn { axis, n }
-}
-
 impl<N: Worded + Numbers> Axes for Steps<N> {
     const CHOICES: &'static [(u32, u32)] = &[
         (search::EXACT, EXACT),
@@ -190,11 +175,11 @@ impl<N: Worded + Numbers> Axes for Steps<N> {
     }
 
     fn drawn(random: &mut Random) -> Drawn<Steps<N>> {
-        of_steps(stepped::drawn(random))
+        stepped::drawn(random)
     }
 
     fn number(random: &mut Random, drawn: Drawn<Steps<N>>) -> N {
-        stepped::value(random, to_steps(drawn))
+        stepped::value(random, drawn)
     }
 
     fn method(random: &mut Random) -> u32 {
@@ -203,12 +188,12 @@ impl<N: Worded + Numbers> Axes for Steps<N> {
 
     #[cfg(feature = "library")]
     fn ordinary(random: &mut Random) -> Drawn<Steps<N>> {
-        of_steps(ordinary_axis(random))
+        ordinary_axis(random)
     }
 
     #[cfg(feature = "library")]
     fn ordinary_number(random: &mut Random, drawn: Drawn<Steps<N>>) -> N {
-        ordinary_value(random, to_steps(drawn))
+        ordinary_value(random, drawn)
     }
 
     #[cfg(feature = "library")]

@@ -4,10 +4,10 @@ use plotters::coord::ranged1d::{Ranged, SegmentValue};
 use std::fmt::{self, Display};
 
 use super::axis::Axis;
-use super::cases::{Axes, Drawn};
+use super::cases::Axes;
 use super::value::{Value, CENTER_OF};
 use crate::lines;
-use crate::linspace::cases::mark_limit;
+use crate::linspace::cases::{mark_limit, Drawn};
 use crate::linspace::listing::LIMITS;
 use crate::number::Number;
 use crate::random::Random;

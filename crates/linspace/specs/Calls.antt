@@ -16,7 +16,7 @@ use Rattle.discrete.specs.Index.{indexFor}
 use Rattle.real.specs.Place.{spot, isBeyond, number}
 use Rattle.numeric.specs.Calls.{indexMarks}
 use Rattle.search.specs.Search.{search}
-use Rattle.search.specs.Lists.{isExact}
+use Rattle.search.specs.Lists.{nanTarget}
 use Rattle.search.specs.declared.RoundingMethod.{RoundingMethod}
 use Rattle.linspace.specs.List.{Kind, stepped, against, tooLong, axisAdmitted}
 use Rattle.linspace.specs.declared.Listed.{Listed}
@@ -57,34 +57,24 @@ module _ {A : Type 0} (kind : Kind A) (a b d : A) where
       (stepped kind a b d)
       old
 
-  -- ---- `size`, `from_index`: the number of entries, and the entry at an index
+  -- ---- `size`, `from_index`: the number of entries, and the entry at an index; 1, 6 and 7 where the list cannot be counted
+  abbrev pub counting : {B : Type 0} → Answer B → Answer B
+  counting r = lowest (1 when not (axisAdmitted kind a b d) ∷ 6 when against kind a b d ∷ 7 when tooLong kind a b d ∷ []) r
+
   unfoldable pub stepSize : Answer ℕ
-  stepSize =
-      lowest (
-      1 when not (axisAdmitted kind a b d)
-      ∷ 6 when against kind a b d
-      ∷ 7 when tooLong kind a b d
-      ∷ []
-      ) (given (length (stepped kind a b d)))
+  stepSize = counting (given (length (stepped kind a b d)))
 
   unfoldable pub stepFromIndex : ℕ → Answer A
-  stepFromIndex k =
-      lowest (
-      1 when not (axisAdmitted kind a b d)
-      ∷ 6 when against kind a b d
-      ∷ 7 when tooLong kind a b d
-      ∷ []
-      ) (nth (stepped kind a b d) k)
+  stepFromIndex k = counting (nth (stepped kind a b d) k)
 
-  -- ---- `index_of`: the index that the chosen search finds for v; 9 for a NaN, which is what does not equal itself,
-  -- where the list has an entry and the search is not the exact one
+  -- ---- `index_of`: the index that the chosen search finds for v; 9 as for a lent list
   unfoldable pub stepIndexOf : A → RoundingMethod → Answer ℕ
   stepIndexOf v method =
       lowest (
       1 when not (axisAdmitted kind a b d && kind .admitted v)
       ∷ 6 when against kind a b d
       ∷ 7 when tooLong kind a b d
-      ∷ 9 when (not (kind .numbers .equal v v) && (hasEntries (stepped kind a b d) && not (isExact method)))
+      ∷ 9 when nanTarget (kind .numbers) v method (length (stepped kind a b d))
       ∷ []
       ) (search (kind .numbers) v method (stepped kind a b d))
 

@@ -5,7 +5,6 @@ use mathlib.Core.List.{List, [], _∷_}
 use lib.Dec.{ltb}
 use lib.IntN.{ℤ}
 use lib.ListN.{length}
-use lib.Ieee as Ieee
 use lib.Ieee.{Float}
 use Rattle.ranged1d.specs.Answer.{Answer, _when_, lowest}
 use Rattle.ranged1d.specs.Admitted.{wholeAdmitted}
@@ -27,18 +26,15 @@ ascends lt (x ∷ xs) = goesOn lt x xs
 unfoldable pub searchable : {A : Type 0} → Numbers A → List A → Bool
 searchable num l = every (λ x. num .equal x x) l && (ascends (num .less) l || ascends (λ x y. num .less y x) l)
 
--- ---- 9: a NaN as the target, where the list has an entry and the search is not the exact one
+-- ---- 9: a NaN, which is what does not equal itself, as the target, where the list has an entry and the search is not the exact one
 abbrev pub isExact : RoundingMethod → Bool
 isExact Exact = true
 isExact Ceil = false
 isExact Floor = false
 isExact Round = false
 
-abbrev pub isNan : Float → Bool
-isNan t = not (Ieee.eq t t)
-
-abbrev pub nanTarget : Float → RoundingMethod → ℕ → Bool
-nanTarget t method n = isNan t && (ltb 0 n && not (isExact method))
+abbrev pub nanTarget : {A : Type 0} → Numbers A → A → RoundingMethod → ℕ → Bool
+nanTarget num t method n = not (num .equal t t) && (ltb 0 n && not (isExact method))
 
 -- ---- `search_whole`: 1 where an entry or the target is not admitted, 8 where the list cannot be searched
 unfoldable pub wholeSearch : List ℤ → ℤ → RoundingMethod → Answer ℕ
@@ -54,6 +50,6 @@ unfoldable pub realSearch : List Float → Float → RoundingMethod → Answer �
 realSearch l t method =
     lowest (
     8 when not (searchable reals l)
-    ∷ 9 when nanTarget t method (length l)
+    ∷ 9 when nanTarget reals t method (length l)
     ∷ []
     ) (search reals t method l)

@@ -12,7 +12,7 @@ use Rattle.real.specs.Place.{wholeSpot}
 use Rattle.numeric.specs.Marks.{marks, noStep}
 use Rattle.numeric.specs.Whole.{countOf, endsAdmitted}
 use Rattle.search.specs.Search.{search}
-use Rattle.search.specs.Lists.{isExact}
+use Rattle.search.specs.Lists.{nanTarget}
 use Rattle.search.specs.declared.RoundingMethod.{RoundingMethod}
 use Rattle.linspace.specs.List as list
 use Rattle.linspace.specs.List.{Kind, stepped, axisAdmitted}
@@ -64,5 +64,5 @@ steppedAxis kind a b d = record {
 abbrev pub steppedFinder : {A : Type 0} → Kind A → A → A → A → RoundingMethod → Finder A
 steppedFinder kind a b d method = record {
   index = λ v. search (kind .numbers) v method (stepped kind a b d);
-  unsought = λ v. not (kind .numbers .equal v v) && (hasEntries (stepped kind a b d) && not (isExact method));
+  unsought = λ v. nanTarget (kind .numbers) v method (length (stepped kind a b d));
 }
