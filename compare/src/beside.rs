@@ -56,7 +56,8 @@ fn by_function<C: Library>(
     ensure(kept, || found("; memory was written to"))
 }
 
-fn check<C: Library>(call: C, cell: &mut Lent<C::Number>) -> Result<(), String> {
+/// Makes both calls.
+pub fn check<C: Library>(call: C, cell: &mut Lent<C::Number>) -> Result<(), String> {
     let wanted = wanted(call)?;
     by_function(call, cell, wanted)?;
     let safe = told(call.safe());
@@ -65,7 +66,8 @@ fn check<C: Library>(call: C, cell: &mut Lent<C::Number>) -> Result<(), String> 
     })
 }
 
-fn size<C: Call>(call: C) -> u128 {
+/// A measure by which the smallest of several differing inputs is shown first.
+pub fn size<C: Call>(call: C) -> u128 {
     call.fields().map(|(_, number)| number.size()).sum()
 }
 
@@ -127,7 +129,7 @@ fn behind_a_call<C: Call>(call: &C) -> Option<C::Number> {
 
 /// Calls the C function, and nothing else that the compiler may not inline.
 #[inline(always)]
-fn timed<C: Library>(call: &C) -> i32 {
+pub fn timed<C: Library>(call: &C) -> i32 {
     let mut out = C::Number::fill(0);
     // SAFETY: the pointer is that of a local number.
     let code = black_box(unsafe { call.function(&mut out) });

@@ -78,6 +78,10 @@ impl<N: Fill> Lent<N> {
         &mut self.cells[EDGE..end]
     }
 
+    pub fn entries(&self) -> &[N] {
+        &self.cells[EDGE..self.cells.len() - EDGE]
+    }
+
     /// The list begins with `written`, and every other cell is as it was.
     pub fn holds(&self, written: &[N]) -> bool {
         let (before, rest) = self.cells.split_at(EDGE);

@@ -8,8 +8,8 @@ use std::ops::Neg;
 use super::cases::{self, Lists};
 use super::rule::{DOWN, EXACT, NEAREST, UP};
 use super::Search;
-use crate::beside::told;
-use crate::call::{wanted, Call, Shown, Told};
+use crate::beside::{self, check, size, timed, told, Library as _};
+use crate::call::{Call, Shown};
 use crate::lent::{Fill, Lent};
 use crate::random::Random;
 use crate::tally::{ensure, Tally};
@@ -75,87 +75,35 @@ pub fn exchanged(method: u32) -> u32 {
     }
 }
 
-fn safe<N: Library>(search: Search<N>) -> Told {
-    let found =
-        chosen(search.method).and_then(|method| (N::SAFE)(search.list, search.target, method));
-    told(found)
-}
+impl<N: Library> beside::Library for Search<'_, N> {
+    const CALL: &'static str = N::CALL;
 
-/// What is lent in one call.
-struct Memory<N> {
-    list: Lent<N>,
-    index: Lent<u64>,
-}
-
-impl<N: Library> Memory<N> {
-    fn new() -> Memory<N> {
-        let (list, index) = (Lent::new(), Lent::new());
-        Memory { list, index }
+    fn safe(self) -> Result<Option<u64>, Refusal> {
+        chosen(self.method).and_then(|method| (N::SAFE)(self.list, self.target, method))
     }
 
-    fn lend(&mut self, list: &[N]) {
-        self.list.refill(list.len());
-        self.list.list().copy_from_slice(list);
+    unsafe fn function(self, k: *mut u64) -> i32 {
+        let (start, len) = (self.list.as_ptr(), self.list.len());
+        (N::FUNCTION)(start, len, self.target, self.method, k)
     }
-}
-
-/// Calls the C function on the lent list and holds its answer and all memory in reach against
-/// what is wanted.
-fn by_function<N: Library>(
-    search: Search<N>,
-    memory: &mut Memory<N>,
-    wanted: Told,
-) -> Result<(), String> {
-    let Memory { list, index } = memory;
-    index.refill(1);
-    let (start, len) = (list.pointer(), list.len());
-    // SAFETY: the pointers are those of a list of this length and of one number.
-    let code = unsafe { (N::FUNCTION)(start, len, search.target, search.method, index.pointer()) };
-    let given = index.list()[0];
-    let found = |what: &str| format!("returned {code}, {given}; wanted {wanted}{what}");
-    ensure(code == wanted.code(), || found(""))?;
-    let kept = match wanted {
-        Told::Given(number) => {
-            ensure(number == given.into(), || found(""))?;
-            index.holds(&[given])
-        }
-        _ => index.holds(&[]),
-    };
-    ensure(kept && list.holds(search.list), || {
-        found("; memory was written to")
-    })
-}
-
-fn check<N: Library>(search: Search<N>, memory: &mut Memory<N>) -> Result<(), String> {
-    let wanted = wanted(search)?;
-    by_function(search, memory, wanted)?;
-    let safe = safe(search);
-    ensure(safe == wanted, || {
-        format!("safe call: {safe}, wanted {wanted}")
-    })
 }
 
 /// The same search of the mirrored list for the mirrored target.
 fn check_mirror<N: Library>(search: Search<N>, mirror: &[N]) -> Result<(), String> {
-    let (one, other) = (
-        safe(search),
-        safe(Search {
-            list: mirror,
-            target: -search.target,
-            method: exchanged(search.method),
-        }),
-    );
+    let mirror = Search {
+        list: mirror,
+        target: -search.target,
+        method: exchanged(search.method),
+    };
+    let (one, other) = (told(search.safe()), told(mirror.safe()));
     ensure(one == other, || format!("{one}, mirror {other}"))
-}
-
-fn size<N: Lists>(search: Search<N>) -> u128 {
-    search.fields().map(|(_, number)| number.size()).sum()
 }
 
 struct Run<N> {
     tally: Tally,
     mirrored: Tally,
-    memory: Memory<N>,
+    lent: Lent<N>,
+    index: Lent<u64>,
 }
 
 impl<N: Library> Run<N> {
@@ -163,23 +111,26 @@ impl<N: Library> Run<N> {
         Run {
             tally: Tally::new(N::CALL),
             mirrored: Tally::new(format!("{} beside its mirror", N::CALL)),
-            memory: Memory::new(),
+            lent: Lent::new(),
+            index: Lent::new(),
         }
     }
 
     /// Searches a list and its mirror for every target, by every method.
     fn list(&mut self, list: &[N], targets: &[N]) {
-        self.memory.lend(list);
+        self.lent.refill(list.len());
+        self.lent.list().copy_from_slice(list);
         let negatable = |numbers: &[N]| numbers.iter().all(|&n| n.negatable());
         let mirror: Option<Vec<N>> =
             negatable(list).then(|| list.iter().map(|&entry| -entry).collect());
         for (&target, method) in targets.iter().flat_map(|t| METHODS.map(|m| (t, m))) {
             let search = Search {
-                list,
+                list: self.lent.entries(),
                 target,
                 method,
             };
-            let found = check(search, &mut self.memory);
+            let found = check(search, &mut self.index)
+                .and_then(|()| ensure(self.lent.holds(list), || "the list was written to".into()));
             self.tally.count(size(search), Shown(search), found);
             if let (Some(mirror), true) = (&mirror, target.negatable()) {
                 let found = check_mirror(search, mirror);
@@ -231,43 +182,28 @@ pub fn compare() -> bool {
     run::<i32>() & run::<f64>()
 }
 
-/// Calls the C function, and nothing else that the compiler may not inline.
-#[inline(always)]
-fn timed<N: Library>(list: &[N], target: N, method: u32) -> i32 {
-    let (list, mut k) = (black_box(list), 0);
-    let (start, len) = (list.as_ptr(), list.len());
-    // SAFETY: the pointers are those of a list of this length and of a local number.
-    let code = black_box(unsafe { (N::FUNCTION)(start, len, target, method, &mut k) });
-    black_box(k);
-    code
-}
-
 /// Times searches of a list for targets all over it, ours beside plotters' bare search.
 fn time<N: Library>(len: usize, method: u32) {
     let mut random = Random::fixed(1);
     let list: Vec<N> = (0..len as i32).map(|k| N::whole(3 * k)).collect();
     let targets = [(); 1 << 10].map(|()| N::whole(random.below(3 * len as u64) as i32));
     let title = format!("{} of {len} entries, method {method}", N::CALL);
-    let answered = |target| timed(&list, target, method) <= 0;
+    let search = |target| Search {
+        list: black_box(&list),
+        target,
+        method,
+    };
+    let answered = |target| timed(&search(target)) <= 0;
     assert!(targets.into_iter().all(answered), "{title}");
     let [mut targets, mut others] = [(); 2].map(|()| targets.iter().copied().cycle());
     let ours = |n| {
         for _ in 0..n {
-            timed(&list, targets.next().unwrap(), method);
+            timed(&search(targets.next().unwrap()));
         }
     };
     let plotters = |n| {
         for _ in 0..n {
-            let list = &black_box(&list)[..];
-            let target = others.next().unwrap();
-            black_box(
-                Search {
-                    list,
-                    target,
-                    method,
-                }
-                .plotters(),
-            );
+            black_box(search(others.next().unwrap()).plotters());
         }
     };
     report(&title, ours, plotters);
