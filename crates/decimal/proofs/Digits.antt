@@ -10,8 +10,6 @@ use borrow.Author.Tests.{lt-ltb, le-ltb, ltb-false}
 use lib.IntN.{ℤ, pos, negsuc, natAbs}
 use lib.Signed.{ltZ}
 use Rattle.ranged1d.proofs.Bools.{chosen}
-use Rattle.decimal.specs.declared.Text.{Text}
-use Rattle.decimal.specs.declared.LongText.{LongText}
 use lib.ListN.{length, set, drop, replicate, length-append, length-replicate, replicate-append-replicate}
 use lib.Seq.{set-at, drop-at}
 use Rattle.decimal.specs.Print.{digit, minus, digits, natural, decimal, filledTo}
@@ -131,13 +129,6 @@ fill-minus w l i p e = (ap (λ (k : ℕ). set (replicate k 32 ++ l) (i - 1) 45) 
 
     stored : set (replicate (i - 1 + 1) 32 ++ l) (i - 1) 45 ≡ replicate (w - suc (length l)) 32 ++ (45 ∷ l)
     stored = set-blank (i - 1) 45 l ∙ ap (λ (k : ℕ). replicate k 32 ++ (45 ∷ l)) f
-
--- equal parts make equal texts
-pub text-is : (b c : List ℕ) (i j : ℕ) → (b ≡ c) × (i ≡ j) → _≡_ {A = Text} (record { bytes = b; blanks = i }) (record { bytes = c; blanks = j })
-text-is b c i j h = rw (h .0, h .1)
-
-pub long-text-is : (b c : List ℕ) (i j : ℕ) → (b ≡ c) × (i ≡ j) → _≡_ {A = LongText} (record { bytes = b; blanks = i }) (record { bytes = c; blanks = j })
-long-text-is b c i j h = rw (h .0, h .1)
 
 -- what holds of a last digit, and of one more digit behind those before it, holds of all digits
 pub digits-by : (P : ℕ → List ℕ → Type 0) → ((n : ℕ) → P n (digit n ∷ [])) → ((n : ℕ) (l : List ℕ) → P (n / 10) l → P n (l ++ (digit (n % 10) ∷ []))) → (f n : ℕ) → P n (digits f n)

@@ -12,7 +12,7 @@ use Rattle.ranged1d.proofs.Bools.{both-true}
 use Rattle.search.proofs.RealOrder.{real-order}
 use Rattle.search.proofs.WholeOrder.{whole-order}
 use Rattle.search.proofs.Orders.{not-itself}
-use Rattle.linspace.specs.List.{Kind, whole, real, entries, most, toward, upward, downward, run, stepped}
+use Rattle.linspace.specs.List.{Kind, whole, real, entries, most, toward, headed, run, stepped}
 use Rattle.linspace.proofs.Walks.{entries-on, entry-is, entry-passes}
 
 module _ {A : Type 0} (kind : Kind A) (a b d : A) where
@@ -29,9 +29,9 @@ module _ {A : Type 0} (kind : Kind A) (a b d : A) where
   -- a list is that of one direction, which has two entries, or empty
   by-way : (P : List A → Type 0) → ((rises : Bool) → toward kind rises b a ≡ true → toward kind rises b (next a) ≡ true → P (run kind a b d rises)) → P [] → P (stepped kind a b d)
   unfolding stepped
-  by-way P f e = go (upward kind a b d) refl (downward kind a b d) refl
+  by-way P f e = go (headed kind a b d true) refl (headed kind a b d false) refl
     where
-      go : (u : Bool) → upward kind a b d ≡ u → (w : Bool) → downward kind a b d ≡ w → P (cond u (run kind a b d true) (cond w (run kind a b d false) []))
+      go : (u : Bool) → headed kind a b d true ≡ u → (w : Bool) → headed kind a b d false ≡ w → P (cond u (run kind a b d true) (cond w (run kind a b d false) []))
       go true h w k = let s = both-true (kind .numbers .less a b) (kind .numbers .less (next a) b) h in f true (s .0) (s .1)
       go false h true k = let s = both-true (kind .numbers .less b a) (kind .numbers .less b (next a)) k in f false (s .0) (s .1)
       go false h false k = e

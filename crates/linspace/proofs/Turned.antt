@@ -12,7 +12,7 @@ use Rattle.search.specs.Mirror.{turned, Each, end, more}
 use Rattle.search.specs.declared.RoundingMethod.{RoundingMethod}
 use Rattle.search.proofs.Orders.{Order}
 use Rattle.search.proofs.Turned.{Turns, each-length, search-turned, exact-stays}
-use Rattle.linspace.specs.List.{Kind, entries, most, toward, upward, downward, run, stepped, against, axisAdmitted}
+use Rattle.linspace.specs.List.{Kind, entries, most, toward, headed, run, stepped, against, axisAdmitted}
 use Rattle.linspace.specs.Calls.{hasEntries, marksOf, stepMarks, stepValues, stepSize, stepIndexOf, stepKeyPoints}
 use Rattle.linspace.proofs.Rules.{counts}
 
@@ -51,33 +51,30 @@ module _ {A : Type 0} (kind : Kind A) (R : A → A → Type 0) (K : KindTurns ki
   abbrev T : Turns N R
   T = K .turns
 
-  upward-turned : upward kind a b d ≡ downward kind a' b' d'
-  upward-turned = rw (T .less-turns ra rb, T .less-turns (K .plus-turns ra rd) rb) refl
-
-  downward-turned : downward kind a b d ≡ upward kind a' b' d'
-  downward-turned = rw (T .less-turns rb ra, T .less-turns rb (K .plus-turns ra rd)) refl
-
   toward-turned : (rises : Bool) (x x' : A) → R x x' → toward kind rises b x ≡ toward kind (not rises) b' x'
   toward-turned true x x' r = T .less-turns r rb
   toward-turned false x x' r = T .less-turns rb r
+
+  headed-turned : (rises : Bool) → headed kind a b d rises ≡ headed kind a' b' d' (not rises)
+  headed-turned rises = rw (toward-turned rises a a' ra, toward-turned rises (kind .plus a d) (kind .plus a' d') (K .plus-turns ra rd)) refl
 
   run-turned : (rises : Bool) → Each R (run kind a b d rises) (run kind a' b' d' (not rises))
   run-turned rises = entries-turned R (toward kind rises b) (toward kind (not rises) b') (λ x. kind .plus x d) (λ x. kind .plus x d') (toward-turned rises) (λ x x' r. K .plus-turns r rd) (suc most) a a' ra
 
   pub stepped-turned : Each R (stepped kind a b d) (stepped kind a' b' d')
   unfolding stepped
-  stepped-turned = go (upward kind a b d) (downward kind a b d) refl refl
+  stepped-turned = go (headed kind a b d true) (headed kind a b d false) refl refl
     where
       -- an axis does not run both ways
-      clash : upward kind a b d ≡ true → downward kind a b d ≡ true → ⊥
+      clash : headed kind a b d true ≡ true → headed kind a b d false ≡ true → ⊥
       clash u v = true≢false (sym (both-true (N .less b a) (N .less b (kind .plus a d)) v .0) ∙ K .order .asym a b (both-true (N .less a b) (N .less (kind .plus a d) b) u .0))
 
-      go : (u v : Bool) → upward kind a b d ≡ u → downward kind a b d ≡ v
-          → Each R (cond (upward kind a b d) (run kind a b d true) (cond (downward kind a b d) (run kind a b d false) [])) (cond (upward kind a' b' d') (run kind a' b' d' true) (cond (downward kind a' b' d') (run kind a' b' d' false) []))
+      go : (u v : Bool) → headed kind a b d true ≡ u → headed kind a b d false ≡ v
+          → Each R (cond (headed kind a b d true) (run kind a b d true) (cond (headed kind a b d false) (run kind a b d false) [])) (cond (headed kind a' b' d' true) (run kind a' b' d' true) (cond (headed kind a' b' d' false) (run kind a' b' d' false) []))
       go true true e f = absurd (clash e f)
-      go true false e f = rw (e, sym downward-turned ∙ f, sym upward-turned ∙ e) (run-turned true)
-      go false true e f = rw (e, f, sym downward-turned ∙ f) (run-turned false)
-      go false false e f = rw (e, f, sym downward-turned ∙ f, sym upward-turned ∙ e) end
+      go true false e f = rw (e, sym (headed-turned false) ∙ f, sym (headed-turned true) ∙ e) (run-turned true)
+      go false true e f = rw (e, f, sym (headed-turned false) ∙ f) (run-turned false)
+      go false false e f = rw (e, f, sym (headed-turned false) ∙ f, sym (headed-turned true) ∙ e) end
 
   same-length : length (stepped kind a b d) ≡ length (stepped kind a' b' d')
   same-length = each-length (stepped kind a b d) (stepped kind a' b' d') stepped-turned

@@ -44,18 +44,15 @@ toward kind rises b x = way.toward rises (kind .numbers .less) x b
 module _ {A : Type 0} (kind : Kind A) (a b d : A) where
   -- from a upward or downward, with a + d before b too. Where a and b, or a + d and b, do not compare, neither is the case; nor where a
   -- equals b, or a + d has reached or passed it.
-  abbrev pub upward : Bool
-  upward = kind .numbers .less a b && kind .numbers .less (kind .plus a d) b
-
-  abbrev pub downward : Bool
-  downward = kind .numbers .less b a && kind .numbers .less b (kind .plus a d)
+  abbrev pub headed : Bool → Bool
+  headed rises = toward kind rises b a && toward kind rises b (kind .plus a d)
 
   abbrev pub run : Bool → List A
   run rises = entries (toward kind rises b) (λ x. kind .plus x d) (suc most) a
 
   -- the list: a, a + d, (a + d) + d and so on while before b
   unfoldable pub stepped : List A
-  stepped = cond upward (run true) (cond downward (run false) [])
+  stepped = cond (headed true) (run true) (cond (headed false) (run false) [])
 
   -- 6: a step that is zero or leads away from b
   unfoldable pub against : Bool

@@ -1,25 +1,15 @@
 -- `ranged1d::whole_admitted` meets its contract. Assumes nothing.
-use mathlib.Core.Path.{_≡_, sym, ap, _∙_}
-use lib.IntN.{pos, negsuc}
-use lib.Signed.{leZ, ltZ}
-use mir.Syntax.{w32}
-use mir.Val.{ofZ, toZ}
+use mathlib.Core.Path.{sym}
 use mir.Facts.{toZ-ofZ}
 use Rattle.ranged1d.proofs.Whole.{far-below, not-far-below}
 use Rattle.ranged1d.proofs.whole_admitted.Statement.{statement}
 use Rattle.ranged1d.proofs.whole_admitted.Tie as tie
 
--- the bits of z are z
-same : (c : tie.Start) → toZ w32 (ofZ w32 (c .args .z)) ≡ c .args .z
-same c = toZ-ofZ (c .fits .z)
-
 returns : tie.Need-returns
-returns c = sym (far-below (c .before .args .z) 999999999 (ap (λ z. ltZ z (negsuc 999999999)) (sym (same (c .before))) ∙ c .if1 .taken))
+returns c = let s = c .before in sym (far-below (s .args .z) 999999999 (rw (toZ-ofZ (s .fits .z)) at (c .if1 .taken)))
 
 returns-2 : tie.Need-returns-2
-returns-2 c =
-    ap (λ z. leZ z (pos 1000000000)) (same (c .before))
-    ∙ not-far-below (c .before .args .z) 999999999 (ap (λ z. ltZ z (negsuc 999999999)) (sym (same (c .before))) ∙ c .if1 .left)
+returns-2 c = let s = c .before in rw (toZ-ofZ (s .fits .z)) (not-far-below (s .args .z) 999999999 (rw (toZ-ofZ (s .fits .z)) at (c .if1 .left)))
 
 pub whole-admitted-spec : {M : Type 1} → statement M
 whole-admitted-spec = tie.close (tie.spec returns returns-2)
