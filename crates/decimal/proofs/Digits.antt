@@ -12,26 +12,24 @@ use lib.Signed.{ltZ}
 use Rattle.ranged1d.proofs.Bools.{chosen}
 use lib.ListN.{length, set, drop, replicate, length-append, length-replicate, replicate-append-replicate}
 use lib.Seq.{set-at, drop-at}
-use Rattle.decimal.specs.Print.{digit, minus, digits, natural, decimal, filledTo}
+use Rattle.decimal.specs.declared.Text.{Text}
+use Rattle.decimal.specs.declared.LongText.{LongText}
+use Rattle.decimal.specs.Print.{digit, minus, digits, natural, signedDigits, decimal, filledWith, filledTo, textOf, longTextOf}
 
 pub tenth-small : (n k : ℕ) → n < 10 ^ suc k → n / 10 < 10 ^ k
 tenth-small n k h = div-lt-iff-lt-mul (zero-lt-suc 9) .1 (rw (pow-suc 10 k) at h)
 
--- n has at most i digits
-abbrev pub small : ℕ → ℕ → Type 0
-small zero n = n ≡ 0
-small (suc i) n = small i (n / 10)
+-- a number of more than one digit, with at most i
+pub tenth-fewer : (i n : ℕ) → 9 < n → n < 10 ^ i → n / 10 < 10 ^ (i - 1)
+tenth-fewer zero n h s = absurd (omega arith)
+tenth-fewer (suc i) n h s = let e : suc i - 1 ≡ i = omega arith in rw e (tenth-small n i s)
 
-pub small-step : (i n : ℕ) → 9 < n → small i n → small (i - 1) (n / 10)
-small-step zero n h s = absurd (omega arith)
-small-step (suc i) n h s = let e : suc i - 1 ≡ i = omega arith in rw e s
+pub two-digits : (i n : ℕ) → 9 < n → n < 10 ^ i → 2 ≤ i
+two-digits zero n h s = absurd (omega arith)
+two-digits (suc zero) n h s = absurd (omega arith)
+two-digits (suc (suc i)) n h s = omega arith
 
-pub small-two : (i n : ℕ) → 9 < n → small i n → 2 ≤ i
-small-two zero n h s = absurd (omega arith)
-small-two (suc zero) n h s = absurd (omega arith)
-small-two (suc (suc i)) n h s = omega arith
-
-pub digits-more : (i n : ℕ) → 9 < n → small i n → digits (i - 1) n ≡ digits (i - 1 - 1) (n / 10) ++ (digit (n % 10) ∷ [])
+pub digits-more : (i n : ℕ) → 9 < n → n < 10 ^ i → digits (i - 1) n ≡ digits (i - 1 - 1) (n / 10) ++ (digit (n % 10) ∷ [])
 unfolding digits
 digits-more zero n h s = absurd (omega arith)
 digits-more (suc zero) n h s = absurd (omega arith)
@@ -50,12 +48,12 @@ pub record Spelt (f N i n : ℕ) (t : List ℕ) : Type 0 where
   pub tail : List ℕ
   pub some : 1 ≤ i
   pub most : i ≤ f + 1
-  pub left : small i n
+  pub left : n < 10 ^ i
   pub long : i + 1 + length tail ≡ f + 2
   pub blank : t ≡ replicate (i + 1) 32 ++ tail
   pub told : digits (i - 1) n ++ tail ≡ digits f N
 
-pub spelt-none : (f N : ℕ) → small (f + 1) N → Spelt f N (f + 1) N (replicate (f + 2) 32)
+pub spelt-none : (f N : ℕ) → N < 10 ^ (f + 1) → Spelt f N (f + 1) N (replicate (f + 2) 32)
 spelt-none f N h =
     let e : f + 1 + 1 ≡ f + 2 = omega arith in
     let g : f + 1 - 1 ≡ f = omega arith in
@@ -69,17 +67,13 @@ spelt-none f N h =
       told = rw g (append-nil (digits f N));
     }
 
-small-below : (i n : ℕ) → n < 10 ^ i → small i n
-small-below zero n h = omega (arith, h)
-small-below (suc i) n h = small-below i (n / 10) (tenth-small n i h)
-
 pub spelt-blank : (t : List ℕ) (N : ℕ) → 2 ≤ length t → t ≡ replicate (length t) 32 → N < 10 ^ (length t - 1) → Spelt (length t - 2) N (length t - 1) N t
 spelt-blank t N two e h =
     let f = length t - 2 in
     let i : f + 1 ≡ length t - 1 = omega (arith, two) in
     let w : f + 2 ≡ length t = omega (arith, two) in
     subst (λ (u : List ℕ). Spelt f N (length t - 1) N u) (ap (λ (k : ℕ). replicate k 32) w ∙ sym e)
-    (subst (λ (k : ℕ). Spelt f N k N (replicate (f + 2) 32)) i (spelt-none f N (subst (λ (k : ℕ). small k N) (sym i) (small-below (length t - 1) N h))))
+    (subst (λ (k : ℕ). Spelt f N k N (replicate (f + 2) 32)) i (spelt-none f N (subst (λ (k : ℕ). N < 10 ^ k) (sym i) h)))
 
 -- a character takes the place of the last blank
 pub set-blank : (i d : ℕ) (u : List ℕ) → set (replicate (i + 1) 32 ++ u) i d ≡ replicate i 32 ++ (d ∷ u)
@@ -96,13 +90,13 @@ module _ {f N i n : ℕ} {t : List ℕ} (s : Spelt f N i n t) where
 
   pub spelt-more : 9 < n → Spelt f N (i - 1) (n / 10) (set t i (48 + n % 10))
   spelt-more h =
-      let two = small-two i n h (s .left) in
+      let two = two-digits i n h (s .left) in
       let e : i - 1 + 1 ≡ i = omega (arith, two) in
       record {
         tail = digit (n % 10) ∷ s .tail;
         some = omega (arith, two);
         most = omega (arith, s .most);
-        left = small-step i n h (s .left);
+        left = tenth-fewer i n h (s .left);
         long = omega (arith, s .long, two);
         blank = rw e (spelt-set (48 + n % 10));
         told = sym (append-assoc (digits (i - 1 - 1) (n / 10)) (digit (n % 10) ∷ []) (s .tail)) ∙ ap (λ (l : List ℕ). l ++ s .tail) (sym (digits-more i n h (s .left))) ∙ s .told;
@@ -151,12 +145,29 @@ decimal-most (negsuc n) = omega (arith, digits-most 9 (suc n))
 pub natural-most : (n : ℕ) → length (natural n) ≤ 11
 natural-most n = omega (arith, digits-most 9 n)
 
-pub filled-to-long : (w : ℕ) (t : List ℕ) → length t ≤ w → length (filledTo w t) ≡ w
-filled-to-long w t h = rw (length-append (replicate (w - length t) 32) t, length-replicate {A = ℕ} (w - length t) 32) (omega arith)
+pub filled-long : (c w : ℕ) (t : List ℕ) → length t ≤ w → length (filledWith c w t) ≡ w
+filled-long c w t h = rw (length-append (replicate (w - length t) c) t, length-replicate {A = ℕ} (w - length t) c) (omega arith)
 
--- without its blanks it is the text again
-pub unfilled-to : (w : ℕ) (t : List ℕ) → drop (w - length t) (filledTo w t) ≡ t
-unfilled-to w t = drop-at (replicate (w - length t) 32) t (w - length t) (length-replicate {A = ℕ} (w - length t) 32)
+-- a text of w bytes that is l filled with blanks: how many they are, and what stands behind them
+pub record Told (w blanks : ℕ) (bytes l : List ℕ) : Type 0 where
+  pub low : blanks ≤ w
+  pub count : w - blanks ≡ length l
+  pub long : length bytes ≡ w
+  pub text : drop blanks bytes ≡ l
+
+told : (w : ℕ) (l : List ℕ) → length l ≤ w → Told w (w - length l) (filledTo w l) l
+told w l h = record {
+  low = omega arith;
+  count = omega arith;
+  long = filled-long 32 w l h;
+  text = drop-at (replicate (w - length l) 32) l (w - length l) (length-replicate {A = ℕ} (w - length l) 32);
+}
+
+pub text-told : (l : List ℕ) → length l ≤ 11 → {t : Text} → t ≡ textOf l → Told 11 (t .blanks) (t .bytes) l
+text-told l h e = subst (λ (u : Text). Told 11 (u .blanks) (u .bytes) l) (sym e) (told 11 l h)
+
+pub long-told : (l : List ℕ) → length l ≤ 21 → {t : LongText} → t ≡ longTextOf l → Told 21 (t .blanks) (t .bytes) l
+long-told l h e = subst (λ (u : LongText). Told 21 (u .blanks) (u .bytes) l) (sym e) (told 21 l h)
 
 -- ---- enough digits: a number below 10 ^ k has at most k, and more fuel than it needs changes nothing
 pub digits-fuel : (f n : ℕ) → n < 10 ^ suc f → digits f n ≡ digits (suc f) n
@@ -179,6 +190,6 @@ digits-few (suc f) k n h = go (ltb n 10) refl (digits-few f)
     go false e r = rw (length-append (digits f (n / 10)) (digit (n % 10) ∷ [])) (more k h (ltb-false n 10 e) r)
 
 -- the sign and the size of a number, as the code takes them apart
-pub signed-text : (v : ℤ) → cond (ltZ v (pos 0)) (minus ∷ natural (natAbs v)) (natural (natAbs v)) ≡ decimal v
+pub signed-text : (v : ℤ) → signedDigits (ltZ v (pos 0)) 9 (natAbs v) ≡ decimal v
 signed-text (pos n) = rw (le-ltb n 0 (omega arith))
 signed-text (negsuc n) = refl

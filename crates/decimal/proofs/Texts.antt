@@ -1,5 +1,5 @@
 -- Texts: when two are the same, and that the value of a short one stays small. Assumes nothing.
-use mathlib.Core.Path.{_≡_, refl, sym, ap, ap₂, subst, _∙_}
+use mathlib.Core.Path.{_≡_, refl, sym, ap₂, subst}
 use mathlib.Core.Bool.{Bool, true, false, true≢false, _&&_}
 use mathlib.Core.List.{List, [], _∷_}
 use Prim.Native.Nat.{ℕ, zero, suc, _+_, _-_, _*_, _≤_, _<_}
@@ -9,10 +9,7 @@ use lib.Dec.{T, eqb}
 use borrow.Author.Tests.{eq-eqb, eqb-true}
 use lib.ListN.{length, getD, drop, drop-of-length-le}
 use lib.Seq.{drop-cons}
-use Rattle.decimal.specs.declared.Text.{Text}
-use Rattle.decimal.specs.Print.{textOf}
 use Rattle.decimal.specs.Read.{valueOf, sameBytes}
-use Rattle.decimal.proofs.Digits.{filled-to-long, unfilled-to}
 
 -- ---- the same text
 pub same-self : (l : List ℕ) → sameBytes l l ≡ true
@@ -79,11 +76,3 @@ value-step s i n h = rw (add-one, drop-cons s i 0)
 pub value-end : (s : List ℕ) (i n : ℕ) → length s ≤ i → valueOf n (drop i s) ≡ n
 unfolding valueOf
 value-end s i n h = rw (drop-of-length-le s h)
-
--- ---- a filled text, and its bytes without the blanks
-module _ (l : List ℕ) {t : Text} (e : t ≡ textOf l) where
-  pub text-fits : length l ≤ 11 → (t .blanks ≤ 11) × (length (t .bytes) ≡ 11)
-  text-fits h = rw e (omega arith, filled-to-long 11 l h)
-
-  pub text-same : (s : List ℕ) {r : Bool} → r ≡ sameBytes s (drop (t .blanks) (t .bytes)) → r ≡ sameBytes s l
-  text-same s q = q ∙ ap (λ (u : Text). sameBytes s (drop (u .blanks) (u .bytes))) e ∙ ap (sameBytes s) (unfilled-to 11 l)

@@ -41,9 +41,13 @@ abbrev pub decimal : ℤ → List ℕ
 decimal (pos n) = natural n
 decimal (negsuc n) = minus ∷ natural (suc n)
 
--- a text filled on the left with blanks to w bytes
+-- a text filled on the left to w bytes, with the byte c
+abbrev pub filledWith : ℕ → ℕ → List ℕ → List ℕ
+filledWith c w t = replicate (w - length t) c ++ t
+
+-- and with blanks
 abbrev pub filledTo : ℕ → List ℕ → List ℕ
-filledTo w t = replicate (w - length t) blank ++ t
+filledTo w t = filledWith blank w t
 
 -- a label: filled to 11 bytes
 abbrev pub filled : List ℕ → List ℕ

@@ -1,12 +1,12 @@
 -- Texts that stand for whole numbers: exactly those that are printed, without blanks. 01 "From the drafting table": no leading zeros, no
 -- minus before zero, within i32 or within u32. Assumes nothing.
 use Prim.Native.Nat.{ℕ, _+_, _-_, _*_}
-use mathlib.Core.Bool.{Bool, true, false, cond, _&&_}
+use mathlib.Core.Bool.{Bool, cond, _&&_}
 use mathlib.Core.List.{List, [], _∷_}
 use lib.Dec.{leb, eqb}
 use lib.IntN.{ℤ, pos, negℤ}
 use Rattle.ranged1d.specs.Answer.{Answer, given, none}
-use Rattle.ranged1d.specs.Numbers.{isI32}
+use Rattle.ranged1d.specs.Numbers.{isI32, sameEach}
 use Rattle.decimal.specs.Print.{minus, natural, decimal}
 use Rattle.decimal.specs.declared.Whole.{Whole}
 use Rattle.decimal.specs.declared.Whole.the-variants as whole-is
@@ -24,10 +24,7 @@ signedValue [] = pos 0
 signedValue (c ∷ cs) = cond (eqb c minus) (negℤ (pos (valueOf 0 cs))) (pos (valueOf 0 (c ∷ cs)))
 
 unfoldable pub sameBytes : List ℕ → List ℕ → Bool
-sameBytes [] [] = true
-sameBytes [] (y ∷ ys) = false
-sameBytes (x ∷ xs) [] = false
-sameBytes (x ∷ xs) (y ∷ ys) = eqb x y && sameBytes xs ys
+sameBytes s t = sameEach eqb s t
 
 -- a text is read as the number that is printed so; every other text, and a number outside the type, is none
 unfoldable pub readI32 : List ℕ → Answer ℤ

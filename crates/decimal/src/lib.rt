@@ -4,8 +4,7 @@ ghost use Prim.Native.Nat.{_-_, _^_, _≤_, _<_};
 ghost use mathlib.Core.Bool.{cond};
 ghost use lib.ListN.{length, drop, replicate};
 ghost use lib.IntN.{pos, negℤ};
-ghost use mathlib.Core.List.{_∷_};
-ghost use Rattle.decimal.specs.Print.{minus, blank, natural, longNatural, signedDigits, decimal, filledTo, textOf, longTextOf};
+ghost use Rattle.decimal.specs.Print.{blank, natural, signedDigits, decimal, filledTo, textOf, longTextOf};
 ghost use Rattle.decimal.specs.Read.{valueOf, sameBytes, readI32, readU32, tellWhole, tellNatural};
 ghost use Rattle.decimal.specs.Steps.{keepI32, keepPrinted};
 
@@ -79,7 +78,7 @@ pub fn natural_label(n: u32) -> Text
 
 // The same of a size of up to 64 bits: twenty digits and the sign.
 pub fn long_label(negative: bool, size: u64) -> LongText
-    ensures { λ r. ⌜ r ≡ longTextOf (cond negative (minus ∷ longNatural size) (longNatural size)) ⌝ }
+    ensures { λ r. ⌜ r ≡ longTextOf (signedDigits negative 19 size) ⌝ }
 {
     let mut bytes = [32u8; 21];
     let blanks = spell_into(&mut bytes, negative, size);

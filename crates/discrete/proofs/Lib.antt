@@ -1,3 +1,3 @@
 pub mod Floor
-pub mod Index
 pub mod Theorems
+pub mod Within

@@ -8,17 +8,17 @@ use lib.IntN.{ℤ, pos, negsuc, _-ℤ_, _*ℤ_}
 use lib.Signed.{ltZ}
 use Rattle.ranged1d.specs.Answer.{Answer, given, none, refused, _when_, lowest}
 use Rattle.ranged1d.specs.Refusals.{numberOf}
-use Rattle.ranged1d.specs.Admitted.{pixelAdmitted, limitAdmitted}
+use Rattle.ranged1d.specs.Admitted.{readingAdmitted}
 use Rattle.ranged1d.specs.declared.Limit.{Limit}
 use Rattle.ranged1d.specs.Numbers.{raised}
-use Rattle.discrete.specs.declared.PixelIndex.{PixelIndex}
-use Rattle.discrete.specs.declared.PixelIndex.the-variants as pixel-index-is
+use Rattle.discrete.specs.declared.Index.{Index}
+use Rattle.discrete.specs.declared.Index.the-variants as index-is
 
 -- ---- the answer's cases, by 01's values and numbers
-abbrev pub tellPixelIndex : PixelIndex → Answer ℕ
-tellPixelIndex (pixel-index-is.At k) = given k
-tellPixelIndex pixel-index-is.Nothing = none
-tellPixelIndex (pixel-index-is.Refused r) = refused (numberOf r)
+abbrev pub tellIndex : Index → Answer ℕ
+tellIndex (index-is.At k) = given k
+tellIndex index-is.Nothing = none
+tellIndex (index-is.Refused r) = refused (numberOf r)
 
 -- ---- z ÷ w for w ≠ 0, rounded down, by the signs: of unlike ones, −(a + 1) ÷ b is rounded down to −(c + 1), with c the whole part of
 -- a ÷ b. `floor-rest` and `floor-negated` of proofs/Floor say that this is the floor.
@@ -47,4 +47,4 @@ indexFor d w n = cond (noIndex d w n) none (given (indexBy d w n))
 
 -- ---- `pixel_index`: 2 where the pixel or a limit is not admitted; else the index of x between p and q, if there is one
 unfoldable pub pixelIndex : ℤ → Limit → ℕ → Answer ℕ
-pixelIndex x l n = lowest (2 when not (pixelAdmitted x && limitAdmitted l) ∷ []) (indexFor (x -ℤ l .0) (l .1 -ℤ l .0) n)
+pixelIndex x l n = lowest (2 when not (readingAdmitted x l) ∷ []) (indexFor (x -ℤ l .0) (l .1 -ℤ l .0) n)

@@ -2,11 +2,11 @@
 ghost use mathlib.Core.Path.{_≡_};
 ghost use Prim.Native.Nat.{_≤_};
 ghost use lib.IntN.{natAbs};
-ghost use Rattle.discrete.specs.Index.{indexFor, tellPixelIndex, pixelIndex};
+ghost use Rattle.discrete.specs.Index.{indexFor, tellIndex, pixelIndex};
 use ranged1d::Limit;
 use ranged1d::Refusal;
 
-pub enum PixelIndex {
+pub enum Index {
     At(u64),
     Nothing,
     Refused(Refusal),
@@ -16,36 +16,33 @@ pub enum PixelIndex {
 // 2^53. A quotient below zero is read as 0, so that it may be cut toward zero, as `/` does, and not rounded down.
 // The source divides in f64 and finds the same index: the product is exact, and a quotient that is no whole number lies at least
 // 1 ÷ |w| below the next one, while rounding moves it by at most its 2^53rd part, which is less.
-fn index_within(d: i32, w: i32, n: u32) -> PixelIndex
+fn index_within(d: i32, w: i32, n: u32) -> Index
     requires { ⌜ natAbs d ≤ 2000000 ⌝ }
     requires { ⌜ natAbs w ≤ 2000000 ⌝ }
-    ensures { λ r. ⌜ tellPixelIndex r ≡ indexFor d w n ⌝ }
+    ensures { λ r. ⌜ tellIndex r ≡ indexFor d w n ⌝ }
 {
     if w == 0 {
         if 0 < d {
             if 0 < n {
-                return PixelIndex::Nothing;
+                return Index::Nothing;
             }
         }
-        return PixelIndex::At(0);
+        return Index::At(0);
     }
     let k = (d as i64) * (n as i64) / (w as i64);
     if k < 0 {
-        return PixelIndex::At(0);
+        return Index::At(0);
     }
-    PixelIndex::At(k as u64)
+    Index::At(k as u64)
 }
 
 // The index of pixel x on an axis with n values. n is a u32: the largest count of an axis is 2,000,000,001, and with any u32 the
 // product stays below 2^53, so that no count is refused.
-pub fn pixel_index(x: i32, limit: Limit, n: u32) -> PixelIndex
-    ensures { λ r. ⌜ tellPixelIndex r ≡ pixelIndex x limit n ⌝ }
+pub fn pixel_index(x: i32, limit: Limit, n: u32) -> Index
+    ensures { λ r. ⌜ tellIndex r ≡ pixelIndex x limit n ⌝ }
 {
-    if !ranged1d::pixel_admitted(x) {
-        return PixelIndex::Refused(Refusal::LimitNotAdmitted);
-    }
-    if !limit.admitted() {
-        return PixelIndex::Refused(Refusal::LimitNotAdmitted);
+    if !limit.admits(x) {
+        return Index::Refused(Refusal::LimitNotAdmitted);
     }
     let p = limit.0;
     let q = limit.1;

@@ -7,10 +7,10 @@ use native.Mathlib.Nat.{pow-le-pow-right, zero-lt-suc}
 use native.Mathlib.Numerals.{add-one}
 use native.Mathlib.Omega.{arith}
 use lib.Dec.{ltb, eqb}
-use lib.ListN.{length, replicate, length-append, length-replicate, replicate-append-replicate}
+use lib.ListN.{length, replicate, length-append, replicate-append-replicate}
 use borrow.Author.Tests.{le-ltb, eqb-true, eqb-false, ltb-true, ltb-false, ne-eqb}
 use Rattle.decimal.specs.Print.{digits, longNatural}
-use Rattle.decimal.proofs.Digits.{tenth-small, digits-fuel, digits-few, digits-one}
+use Rattle.decimal.proofs.Digits.{tenth-small, digits-fuel, digits-few, digits-one, filled-long}
 use Rattle.float.specs.declared.Parts.{Parts}
 use Rattle.float.specs.Text.{padded, ahead, withoutZeros, decimals}
 use Rattle.float.specs.Steps.{trimmed, parts, placed}
@@ -114,8 +114,7 @@ placed-some (suc k) d h = refl
 pub placed-length : (k d : ℕ) → d < 10 ^ k → length (placed k d) ≡ k
 placed-length zero d h = refl
 placed-length (suc k) d h =
-    let l = digits-few 19 k d h in
-    rw (length-append (replicate (suc k - length (longNatural d)) 48) (longNatural d), length-replicate {A = ℕ} (suc k - length (longNatural d)) 48) (omega arith)
+    filled-long 48 (suc k) (longNatural d) (digits-few 19 k d h)
 
 pub placed-most : (k d : ℕ) → (k ≡ 0 → ⊥) → d < 10 ^ k → length (longNatural d) ≤ k
 placed-most zero d z h = absurd (z refl)

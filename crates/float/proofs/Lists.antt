@@ -1,5 +1,5 @@
 -- Runs of stores, and how long a label is. Assumes nothing.
-use mathlib.Core.Path.{_≡_, refl, sym, ap, _∙_, subst}
+use mathlib.Core.Path.{_≡_, refl, sym, ap, _∙_}
 use mathlib.Core.List.{List, [], _∷_, _++_, append-nil}
 use mathlib.Core.Bool.{Bool, true, false, cond, _&&_}
 use Prim.Native.Nat.{ℕ, suc, _+_, _-_, _^_, _≤_, _<_, max}
@@ -13,8 +13,8 @@ use borrow.Author.Tests.{eqb-true, eqb-false}
 use borrow.Rule.Slice.PartMut.{putMid}
 use Rattle.ranged1d.proofs.Pieces.{put-more}
 use Rattle.decimal.specs.declared.LongText.{LongText}
-use Rattle.decimal.specs.Print.{longNatural, longTextOf}
-use Rattle.decimal.proofs.Digits.{digits-most, filled-to-long, unfilled-to}
+use Rattle.decimal.specs.Print.{longNatural}
+use Rattle.decimal.proofs.Digits.{digits-most, Told}
 use Rattle.ranged1d.specs.Answer.{Answer, given, listWritten}
 use Rattle.ranged1d.proofs.Answers.{all-written}
 use Rattle.float.specs.declared.Parts.{Parts}
@@ -42,16 +42,7 @@ copy-stored l r z y a q h e =
     put-more a (length r) (take a l) r l l y (length-take a l ∙ omega arith) (sym (take-append-drop a l)) (e ∙ rw (q, take-length r))
     ∙ sym (sets-eq r l a h)
 
--- ---- a text of crate decimal: t is l, filled with blanks
-pub record Told (t : LongText) (l : List ℕ) : Type 0 where
-  pub low : t .blanks ≤ 21
-  pub count : 21 - t .blanks ≡ length l
-  pub long : length (t .bytes) ≡ 21
-  pub text : drop (t .blanks) (t .bytes) ≡ l
-
-pub told : (t : LongText) (l : List ℕ) → length l ≤ 21 → t ≡ longTextOf l → Told t l
-told t l h e = subst (λ (u : LongText). Told u l) (sym e) (record { low = omega arith; count = omega arith; long = filled-to-long 21 l h; text = unfilled-to 21 l })
-
+-- ---- how long a number is
 pub long-most : (w : ℕ) → length (longNatural w) ≤ 21
 long-most w = omega (arith, digits-most 19 w)
 
@@ -63,7 +54,7 @@ pub front-long : (s : Bool) (w : ℕ) → length (front s w) ≤ 21
 front-long s w = omega (arith, front-most s w, digits-most 19 w)
 
 -- zeros and digits
-pub decimals-stored : (l : List ℕ) (at k d : ℕ) (t : LongText) → Told t (longNatural d) → (k ≡ 0 → ⊥)
+pub decimals-stored : (l : List ℕ) (at k d : ℕ) (t : LongText) → Told 21 (t .blanks) (t .bytes) (longNatural d) → (k ≡ 0 → ⊥)
     → sets (sets l at (replicate (k - (21 - t .blanks)) 48)) (at + (k - (21 - t .blanks))) (drop (t .blanks) (t .bytes)) ≡ sets l at (placed k d)
 decimals-stored l at k d t u z =
     ap (λ (r : List ℕ). sets (sets l at (replicate (k - (21 - t .blanks)) 48)) (at + (k - (21 - t .blanks))) r) (u .text)

@@ -4,7 +4,7 @@ use mathlib.Core.Bool.{Bool, true, false, cond, true≢false}
 use Prim.Native.Nat.{ℕ, _+_, _*_, _^_, _≤_, _<_}
 use native.Mathlib.Omega.{arith}
 use lib.Dec.{eqb}
-use lib.IntN.{ℤ, pos}
+use lib.IntN.{ℤ}
 use lib.Ieee.{Float, nan, inf, fin, up, down, binary64, lt, eq, neg, div, isNan}
 use lib.Ieee.Fits.{up-pos}
 use borrow.Author.Tests.{ltb-true, ltb-false, lt-ltb, le-ltb, eqb-true, eq-eqb}
@@ -12,16 +12,9 @@ use Rattle.ranged1d.proofs.Bools.{both-true}
 use Rattle.rounding.proofs.Order.{eq-zero}
 use Rattle.rounding.proofs.Signs.{zeroF}
 use Rattle.rounding.proofs.Sizes.{AtLeast}
-use Rattle.rounding.proofs.Steps.{oneF}
+use Rattle.rounding.proofs.Steps.{oneF, Below}
 use Rattle.float.specs.Text.{signOf, sizeOf}
 use Rattle.float.specs.Calls.{printable}
-
--- 2 ^ 53 and its negation
-abbrev high : Float
-high = fin false 1 (pos 53)
-
-abbrev low : Float
-low = fin true 1 (pos 53)
 
 -- ---- signs
 pub sign-below : (n : Float) → lt n zeroF ≡ true → true ≡ signOf n
@@ -66,17 +59,9 @@ size-is (fin true m e) = refl
 size-is (fin false m e) = refl
 
 -- ---- the size is below 2 ^ 53
-pub admit-yes : (n : Float) → lt n high ≡ true → lt low n ≡ true → true ≡ printable n
-unfolding lt printable
-admit-yes nan h l = sym h
-admit-yes (inf true) h l = sym l
-admit-yes (inf false) h l = sym h
-admit-yes (fin true m e) h l =
-    let q : m * up e * 1 < 9007199254740992 * down e = ltb-true (m * up e * 1) (9007199254740992 * down e) l in
-    sym (lt-ltb (m * up e) (2 ^ 53 * down e) (omega arith))
-admit-yes (fin false m e) h l =
-    let q : m * up e * 1 < 9007199254740992 * down e = ltb-true (m * up e * 1) (9007199254740992 * down e) h in
-    sym (lt-ltb (m * up e) (2 ^ 53 * down e) (omega arith))
+pub admit-yes : (n : Float) → Below (2 ^ 53) n → true ≡ printable n
+unfolding printable
+admit-yes (fin s m e) h = sym (lt-ltb (m * up e) (2 ^ 53 * down e) h)
 
 pub admit-no : (n : Float) → AtLeast (2 ^ 53) n → false ≡ printable n
 unfolding printable

@@ -6,7 +6,7 @@ use Prim.Native.Nat.{ℕ, _*_, _^_}
 use lib.Dec.{ltb, leb}
 use lib.ListN.{length}
 use lib.Ieee.{Float, nan, inf, fin, up, down}
-use Rattle.ranged1d.specs.Answer.{Answer, given, refused, _when_, lowest, written}
+use Rattle.ranged1d.specs.Answer.{Answer, given, refused, _when_, lowest, written, Reason}
 use Rattle.ranged1d.specs.Refusals.{numberOf}
 use Rattle.float.specs.declared.Label.{Label}
 use Rattle.float.specs.declared.Label.the-variants as label-is
@@ -25,14 +25,8 @@ printable (fin s m e) = ltb (m * up e) (2 ^ 53 * down e)
 
 -- `print`: 11 where n has no label, 12 where more than 10 decimals are allowed or more than 20 are asked for, 13 where the lent bytes are too few; else
 -- the number of the label's bytes, which stand at the start of the lent ones
+abbrev pub printReasons : Float → ℕ → ℕ → List ℕ → List Reason
+printReasons n h e old = 11 when not (printable n) ∷ 12 when not (leb h 10 && leb e 20) ∷ 13 when ltb (length old) (length (labelOf n h e)) ∷ []
+
 unfoldable pub labelPrint : Float → ℕ → ℕ → List ℕ → Answer ℕ × List ℕ
-labelPrint n h e old =
-    written
-    (lowest (
-    11 when not (printable n)
-    ∷ 12 when not (leb h 10 && leb e 20)
-    ∷ 13 when ltb (length old) (length (labelOf n h e))
-    ∷ []
-    ) (given (length (labelOf n h e))))
-    (labelOf n h e)
-    old
+labelPrint n h e old = written (lowest (printReasons n h e old) (given (length (labelOf n h e)))) (labelOf n h e) old

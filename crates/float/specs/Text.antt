@@ -9,7 +9,7 @@ use lib.ListN.{length, replicate}
 use lib.Ieee.{Float, nan, inf, fin, binary64, ofInt, sub, mul}
 use Rattle.rounding.specs.Integral.{floors, halves, floorOf}
 use Rattle.rounding.specs.Within.{wholeOf}
-use Rattle.decimal.specs.Print.{digit, minus, longNatural}
+use Rattle.decimal.specs.Print.{digit, longNatural, signedDigits, filledWith}
 use Rattle.float.specs.declared.Shortened.{Shortened}
 use Rattle.float.specs.Shorten.{shorten, tolerance}
 
@@ -48,7 +48,7 @@ nought = digit 0
 
 -- a text with zeros in front, to p bytes
 abbrev pub padded : ℕ → List ℕ → List ℕ
-padded p t = replicate (p - length t) nought ++ t
+padded p t = filledWith nought p t
 
 -- a byte in front of a text, unless it is a zero with nothing behind it
 abbrev pub ahead : ℕ → List ℕ → List ℕ
@@ -77,7 +77,7 @@ pointed (c ∷ t) = point ∷ c ∷ t
 
 -- the whole part with its sign
 abbrev pub front : Bool → ℕ → List ℕ
-front s w = cond s (minus ∷ longNatural w) (longNatural w)
+front s w = signedDigits s 19 w
 
 -- sign, whole part, point, decimals, and zeros to e decimals
 abbrev pub composed : Bool → ℕ → List ℕ → ℕ → List ℕ

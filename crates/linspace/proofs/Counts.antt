@@ -12,7 +12,7 @@ use lib.IntN.{ℤ, _-ℤ_}
 use lib.ListN.{length, drop, getD}
 use lib.Ieee.{Float, lt}
 use Rattle.ranged1d.specs.Answer.{Answer, given, none, refused}
-use Rattle.ranged1d.specs.Admitted.{pixelAdmitted, limitAdmitted}
+use Rattle.ranged1d.specs.Admitted.{readingAdmitted}
 use Rattle.ranged1d.specs.declared.Limit.{Limit}
 use Rattle.real.specs.Place.{realPlace}
 use Rattle.discrete.specs.Index.{noIndex, indexBy, indexFor, pixelIndex}
@@ -102,16 +102,16 @@ module _ (a b d : Float) where
     place-by h e = rules.place-is real a b d refl (counts-are ∙ h) v limit e
 
   -- ---- `unmap`
-  module _ (x : ℤ) (limit : Limit) (p : pixelAdmitted x ≡ true) (q : limitAdmitted limit ≡ true) where
+  module _ (x : ℤ) (limit : Limit) (p : readingAdmitted x limit ≡ true) where
     reading-by : {s : Answer ℕ} → stepSize real a b d ≡ s → onceListed s (nthOf l (pixelIndex x limit (length l))) ≡ stepReading real a b d x limit
-    reading-by h = rules.reading-is real a b d refl (counts-are ∙ h) x limit (rw (p, q) refl)
+    reading-by h = rules.reading-is real a b d refl (counts-are ∙ h) x limit p
 
     pub reading-against : against real a b d ≡ true → _≡_ {A = Answer Float} (refused 6) (stepReading real a b d x limit)
     reading-against e = reading-by (sym (axis.size-against a b d e))
 
     pixel-read : (n : ℕ) → pixelIndex x limit n ≡ indexFor (x -ℤ limit .0) (limit .1 -ℤ limit .0) n
     unfolding pixelIndex
-    pixel-read n = rw (p, q) refl
+    pixel-read n = rw p refl
 
     pub reading-empty : against real a b d ≡ false → hasEntries l ≡ false → _≡_ {A = Answer Float} none (stepReading real a b d x limit)
     unfolding indexFor

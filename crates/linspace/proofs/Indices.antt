@@ -19,7 +19,7 @@ use Rattle.search.specs.Search as rule
 use Rattle.search.specs.Lists.{ascends, searchable, realSearch}
 use Rattle.search.specs.Settled.{settled, settledNan, forNan}
 use Rattle.search.specs.Steps.{PlaceOf}
-use Rattle.search.specs.Steps as search-steps
+use Rattle.search.specs.Lists as in-list
 use Rattle.search.specs.declared.RoundingMethod.{RoundingMethod}
 use Rattle.search.specs.declared.RoundingMethod.the-variants.{Exact, Ceil, Floor, Round}
 use Rattle.search.proofs.Orders.{Order, way}
@@ -51,7 +51,7 @@ summand x d h = augend d x (subst (λ (z : Float). eq z z ≡ true) (add-comm-fl
 -- ---- where there is an entry
 module _ (a b d : Float) (s : hasEntries (stepped real a b d) ≡ true) where
   -- a step that does not lead away leads on
-  pub onward : against real a b d ≡ false → search-steps.toward (lt a b) lt (zeroOf false) d ≡ true
+  pub onward : against real a b d ≡ false → in-list.toward (lt a b) lt (zeroOf false) d ≡ true
   onward e = let r = runs real real-order a b d s in leading real real-order a b d (lt a b) (r .0) (summand a d (way real-order (lt a b) .left (plusStep d a) b (r .1))) (zeros-equal false false) e
 
   -- b is a number
@@ -75,13 +75,13 @@ module _ (a b d : Float) where
   abbrev rises : Bool
   rises = lt a b
 
-  abbrev w : Order Float (search-steps.toward rises lt) eq
+  abbrev w : Order Float (in-list.toward rises lt) eq
   w = way real-order rises
 
   module _ (f : T (fits binary64 a)) (e : against real a b d ≡ false) (s : hasEntries l ≡ true) (few : length l ≤ 65536) where
-    list-ascends : ascends (search-steps.toward rises lt) l ≡ true
+    list-ascends : ascends (in-list.toward rises lt) l ≡ true
     list-ascends =
-        ap (ascends (search-steps.toward rises lt)) (stepped-run real real-order a b d s)
+        ap (ascends (in-list.toward rises lt)) (stepped-run real real-order a b d s)
         ∙ run-ascends rises b d 65537 a f (onward a b d s e) (omega (arith, few, stepped-total a b d s))
 
     list-own : every (λ z. eq z z) l ≡ true
@@ -93,7 +93,7 @@ module _ (a b d : Float) where
     unfolding searchable
     list-searched = rw list-own (go rises list-ascends)
       where
-        go : (t : Bool) → ascends (search-steps.toward t lt) l ≡ true → (ascends lt l || ascends (λ x y. lt y x) l) ≡ true
+        go : (t : Bool) → ascends (in-list.toward t lt) l ≡ true → (ascends lt l || ascends (λ x y. lt y x) l) ≡ true
         go true h = rw h refl
         go false h = or-right (ascends lt l) (ascends (λ x y. lt y x) l) h
 
@@ -105,28 +105,28 @@ module _ (a b d : Float) where
     -- any other target, by its place
     module _ (v : Float) (self : eq v v ≡ true) (method : RoundingMethod) (n : ℕ) (left right : Float) (r : Parted (toward real rises b) (plusStep d) 65537 a (toward real rises v) n left right) where
       inside : n ≤ length l
-      inside = omega (arith, r .walked .rest, stepped-total a b d s)
+      inside = omega (arith, r .going .walked .rest, stepped-total a b d s)
 
       here : n < length l → right ≡ getD l n v
-      here h = r .walked .at ∙ sym (entry-of a b d v n h)
+      here h = r .going .walked .at ∙ sym (entry-of a b d v n h)
 
-      place : PlaceOf (search-steps.toward rises lt) l v v n
+      place : PlaceOf (in-list.toward rises lt) l v v n
       place = record {
         within = inside;
-        before = λ k h. subst (λ (z : Float). search-steps.toward rises lt z v ≡ true) (sym (entry-of a b d v k (omega (arith, h, inside)))) (r .front k h);
+        before = λ k h. subst (λ (z : Float). in-list.toward rises lt z v ≡ true) (sym (entry-of a b d v k (omega (arith, h, inside)))) (r .going .front k h);
         from = λ k h m. beneath w l v v (sorted w v l list-ascends) 0 (length l) n (enclosed w l v v) (omega arith) (omega (arith, h, m)) (stop (omega (arith, h, m))) .from k h m;
       }
         where
-          stop : n < length l → search-steps.toward rises lt (getD l n v) v ≡ false
+          stop : n < length l → in-list.toward rises lt (getD l n v) v ≡ false
           stop h =
               let g : n < length (entries (toward real rises b) (plusStep d) 65537 a) = omega (arith, h, stepped-total a b d s) in
-              subst (λ (z : Float). search-steps.toward rises lt z v ≡ false) (here h)
-              (r .stopped (omega (arith, h, few)) (subst (λ (z : Float). toward real rises b z ≡ true) (sym (r .walked .at)) (entry-passes (toward real rises b) (plusStep d) 65537 a n g)))
+              subst (λ (z : Float). in-list.toward rises lt z v ≡ false) (here h)
+              (r .stopped (omega (arith, h, few)) (subst (λ (z : Float). toward real rises b z ≡ true) (sym (r .going .walked .at)) (entry-passes (toward real rises b) (plusStep d) 65537 a n g)))
 
       pub index-found : settled reals method rises (length l) n left v right ≡ stepIndexOf real a b d v method
       unfolding stepIndexOf
       index-found =
-          sym (settles reals v real-order rises method l n left right (sorted w v l list-ascends) (ordinary eq v l list-own) self place here (λ j q. r .last j q ∙ sym (entry-of a b d v j (omega (arith, q, inside)))))
+          sym (settles reals v real-order rises method l n left right (sorted w v l list-ascends) (ordinary eq v l list-own) self place here (λ j q. r .going .last j q ∙ sym (entry-of a b d v j (omega (arith, q, inside)))))
           ∙ rw (e, le-ltb 65536 (length l) few, self) refl
 
   module _ (v : Float) (method : RoundingMethod) where

@@ -12,7 +12,7 @@ use lib.Ieee.{Float, binary64, fits, lt, eq}
 use lib.Ieee.Fits.{add-fits}
 use Rattle.real.proofs.Signs.{zeroOf, zeros-equal, Alike, alike-through, add-left}
 use Rattle.search.specs.Lists.{goesOn, ascends}
-use Rattle.search.specs.Steps as search-steps
+use Rattle.search.specs.Lists as in-list
 use Rattle.search.proofs.Orders.{Order, way}
 use Rattle.search.proofs.RealOrder.{real-order}
 use Rattle.linspace.specs.List.{real, entries, toward}
@@ -59,7 +59,7 @@ module _ (rises : Bool) (b d : Float) where
   abbrev pub p : Float → Bool
   p = toward real rises b
 
-  abbrev pub w : Order Float (search-steps.toward rises lt) eq
+  abbrev pub w : Order Float (in-list.toward rises lt) eq
   w = way real-order rises
 
   alike-passes : (x y : Float) → Alike x y → p x ≡ true → p y ≡ true
@@ -69,21 +69,21 @@ module _ (rises : Bool) (b d : Float) where
 
   -- the step leads toward b
   abbrev pub Onward : Type 0
-  Onward = search-steps.toward rises lt (zeroOf false) d ≡ true
+  Onward = in-list.toward rises lt (zeroOf false) d ≡ true
 
-  pub never-behind : (x : Float) → T (fits binary64 x) → Onward → search-steps.toward rises lt (plusStep d x) x ≡ false
+  pub never-behind : (x : Float) → T (fits binary64 x) → Onward → in-list.toward rises lt (plusStep d x) x ≡ false
   never-behind x f o = go rises o
     where
-      go : (r : Bool) → search-steps.toward r lt (zeroOf false) d ≡ true → search-steps.toward r lt (plusStep d x) x ≡ false
+      go : (r : Bool) → in-list.toward r lt (zeroOf false) d ≡ true → in-list.toward r lt (plusStep d x) x ≡ false
       go true o = never-back x d f o
       go false o = never-on x d f o
 
-  step-on : (x : Float) → T (fits binary64 x) → Onward → p x ≡ true → p (plusStep d x) ≡ true → (search-steps.toward rises lt x (plusStep d x) ≡ true) ⊎ Endless p (plusStep d) (search-steps.toward rises lt) x
+  step-on : (x : Float) → T (fits binary64 x) → Onward → p x ≡ true → p (plusStep d x) ≡ true → (in-list.toward rises lt x (plusStep d x) ≡ true) ⊎ Endless p (plusStep d) (in-list.toward rises lt) x
   step-on x f o h k = go (eq (plusStep d x) x) refl
     where
-      go : (t : Bool) → eq (plusStep d x) x ≡ t → (search-steps.toward rises lt x (plusStep d x) ≡ true) ⊎ Endless p (plusStep d) (search-steps.toward rises lt) x
+      go : (t : Bool) → eq (plusStep d x) x ≡ t → (in-list.toward rises lt x (plusStep d x) ≡ true) ⊎ Endless p (plusStep d) (in-list.toward rises lt) x
       go true e = inr (endless p (plusStep d) Alike (λ y z s. alike-through (plusStep d) (add-left d) s) alike-passes x (eq-written x (plusStep d x) f (add-fits binary64 x d) (w .even x (plusStep d x) ∙ e)) h)
       go false e = inl (w .total (plusStep d x) x (w .left (plusStep d x) b k) (w .left x b h) (never-behind x f o) e)
 
-  pub run-ascends : (n : ℕ) (a : Float) → T (fits binary64 a) → Onward → length (entries p (plusStep d) n a) < n → ascends (search-steps.toward rises lt) (entries p (plusStep d) n a) ≡ true
-  run-ascends n a f o h = ordered p (plusStep d) (search-steps.toward rises lt) (λ x. T (fits binary64 x)) (λ x. add-fits binary64 x d) (λ x g. step-on x g o) n a f h
+  pub run-ascends : (n : ℕ) (a : Float) → T (fits binary64 a) → Onward → length (entries p (plusStep d) n a) < n → ascends (in-list.toward rises lt) (entries p (plusStep d) n a) ≡ true
+  run-ascends n a f o h = ordered p (plusStep d) (in-list.toward rises lt) (λ x. T (fits binary64 x)) (λ x. add-fits binary64 x d) (λ x g. step-on x g o) n a f h

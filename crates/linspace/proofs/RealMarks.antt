@@ -14,7 +14,7 @@ use Rattle.ranged1d.proofs.Answers.{too-short, all-written}
 use Rattle.numeric.specs.declared.KeyPoints.{KeyPoints}
 use Rattle.numeric.specs.Marks.{listOf}
 use Rattle.numeric.specs.Calls.{wholePlan}
-use Rattle.numeric.proofs.Lists.{entry, length-of, list-ext}
+use Rattle.numeric.proofs.Lists.{length-of, list-ext}
 use Rattle.linspace.specs.List.{real, stepped, against}
 use Rattle.linspace.specs.Calls.{hasEntries, marksOf, stepMarks, stepKeyPoints}
 use Rattle.linspace.specs.RealSteps.{plusStep, after}

@@ -8,17 +8,17 @@ use borrow.Author.Tests.{lt-ltb, le-ltb, ltb-false}
 use lib.Dec.{ltb, eqb}
 use lib.IntN.{ℤ}
 use lib.ListN.{length, drop}
-use Rattle.ranged1d.specs.Answer.{Answer, given, refused, _when_, lowest, written, andThen, listWritten}
-use Rattle.ranged1d.specs.Admitted.{pixelAdmitted, limitAdmitted}
+use Rattle.ranged1d.specs.Answer.{Answer, given, refused, Reason, _when_, lowest, written, andThen, listWritten}
+use Rattle.ranged1d.specs.Admitted.{readingAdmitted}
 use Rattle.ranged1d.specs.declared.Limit.{Limit}
 use Rattle.ranged1d.proofs.Answers.{given-is}
 use Rattle.ranged1d.proofs.Lowest.{given-tests, lowest-then}
 use Rattle.discrete.specs.Index.{pixelIndex}
-use Rattle.real.specs.Place.{isBeyond, number}
+use Rattle.real.specs.Place.{number, realPlaceReasons}
 use Rattle.search.specs.declared.RoundingMethod.{RoundingMethod}
 use Rattle.search.specs.Search as rule
 use Rattle.linspace.specs.List.{Kind, most, stepped, against, tooLong, axisAdmitted}
-use Rattle.linspace.specs.Calls.{nth, hasEntries, nthOf, stepValues, stepSize, stepFromIndex, stepIndexOf, stepSpot, stepPlace, stepReading, stepMarks, stepKeyPoints}
+use Rattle.linspace.specs.Calls.{nth, hasEntries, nthOf, unlisted, stepValues, stepSize, stepFromIndex, stepIndexOf, stepSpot, stepPlace, stepReading, stepMarks, stepKeyPoints}
 
 -- an answer once the entries are counted
 abbrev pub onceListed : {B : Type 0} → Answer ℕ → Answer B → Answer B
@@ -36,7 +36,7 @@ seven false u r = refl
 module _ {A : Type 0} (kind : Kind A) (a b d : A) where
   -- the number of entries, or 6 or 7
   abbrev pub counts : Answer ℕ
-  counts = lowest (6 when against kind a b d ∷ 7 when tooLong kind a b d ∷ []) (given (length (stepped kind a b d)))
+  counts = lowest (unlisted kind a b d) (given (length (stepped kind a b d)))
 
   -- what is known once they are counted
   pub record Counted (n : ℕ) : Type 0 where
@@ -47,19 +47,22 @@ module _ {A : Type 0} (kind : Kind A) (a b d : A) where
 
   pub counted : {n : ℕ} → counts ≡ given n → Counted n
   counted h =
-      let g = given-tests (6 when against kind a b d ∷ 7 when tooLong kind a b d ∷ []) (given (length (stepped kind a b d))) h in
+      let g = given-tests (unlisted kind a b d) (given (length (stepped kind a b d))) h in
       let s = given-is (g .1) in
       record { onward = g .0 .0; short = g .0 .1 .0; all = sym s; few = omega (arith, s, ltb-false most (length (stepped kind a b d)) (g .0 .1 .0)) }
 
   -- an answer with 6 and 7 in front of it, by the count
-  once-listed : {B : Type 0} {s : Answer ℕ} → counts ≡ s → (r : Answer B) → lowest (6 when against kind a b d ∷ 7 when tooLong kind a b d ∷ []) r ≡ onceListed s r
+  once-listed : {B : Type 0} {s : Answer ℕ} → counts ≡ s → (r : Answer B) → lowest (unlisted kind a b d) r ≡ onceListed s r
   once-listed e r =
-      sym (lowest-then (6 when against kind a b d ∷ 7 when tooLong kind a b d ∷ []) (given (length (stepped kind a b d))) (λ n. r))
+      sym (lowest-then (unlisted kind a b d) (given (length (stepped kind a b d))) (λ n. r))
       ∙ ap (λ (s : Answer ℕ). onceListed s r) e
 
   -- the place by the ends alone
+  abbrev endsReasons : A → Limit → List Reason
+  endsReasons v limit = 1 when not (kind .admitted v) ∷ realPlaceReasons (kind .float a) (kind .float b) (kind .float v) limit
+
   abbrev pub endsPlace : A → Limit → Answer ℤ
-  endsPlace v limit = lowest (1 when not (kind .admitted v) ∷ 2 when not (limitAdmitted limit) ∷ 5 when isBeyond (stepSpot kind a b d v limit) ∷ []) (given (number (stepSpot kind a b d v limit)))
+  endsPlace v limit = lowest (endsReasons v limit) (given (number (stepSpot kind a b d v limit)))
 
   -- ---- 1: an end or the step is not admitted
   module _ (h : axisAdmitted kind a b d ≡ false) where
@@ -101,7 +104,7 @@ module _ {A : Type 0} (kind : Kind A) (a b d : A) where
     unfolding stepIndexOf
     index-value-refused v method u = rw (h, u) refl
 
-    pub reading-outside : (x : ℤ) (limit : Limit) → (pixelAdmitted x && limitAdmitted limit) ≡ false → _≡_ {A = Answer A} (refused 2) (stepReading kind a b d x limit)
+    pub reading-outside : (x : ℤ) (limit : Limit) → readingAdmitted x limit ≡ false → _≡_ {A = Answer A} (refused 2) (stepReading kind a b d x limit)
     unfolding stepReading
     reading-outside x limit u = rw (h, u) refl
 
@@ -123,11 +126,11 @@ module _ {A : Type 0} (kind : Kind A) (a b d : A) where
       pub place-is : (v : A) (limit : Limit) {r : Answer ℤ} → endsPlace v limit ≡ r → placeListed r s ≡ stepPlace kind a b d v limit
       unfolding stepPlace
       place-is v limit f =
-          let ends = 1 when not (kind .admitted v) ∷ 2 when not (limitAdmitted limit) ∷ 5 when isBeyond (stepSpot kind a b d v limit) ∷ [] in
+          let ends = endsReasons v limit in
           let z = number (stepSpot kind a b d v limit) in
           ap (λ (r : Answer ℤ). placeListed r s) (sym f) ∙ rw h (lowest-then ends (given z) (λ z. onceListed s (given z)) ∙ ap (lowest ends) (sym (once-listed e (given z))))
 
-      pub reading-is : (x : ℤ) (limit : Limit) → (pixelAdmitted x && limitAdmitted limit) ≡ true
+      pub reading-is : (x : ℤ) (limit : Limit) → readingAdmitted x limit ≡ true
           → onceListed s (nthOf (stepped kind a b d) (pixelIndex x limit (length (stepped kind a b d)))) ≡ stepReading kind a b d x limit
       unfolding stepReading pixelIndex
       reading-is x limit u = rw (h, u) (sym (once-listed e _))

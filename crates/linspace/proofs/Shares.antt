@@ -14,7 +14,7 @@ use lib.Ieee.{Float}
 use Rattle.ranged1d.specs.Answer.{given, none}
 use Rattle.ranged1d.specs.Numbers.{raised}
 use Rattle.discrete.specs.Index.{floorDiv, noIndex, indexBy, indexFor}
-use Rattle.discrete.proofs.Index.{at-limits, past-limits}
+use Rattle.discrete.proofs.Within.{at-limits, past-limits}
 use Rattle.discrete.proofs.Theorems.{index-negated}
 use Rattle.linspace.specs.Calls.{nth, nthOf}
 use Rattle.linspace.specs.RealSteps.{all, Shares}

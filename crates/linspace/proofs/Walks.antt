@@ -14,7 +14,7 @@ use Rattle.numeric.specs.Marks.{listOf}
 use Rattle.numeric.proofs.Lists.{entry, list-cons, list-ext}
 use Rattle.linspace.specs.List.{entries}
 use Rattle.linspace.specs.Calls.{nth}
-use Rattle.linspace.specs.RealSteps.{after, Walked, Reached}
+use Rattle.linspace.specs.RealSteps.{after, Walked, Going, Reached}
 
 -- ---- entries by their index
 module _ {A : Type 0} where
@@ -76,28 +76,23 @@ module _ {A : Type 0} (passes : A → Bool) (next : A → A) where
   entries-none zero x e = refl
   entries-none (suc n) x e = absurd (omega (arith, e))
 
-  pub entries-few : (n : ℕ) (x : A) → length (entries passes next n x) ≤ n
-  entries-few zero x = rw (entries-none zero x refl) (omega arith)
-  entries-few (suc n) x = go (passes x) refl (entries-few n (next x))
+  -- what holds of an empty list, and of one entry more in front of it, holds of the list
+  entries-by : (P : ℕ → A → List A → Type 0) → ((n : ℕ) (x : A) → P n x []) → ((n : ℕ) (x : A) (l : List A) → passes x ≡ true → P n (next x) l → P (suc n) x (x ∷ l)) → (n : ℕ) (x : A) → P n x (entries passes next n x)
+  entries-by P empty more zero x = rw (entries-none zero x refl) (empty zero x)
+  entries-by P empty more (suc n) x = go (passes x) refl (entries-by P empty more n (next x))
     where
-      go : (t : Bool) → passes x ≡ t → length (entries passes next n (next x)) ≤ n → length (entries passes next (suc n) x) ≤ suc n
-      go true p h = rw (entries-on n x p) (omega (arith, h))
-      go false p h = rw (entries-off (suc n) x p) (omega arith)
+      go : (t : Bool) → passes x ≡ t → P n (next x) (entries passes next n (next x)) → P (suc n) x (entries passes next (suc n) x)
+      go true p r = rw (entries-on n x p) (more n x (entries passes next n (next x)) p r)
+      go false p r = rw (entries-off (suc n) x p) (empty (suc n) x)
+
+  pub entries-few : (n : ℕ) (x : A) → length (entries passes next n x) ≤ n
+  entries-few = entries-by (λ n x l. length l ≤ n) (λ n x. omega arith) (λ n x l p h. omega (arith, h))
 
   -- the list is the first after no step, after one, after two, and so on
   pub entries-are : (n : ℕ) (x : A) → entries passes next n x ≡ listOf (λ k. after next k x) (length (entries passes next n x))
-  entries-are zero x = rw (entries-none zero x refl) refl
-  entries-are (suc n) x = go (passes x) refl (entries-are n (next x))
-    where
-      go : (t : Bool) → passes x ≡ t → entries passes next n (next x) ≡ listOf (λ k. after next k (next x)) (length (entries passes next n (next x)))
-          → entries passes next (suc n) x ≡ listOf (λ k. after next k x) (length (entries passes next (suc n) x))
-      go true p e =
-          let l = length (entries passes next n (next x)) in
-          entries-on n x p
-          ∙ ap (λ (z : List A). x ∷ z) (e ∙ list-ext (λ k. after next k (next x)) (λ k. after next (suc k) x) l (λ k h. sym (after-front next k x)))
-          ∙ steps-cons next x l
-          ∙ ap (λ (z : List A). listOf (λ k. after next k x) (length z)) (sym (entries-on n x p))
-      go false p e = rw (entries-off (suc n) x p) refl
+  entries-are =
+      entries-by (λ n x l. l ≡ listOf (λ k. after next k x) (length l)) (λ n x. refl)
+      (λ n x l p e. ap (λ (z : List A). x ∷ z) (e ∙ list-ext (λ k. after next k (next x)) (λ k. after next (suc k) x) (length l) (λ k h. sym (after-front next k x))) ∙ steps-cons next x (length l))
 
   pub entry-is : (n : ℕ) (x d : A) (k : ℕ) → k < length (entries passes next n x) → getD (entries passes next n x) k d ≡ after next k x
   entry-is n x d k h =
@@ -105,13 +100,12 @@ module _ {A : Type 0} (passes : A → Bool) (next : A → A) where
 
   pub entry-passes : (n : ℕ) (x : A) (k : ℕ) → k < length (entries passes next n x) → passes (after next k x) ≡ true
   unfolding after
-  entry-passes zero x k h = absurd (omega (arith, h, entries-few zero x))
-  entry-passes (suc n) x k h = go (passes x) refl k h (entry-passes n (next x))
+  entry-passes =
+      entries-by (λ n x l. (k : ℕ) → k < length l → passes (after next k x) ≡ true) (λ n x k h. absurd (omega (arith, h))) more
     where
-      go : (t : Bool) → passes x ≡ t → (k : ℕ) → k < length (entries passes next (suc n) x) → ((j : ℕ) → j < length (entries passes next n (next x)) → passes (after next j (next x)) ≡ true) → passes (after next k x) ≡ true
-      go true p zero h r = p
-      go true p (suc k) h r = subst (λ (z : A). passes z ≡ true) (sym (after-front next k x)) (r k (omega (arith, h, ap length (entries-on n x p))))
-      go false p k h r = absurd (omega (arith, h, ap length (entries-off (suc n) x p)))
+      more : (n : ℕ) (x : A) (l : List A) → passes x ≡ true → ((k : ℕ) → k < length l → passes (after next k (next x)) ≡ true) → (k : ℕ) → k < length (x ∷ l) → passes (after next k x) ≡ true
+      more n x l p r zero h = p
+      more n x l p r (suc k) h = subst (λ (z : A). passes z ≡ true) (sym (after-front next k x)) (r k (omega (arith, h)))
 
   -- ---- a walk, entry by entry: those that are passed and those that are left
   module _ (most : ℕ) where
@@ -151,17 +145,12 @@ module _ {A : Type 0} (passes : A → Bool) (next : A → A) where
           go (yes u) (no v) = absurd (omega (arith, h, u, total-full n x (omega (arith, v))))
           go (no u) _ = omega (arith, u, w .short)
 
-      -- a walk on which every entry so far passed a test
-      pub record Going (test : A → Bool) (n : ℕ) (left x : A) : Type 0 where
-        pub walked : Walked passes next most a n x
-        pub front : (j : ℕ) → j < n → test (after next j a) ≡ true
-        pub last : (j : ℕ) → suc j ≡ n → left ≡ after next j a
-
+      -- every entry so far meets a test
       module _ (test : A → Bool) where
-        pub going-starts : (t : A) → Going test 0 t a
+        pub going-starts : (t : A) → Going passes next most a test 0 t a
         going-starts t = record { walked = walk-starts; front = λ j h. absurd (omega (arith, h)); last = λ j e. absurd (omega (arith, e)) }
 
-        pub going-on : (n : ℕ) (left x : A) → Going test n left x → n < most → passes x ≡ true → test x ≡ true → Going test (n + 1) x (next x)
+        pub going-on : (n : ℕ) (left x : A) → Going passes next most a test n left x → n < most → passes x ≡ true → test x ≡ true → Going passes next most a test (n + 1) x (next x)
         going-on n left x g h p q = record { walked = walk-on n x (g .walked) h p; front = λ j l. go j l (decLt j n); last = λ j e. here j (omega (arith, e)) }
           where
             here : (j : ℕ) → n ≡ j → x ≡ after next j a

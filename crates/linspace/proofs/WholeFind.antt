@@ -15,9 +15,9 @@ use Rattle.numeric.specs.Marks.{listOf}
 use Rattle.numeric.specs.Calls.{element}
 use Rattle.numeric.proofs.Lists.{length-of, entry}
 use Rattle.search.specs.Search.{wholes}
-use Rattle.search.specs.Lists.{ascends}
+use Rattle.search.specs.Lists.{toward, ascends}
 use Rattle.search.specs.Settled.{settled}
-use Rattle.search.specs.Steps.{toward, PlaceOf}
+use Rattle.search.specs.Steps.{PlaceOf}
 use Rattle.search.specs.declared.RoundingMethod.{RoundingMethod}
 use Rattle.search.proofs.Rules.{whole-found}
 use Rattle.search.specs.Search as rule

@@ -17,7 +17,7 @@ use Rattle.ranged1d.proofs.Whole.{sub-cases, minus-far, turned-far, minus-shift
 use Rattle.numeric.specs.Marks.{listOf}
 use Rattle.numeric.specs.Calls.{element}
 use Rattle.numeric.proofs.Lists.{length-of}
-use Rattle.search.specs.Steps.{toward}
+use Rattle.search.specs.Lists.{toward}
 use Rattle.search.proofs.WholeOrder.{whole-order}
 use Rattle.search.proofs.Orders.{not-itself}
 use Rattle.linspace.specs.List.{whole, most, entries, run, stepped, against, tooLong, axisAdmitted}

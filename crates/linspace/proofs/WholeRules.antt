@@ -13,7 +13,7 @@ use Rattle.ranged1d.specs.Answer.{Answer, given, refused}
 use Rattle.ranged1d.specs.declared.Limit.{Limit}
 use Rattle.ranged1d.proofs.Whole.{fits32}
 use Rattle.real.specs.Place.{wholePlace}
-use Rattle.linspace.specs.List.{whole, most, stepped, against, axisAdmitted}
+use Rattle.linspace.specs.List.{whole, most, against, axisAdmitted}
 use Rattle.linspace.specs.WholeSteps.{wholeCount, Known}
 use Rattle.linspace.proofs.Rules.{counts, Counted, counted, endsPlace}
 use Rattle.linspace.proofs.WholeList.{sloped, too-long, not-long, length-is, admitted-near}

@@ -3,17 +3,17 @@
 -- nothing.
 use Prim.Native.Nat.{ℕ, zero, suc, _-_}
 use mathlib.Core.Bool.{Bool, cond, not, _&&_, _||_}
-use mathlib.Core.List.{List, [], _∷_, map}
+use mathlib.Core.List.{List, [], _∷_, _++_, map}
 use lib.Dec.{ltb, eqb}
 use lib.IntN.{ℤ, _-ℤ_}
 use lib.ListN.{length, getD}
-use Rattle.ranged1d.specs.Answer.{Answer, given, none, refused, _when_, lowest, written, andThen}
+use Rattle.ranged1d.specs.Answer.{Answer, given, none, refused, Reason, _when_, lowest, written, andThen}
 use Rattle.ranged1d.specs.Refusals.{numberOf}
-use Rattle.ranged1d.specs.Admitted.{pixelAdmitted, limitAdmitted}
+use Rattle.ranged1d.specs.Admitted.{readingAdmitted}
 use Rattle.ranged1d.specs.declared.Limit.{Limit}
 use Rattle.rounding.specs.declared.Whole.{Whole}
 use Rattle.discrete.specs.Index.{indexFor}
-use Rattle.real.specs.Place.{spot, isBeyond, number}
+use Rattle.real.specs.Place.{spot, number, realPlaceReasons}
 use Rattle.numeric.specs.Calls.{indexMarks}
 use Rattle.search.specs.Search.{search}
 use Rattle.search.specs.Lists.{nanTarget}
@@ -45,21 +45,26 @@ marksOf x l m = cond (hasEntries l) (map (λ k. getD l k x) (indexMarks 0 (lengt
 
 module _ {A : Type 0} (kind : Kind A) (a b d : A) where
   -- ---- `values`: the list itself; 7 also where it is longer than the lent list
-  unfoldable pub stepValues : List A → Answer ℕ × List A
-  stepValues old =
-      written
-      (lowest (
+  abbrev pub valuesReasons : List A → List Reason
+  valuesReasons old =
       1 when not (axisAdmitted kind a b d)
       ∷ 6 when against kind a b d
       ∷ 7 when (tooLong kind a b d || ltb (length old) (length (stepped kind a b d)))
       ∷ []
-      ) (given (length (stepped kind a b d))))
-      (stepped kind a b d)
-      old
 
-  -- ---- `size`, `from_index`: the number of entries, and the entry at an index; 1, 6 and 7 where the list cannot be counted
+  unfoldable pub stepValues : List A → Answer ℕ × List A
+  stepValues old = written (lowest (valuesReasons old) (given (length (stepped kind a b d)))) (stepped kind a b d) old
+
+  -- ---- why a list cannot be counted: 6 and 7
+  abbrev pub unlisted : List Reason
+  unlisted = 6 when against kind a b d ∷ 7 when tooLong kind a b d ∷ []
+
+  -- ---- `size`, `from_index`: the number of entries, and the entry at an index; 1 where the axis is not admitted
+  abbrev pub countReasons : List Reason
+  countReasons = 1 when not (axisAdmitted kind a b d) ∷ unlisted
+
   abbrev pub counting : {B : Type 0} → Answer B → Answer B
-  counting r = lowest (1 when not (axisAdmitted kind a b d) ∷ 6 when against kind a b d ∷ 7 when tooLong kind a b d ∷ []) r
+  counting r = lowest countReasons r
 
   unfoldable pub stepSize : Answer ℕ
   stepSize = counting (given (length (stepped kind a b d)))
@@ -68,56 +73,41 @@ module _ {A : Type 0} (kind : Kind A) (a b d : A) where
   stepFromIndex k = counting (nth (stepped kind a b d) k)
 
   -- ---- `index_of`: the index that the chosen search finds for v; 9 as for a lent list
-  unfoldable pub stepIndexOf : A → RoundingMethod → Answer ℕ
-  stepIndexOf v method =
-      lowest (
-      1 when not (axisAdmitted kind a b d && kind .admitted v)
-      ∷ 6 when against kind a b d
-      ∷ 7 when tooLong kind a b d
-      ∷ 9 when nanTarget (kind .numbers) v method (length (stepped kind a b d))
-      ∷ []
-      ) (search (kind .numbers) v method (stepped kind a b d))
+  abbrev pub stepIndexReasons : A → RoundingMethod → List Reason
+  stepIndexReasons v method =
+      1 when not (axisAdmitted kind a b d && kind .admitted v) ∷ unlisted ++ (9 when nanTarget (kind .numbers) v method (length (stepped kind a b d)) ∷ [])
 
-  -- ---- `map`: the place of v, by the ends alone
+  unfoldable pub stepIndexOf : A → RoundingMethod → Answer ℕ
+  stepIndexOf v method = lowest (stepIndexReasons v method) (search (kind .numbers) v method (stepped kind a b d))
+
+  -- ---- `map`: the place of v, by the ends alone; 2 and 5 as on a real axis, before 6 and 7
   abbrev pub stepSpot : A → Limit → Whole
   stepSpot v limit = spot (kind .float a) (kind .float b) (kind .float v) limit
 
+  abbrev pub stepPlaceReasons : A → Limit → List Reason
+  stepPlaceReasons v limit =
+      1 when not (axisAdmitted kind a b d && kind .admitted v) ∷ realPlaceReasons (kind .float a) (kind .float b) (kind .float v) limit ++ unlisted
+
   unfoldable pub stepPlace : A → Limit → Answer ℤ
-  stepPlace v limit =
-      lowest (
-      1 when not (axisAdmitted kind a b d && kind .admitted v)
-      ∷ 2 when not (limitAdmitted limit)
-      ∷ 5 when isBeyond (stepSpot v limit)
-      ∷ 6 when against kind a b d
-      ∷ 7 when tooLong kind a b d
-      ∷ []
-      ) (given (number (stepSpot v limit)))
+  stepPlace v limit = lowest (stepPlaceReasons v limit) (given (number (stepSpot v limit)))
 
   -- ---- `unmap`: the entry at the index of the pixel, none past the end
+  abbrev pub stepReadingReasons : ℤ → Limit → List Reason
+  stepReadingReasons x limit = 1 when not (axisAdmitted kind a b d) ∷ 2 when not (readingAdmitted x limit) ∷ unlisted
+
   unfoldable pub stepReading : ℤ → Limit → Answer A
   stepReading x limit =
-      lowest (
-      1 when not (axisAdmitted kind a b d)
-      ∷ 2 when not (pixelAdmitted x && limitAdmitted limit)
-      ∷ 6 when against kind a b d
-      ∷ 7 when tooLong kind a b d
-      ∷ []
-      ) (nthOf (stepped kind a b d) (indexFor (x -ℤ limit .0) (limit .1 -ℤ limit .0) (length (stepped kind a b d))))
+      lowest (stepReadingReasons x limit) (nthOf (stepped kind a b d) (indexFor (x -ℤ limit .0) (limit .1 -ℤ limit .0) (length (stepped kind a b d))))
 
   -- ---- `key_points`: the entries at the marks of 0..count − 1, written to the lent list; 3 where m is 0 and there is an entry
   abbrev pub stepMarks : ℕ → List A
   stepMarks m = marksOf (kind .nil) (stepped kind a b d) m
 
-  unfoldable pub stepKeyPoints : ℕ → List A → Answer ℕ × List A
-  stepKeyPoints m old =
-      written
-      (lowest (
+  abbrev pub stepKeyPointsReasons : ℕ → List A → List Reason
+  stepKeyPointsReasons m old =
       1 when not (axisAdmitted kind a b d)
       ∷ 3 when (eqb m 0 && hasEntries (stepped kind a b d))
-      ∷ 6 when against kind a b d
-      ∷ 7 when tooLong kind a b d
-      ∷ 13 when ltb (length old) (length (stepMarks m))
-      ∷ []
-      ) (given (length (stepMarks m))))
-      (stepMarks m)
-      old
+      ∷ unlisted ++ (13 when ltb (length old) (length (stepMarks m)) ∷ [])
+
+  unfoldable pub stepKeyPoints : ℕ → List A → Answer ℕ × List A
+  stepKeyPoints m old = written (lowest (stepKeyPointsReasons m old) (given (length (stepMarks m)))) (stepMarks m) old

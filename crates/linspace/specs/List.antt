@@ -10,7 +10,7 @@ use lib.Ieee as Ieee
 use lib.Ieee.{Float, fin, binary64}
 use Rattle.ranged1d.specs.Admitted.{wholeAdmitted}
 use Rattle.search.specs.Search.{Numbers, wholes, reals}
-use Rattle.search.specs.Steps as way
+use Rattle.search.specs.Lists as in-list
 
 -- ---- what the rules ask of a kind of number, besides what a search asks: a sum, zero, which are admitted, and the number as an f64
 pub record Kind (A : Type 0) : Type 0 where
@@ -39,7 +39,7 @@ most = 65_536
 
 -- x comes before b in the direction from a to b
 abbrev pub toward : {A : Type 0} → Kind A → Bool → A → A → Bool
-toward kind rises b x = way.toward rises (kind .numbers .less) x b
+toward kind rises b x = in-list.toward rises (kind .numbers .less) x b
 
 module _ {A : Type 0} (kind : Kind A) (a b d : A) where
   -- from a upward or downward, with a + d before b too. Where a and b, or a + d and b, do not compare, neither is the case; nor where a

@@ -45,11 +45,15 @@ module _ {A : Type 0} (passes : A → Bool) (next : A → A) (most : ℕ) (a : A
     pub within : n ≤ most
     pub rest : length (entries passes next most a) ≡ n + length (entries passes next (most - n) x)
 
-  -- the walk stands at the first entry that the test fails, unless the list ends before it; left is the entry before it
-  pub record Parted (test : A → Bool) (n : ℕ) (left x : A) : Type 0 where
+  -- every entry that the walk has passed meets a test, and left is the last of them
+  pub record Going (test : A → Bool) (n : ℕ) (left x : A) : Type 0 where
     pub walked : Walked n x
     pub front : (j : ℕ) → j < n → test (after next j a) ≡ true
     pub last : (j : ℕ) → suc j ≡ n → left ≡ after next j a
+
+  -- and the walk stands at the first entry that fails it, unless the list ends before
+  pub record Parted (test : A → Bool) (n : ℕ) (left x : A) : Type 0 where
+    pub going : Going test n left x
     pub stopped : n < most → passes x ≡ true → test x ≡ false
 
   -- the walk stands at entry k, unless the list ends before it

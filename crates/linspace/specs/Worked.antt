@@ -3,7 +3,7 @@
 use mathlib.Core.Bool.{Bool}
 use mathlib.Core.List.{List, [], _∷_}
 use lib.IntN.{ℤ, pos, negsuc}
-use Rattle.numeric.specs.Worked.{sameList}
+use Rattle.ranged1d.specs.Numbers.{same, sameEach}
 use Rattle.linspace.specs.List.{whole, stepped}
 
 pub record Row : Type 0 where
@@ -16,7 +16,7 @@ abbrev row : ℤ → ℤ → ℤ → List ℤ → Row
 row a b d l = record { a = a; b = b; d = d; entries = l }
 
 abbrev pub holds : Row → Bool
-holds r = sameList (stepped whole (r .a) (r .b) (r .d)) (r .entries)
+holds r = sameEach same (stepped whole (r .a) (r .b) (r .d)) (r .entries)
 
 abbrev pub rows : List Row
 rows =

@@ -7,8 +7,9 @@ ghost use lib.IntN.{pos, natAbs};
 ghost use lib.ListN.{length};
 ghost use lib.Ieee.{nan, eq};
 ghost use Rattle.ranged1d.specs.Answer.{given, none, refused};
-ghost use Rattle.ranged1d.specs.Admitted.{pixelAdmitted, limitAdmitted};
-ghost use Rattle.numeric.specs.Whole.{tellCount, tellIndex};
+ghost use Rattle.ranged1d.specs.Admitted.{readingAdmitted};
+ghost use Rattle.discrete.specs.Index.{tellIndex};
+ghost use Rattle.numeric.specs.Whole.{tellCount};
 ghost use Rattle.real.specs.Place.{tellPlace};
 ghost use Rattle.real.specs.Reading.{tellReading};
 ghost use Rattle.linspace.specs.List.{real, entries, stepped, against, toward};
@@ -18,8 +19,8 @@ ghost use Rattle.linspace.specs.Walks.{tellWalk, PassedBy, Tracked, Step
 use crate::Linspacef64;
 use crate::Listed;
 use crate::lanes::put_all;
+use discrete::Index;
 use numeric::Count;
-use numeric::Index;
 use numeric::Place;
 use numeric::Planned;
 use numeric::RangedCoordi32;
@@ -521,8 +522,7 @@ fn walk_both(rises: bool, s: Steps, share: u64) -> Both
 fn reading_along(s: Steps, x: i32, limit: Limit) -> RealReading
     requires { ⌜ against real (s .a) (s .b) (s .d) ≡ false ⌝ }
     requires { ⌜ hasEntries (stepped real (s .a) (s .b) (s .d)) ≡ true ⌝ }
-    requires { ⌜ pixelAdmitted x ≡ true ⌝ }
-    requires { ⌜ limitAdmitted limit ≡ true ⌝ }
+    requires { ⌜ readingAdmitted x limit ≡ true ⌝ }
     ensures { λ r. ⌜ tellReading r ≡ stepReading real (s .a) (s .b) (s .d) x limit ⌝ }
 {
     let p = limit.0;
@@ -614,10 +614,7 @@ impl Linspacef64 {
     pub fn unmap(self, x: i32, limit: Limit) -> RealReading
         ensures { λ r. ⌜ tellReading r ≡ stepReading real (self .inner .0) (self .inner .1) (self .step) x limit ⌝ }
     {
-        if !ranged1d::pixel_admitted(x) {
-            return RealReading::Refused(Refusal::LimitNotAdmitted);
-        }
-        if !limit.admitted() {
+        if !limit.admits(x) {
             return RealReading::Refused(Refusal::LimitNotAdmitted);
         }
         let s = self.steps();

@@ -8,9 +8,10 @@ ghost use lib.IntN.{pos, natAbs};
 ghost use lib.ListN.{length, drop, getD};
 ghost use Rattle.ranged1d.specs.Admitted.{wholeAdmitted};
 ghost use Rattle.ranged1d.specs.Answer.{given, _when_, lowest, listWritten};
+ghost use Rattle.discrete.specs.Index.{tellIndex};
 ghost use Rattle.numeric.specs.Marks.{listOf};
 ghost use Rattle.numeric.specs.Calls.{element};
-ghost use Rattle.numeric.specs.Whole.{tellCount, tellIndex, tellValue};
+ghost use Rattle.numeric.specs.Whole.{tellCount, tellValue};
 ghost use Rattle.real.specs.Place.{tellPlace};
 ghost use Rattle.search.specs.Search.{search, wholes};
 ghost use Rattle.linspace.specs.List.{whole, stepped, against, tooLong, axisAdmitted};
@@ -18,9 +19,8 @@ ghost use Rattle.linspace.specs.Calls.{tellListed, nth, hasEntries, mark
 ghost use Rattle.linspace.specs.WholeSteps.{wholeCount, past, wholePosition, Lies, Known};
 use crate::Linspacei32;
 use crate::Listed;
-use discrete::PixelIndex;
+use discrete::Index;
 use numeric::Count;
-use numeric::Index;
 use numeric::Place;
 use numeric::Planned;
 use numeric::RangedCoordi32;
@@ -364,19 +364,16 @@ impl Linspacei32 {
         if !self.admitted() {
             return Value::Refused(Refusal::WholeNotAdmitted);
         }
-        if !ranged1d::pixel_admitted(x) {
-            return Value::Refused(Refusal::LimitNotAdmitted);
-        }
-        if !limit.admitted() {
+        if !limit.admits(x) {
             return Value::Refused(Refusal::LimitNotAdmitted);
         }
         let s = self.steps();
         match counted(s) {
             Count::Refused(r) => Value::Refused(r),
             Count::Of(n) => match discrete::pixel_index(x, limit, n as u32) {
-                PixelIndex::Refused(r) => Value::Refused(r),
-                PixelIndex::Nothing => Value::Nothing,
-                PixelIndex::At(k) => entry_at(s, n, k),
+                Index::Refused(r) => Value::Refused(r),
+                Index::Nothing => Value::Nothing,
+                Index::At(k) => entry_at(s, n, k),
             },
         }
     }

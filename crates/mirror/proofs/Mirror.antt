@@ -1,34 +1,33 @@
 -- Demand 3, whole: every clause of specs/Mirror, from the mirror theorems of the crates below. Assumes nothing.
 use mathlib.Core.Path.{_≡_, refl, sym, ap, _∙_}
-use mathlib.Core.Bool.{true, false, not, _&&_, _||_}
-use mathlib.Core.List.{List, [], _∷_, _++_, map}
+use mathlib.Core.Bool.{true, false, _&&_}
+use mathlib.Core.List.{List, [], map}
 use Prim.Native.Nat.{ℕ}
-use lib.Dec.{ltb, eqb}
 use lib.IntN.{ℤ, pos, negℤ}
 use lib.ListN.{length}
 use lib.Ieee.{Float, neg}
 use borrow.Author.Tests.{not-false}
-use Rattle.ranged1d.specs.Answer.{Answer, given, none, refused, Reason, lowest, _when_, BothLong}
+use Rattle.ranged1d.specs.Answer.{Answer, given, Reason, lowest, BothLong}
 use Rattle.ranged1d.specs.Admitted.{wholeAdmitted, limitAdmitted}
 use Rattle.ranged1d.specs.declared.Limit.{Limit}
 use Rattle.real.specs.Mirror as film
 use Rattle.real.proofs.Mirror as places
 use Rattle.numeric.specs.Marks.{noStep, stepOf, marks}
-use Rattle.numeric.specs.Calls.{wholeKeyPoints}
+use Rattle.numeric.specs.Calls.{keyPointsReasons, wholeKeyPoints}
 use Rattle.numeric.specs.Mirror.{stepOnly}
 use Rattle.numeric.proofs.Mirror as marks-mirror
 use Rattle.search.specs.Mirror.{end}
 use Rattle.search.proofs.Mirror as searches
-use Rattle.linspace.specs.List.{Kind, whole, real, stepped, against, tooLong, axisAdmitted}
-use Rattle.linspace.specs.Calls.{hasEntries, stepValues, stepMarks, stepKeyPoints}
+use Rattle.linspace.specs.List.{Kind, whole, real, stepped}
+use Rattle.linspace.specs.Calls.{valuesReasons, stepValues, stepMarks, stepKeyPointsReasons, stepKeyPoints}
 use Rattle.linspace.specs.Mirror as step
 use Rattle.linspace.specs.Mirror.{Negated}
 use Rattle.linspace.proofs.Mirror as steps
-use Rattle.segmented.specs.Segments.{unlisted, segmentKeyPoints}
+use Rattle.segmented.specs.Segments.{segmentKeyPointsReasons, segmentKeyPoints}
 use Rattle.segmented.specs.Axes.{steppedAxis}
 use Rattle.segmented.specs.Mirror as segment
 use Rattle.segmented.proofs.Mirror as segments
-use Rattle.ruler.specs.Rule.{rulerBytes, rulerWrite, hasRuler}
+use Rattle.ruler.specs.Rule.{rulerBytes, writeReasons, rulerWrite, hasRuler}
 use Rattle.ruler.specs.Mirror.{accepted, verdict}
 use Rattle.ruler.proofs.Mirror as rulers-mirror
 use Rattle.mirror.specs.Mirror.{wrote, ruling, rulingBack, Rulers, marking, markingBack, Marks, Lists, StepMarks, SegmentMarks, Stepped, DemandThree}
@@ -39,25 +38,17 @@ module _ (a b : ℤ) (limit : Limit) (m : ℕ) where
   abbrev numbers : ℕ × ℕ
   numbers = (length (rulerBytes a b limit m), length (marks a b m))
 
-  abbrev writer-reasons : List ℕ → List Reason
-  writer-reasons old =
-      1 when not (wholeAdmitted a && wholeAdmitted b)
-      ∷ 2 when not (limitAdmitted limit)
-      ∷ 3 when noStep a b m
-      ∷ 13 when ltb (length old) (length (rulerBytes a b limit m))
-      ∷ []
-
   -- an accepted writer has a ruler, and has written its bytes
   ruled : (old : List ℕ) → verdict (rulerWrite a b limit m old .0) ≡ accepted → hasRuler a b limit m ≡ true
   unfolding rulerWrite hasRuler
   ruled old e =
-      let tests = accepted-tests numbers (writer-reasons old) e in
+      let tests = accepted-tests numbers (writeReasons a b limit m old) e in
       rw (not-false (wholeAdmitted a && wholeAdmitted b) (tests .0), not-false (limitAdmitted limit) (tests .1 .0), tests .1 .1 .0)
 
   bytes-written : (old : List ℕ) → verdict (rulerWrite a b limit m old .0) ≡ accepted → wrote (λ x. x .0) (rulerWrite a b limit m old) ≡ rulerBytes a b limit m
   unfolding rulerWrite
   bytes-written old e =
-      wrote-is {A = ℕ × ℕ} (λ x. x .0) (lowest (writer-reasons old) (given numbers)) numbers (rulerBytes a b limit m) old refl (accepted-is numbers (writer-reasons old) e)
+      wrote-is {A = ℕ × ℕ} (λ x. x .0) (lowest (writeReasons a b limit m old) (given numbers)) numbers (rulerBytes a b limit m) old refl (accepted-is numbers (writeReasons a b limit m old) e)
 
 module _ (a b : ℤ) (limit : Limit) (m : ℕ) (old old' : List ℕ) (alike : BothLong (length (rulerBytes a b limit m)) old (length (rulerBytes (negℤ a) (negℤ b) (film.mirrored limit) m)) old') where
   verdicts : verdict (rulingBack a b limit m old old' .0) ≡ verdict (ruling a b limit m old old' .0)
@@ -77,26 +68,24 @@ module _ (a b : ℤ) (limit : Limit) (m : ℕ) (old old' : List ℕ) (alike : Bo
       }
 
 -- ---- marks
-of-step : (x : Answer (ℤ × ℕ)) → verdict x ≡ verdict (stepOnly x)
-of-step (given x) = refl
-of-step none = refl
-of-step (refused n) = refl
+of-step : (r : Answer (ℤ × ℕ)) → verdict r ≡ verdict (stepOnly r)
+of-step r = rulers-mirror.verdict-then r (λ x. x .0)
 
 module _ (a b : ℤ) (m : ℕ) where
   abbrev told : ℤ × ℕ
   told = (pos (stepOf a b m), length (marks a b m))
 
-  abbrev marker-reasons : List ℤ → List Reason
-  marker-reasons old = 1 when not (wholeAdmitted a && wholeAdmitted b) ∷ 3 when noStep a b m ∷ 13 when ltb (length old) (length (marks a b m)) ∷ []
+  abbrev reasons : List ℤ → List Reason
+  reasons old = keyPointsReasons (wholeAdmitted a && wholeAdmitted b) a b m (marks a b m) old
 
   served : (old : List ℤ) → verdict (wholeKeyPoints a b m old .0) ≡ accepted → noStep a b m ≡ false
   unfolding wholeKeyPoints
-  served old e = accepted-tests told (marker-reasons old) e .1 .0
+  served old e = accepted-tests told (reasons old) e .1 .0
 
   marks-written : (old : List ℤ) → verdict (wholeKeyPoints a b m old .0) ≡ accepted → wrote (λ x. x .1) (wholeKeyPoints a b m old) ≡ marks a b m
   unfolding wholeKeyPoints
   marks-written old e =
-      wrote-is {A = ℤ × ℕ} (λ x. x .1) (lowest (marker-reasons old) (given told)) told (marks a b m) old refl (accepted-is told (marker-reasons old) e)
+      wrote-is {A = ℤ × ℕ} (λ x. x .1) (lowest (reasons old) (given told)) told (marks a b m) old refl (accepted-is told (reasons old) e)
 
 module _ (a b : ℤ) (m : ℕ) (old old' : List ℤ) (alike : BothLong (length (marks a b m)) old (length (marks (negℤ a) (negℤ b) m)) old') where
   same-step : stepOnly (markingBack a b m old old' .0) ≡ stepOnly (marking a b m old old' .0)
@@ -118,45 +107,24 @@ module _ (a b : ℤ) (m : ℕ) (old old' : List ℤ) (alike : BothLong (length (
 
 -- ---- stepped axes: over either kind, from what is known of its list, its marks and its calls
 module _ {A : Type 0} (kind : Kind A) (opposite : A → A) (Turned : List A → List A → Type 0) (nothing : Turned [] []) (a b d : A) where
-  abbrev values-reasons : A → A → A → List A → List Reason
-  values-reasons a b d old =
-      1 when not (axisAdmitted kind a b d)
-      ∷ 6 when against kind a b d
-      ∷ 7 when (tooLong kind a b d || ltb (length old) (length (stepped kind a b d)))
-      ∷ []
-
   list-entries : (old old' : List A) → Turned (stepped kind (opposite a) (opposite b) (opposite d)) (stepped kind a b d)
       → stepValues kind (opposite a) (opposite b) (opposite d) old' .0 ≡ stepValues kind a b d old .0 → Lists kind opposite Turned a b d old old'
   unfolding stepValues
   list-entries old old' t e =
-      turned-wrote Turned nothing (values-reasons a b d old) (values-reasons (opposite a) (opposite b) (opposite d) old') (stepped kind a b d) (stepped kind (opposite a) (opposite b) (opposite d)) old old' t e
-
-  marks-reasons : A → A → A → ℕ → List A → List Reason
-  marks-reasons a b d m old =
-      1 when not (axisAdmitted kind a b d)
-      ∷ 3 when (eqb m 0 && hasEntries (stepped kind a b d))
-      ∷ 6 when against kind a b d
-      ∷ 7 when tooLong kind a b d
-      ∷ 13 when ltb (length old) (length (stepMarks kind a b d m))
-      ∷ []
+      turned-wrote Turned nothing (valuesReasons kind a b d old) (valuesReasons kind (opposite a) (opposite b) (opposite d) old') (stepped kind a b d) (stepped kind (opposite a) (opposite b) (opposite d)) old old' t e
 
   mark-entries : (m : ℕ) (old old' : List A) → Turned (stepMarks kind (opposite a) (opposite b) (opposite d) m) (stepMarks kind a b d m)
       → stepKeyPoints kind (opposite a) (opposite b) (opposite d) m old' .0 ≡ stepKeyPoints kind a b d m old .0 → StepMarks kind opposite Turned a b d m old old'
-  unfolding stepKeyPoints marks-reasons
+  unfolding stepKeyPoints
   mark-entries m old old' t e =
-      turned-wrote Turned nothing (marks-reasons a b d m old) (marks-reasons (opposite a) (opposite b) (opposite d) m old') (stepMarks kind a b d m) (stepMarks kind (opposite a) (opposite b) (opposite d) m) old old' t e
-
-  segment-reasons : A → A → A → ℕ → List A → List Reason
-  segment-reasons a b d m old =
-      let axis = steppedAxis kind a b d in
-      1 when not (axis .admitted) ∷ 3 when axis .noStep m ∷ unlisted axis ++ (13 when ltb (length old) (length (axis .marks m)) ∷ [])
+      turned-wrote Turned nothing (stepKeyPointsReasons kind a b d m old) (stepKeyPointsReasons kind (opposite a) (opposite b) (opposite d) m old') (stepMarks kind a b d m) (stepMarks kind (opposite a) (opposite b) (opposite d) m) old old' t e
 
   segment-entries : (m : ℕ) (old old' : List A) → Turned (stepMarks kind (opposite a) (opposite b) (opposite d) m) (stepMarks kind a b d m)
       → segmentKeyPoints (steppedAxis kind (opposite a) (opposite b) (opposite d)) (length (stepMarks kind (opposite a) (opposite b) (opposite d) m)) m old' .0
       ≡ segmentKeyPoints (steppedAxis kind a b d) (length (stepMarks kind a b d m)) m old .0 → SegmentMarks kind opposite Turned a b d m old old'
-  unfolding segmentKeyPoints segment-reasons
+  unfolding segmentKeyPoints
   segment-entries m old old' t e =
-      turned-wrote Turned nothing (segment-reasons a b d m old) (segment-reasons (opposite a) (opposite b) (opposite d) m old') (stepMarks kind a b d m) (stepMarks kind (opposite a) (opposite b) (opposite d) m) old old' t e
+      turned-wrote Turned nothing (segmentKeyPointsReasons (steppedAxis kind a b d) m old) (segmentKeyPointsReasons (steppedAxis kind (opposite a) (opposite b) (opposite d)) m old') (stepMarks kind a b d m) (stepMarks kind (opposite a) (opposite b) (opposite d) m) old old' t e
 
 -- from what is known of stepped axes, and of segments over them, of either kind of numbers
 stepped-axis : {A : Type 0} (kind : Kind A) (opposite : A → A) (Turned : List A → List A → Type 0) → Turned [] [] → (a b d : A) → step.Mirrored kind opposite Turned a b d → segment.Mirrored kind opposite a b d Turned → Stepped kind opposite Turned a b d

@@ -91,6 +91,7 @@ module _ (a b : ℤ) (m : ℕ) (old old' : List ℤ) where
 
 -- ---- demand 3, the second half, and the rest of 01's section: what is said of stepped axes, over either kind of numbers, `opposite` negating one. A list
 -- and its mirror are negated entry for entry in the same order: `Turned old new` says so.
+
 -- What a call and its mirror have done: both are refused with the same number or neither is, and what they wrote is negated entry for entry.
 pub record Alike {A : Type 0} (Turned : List A → List A → Type 0) (back here : Answer ℕ × List A) : Type 0 where
   pub verdicts : back .0 ≡ here .0

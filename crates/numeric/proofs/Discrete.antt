@@ -13,15 +13,15 @@ use lib.Signed.{ltZ, _≤ℤ_}
 use borrow.Author.Tests.{leb-true, le-leb, le-ltb, not-false}
 use mir.Facts.{and-yes}
 use Rattle.ranged1d.specs.Answer.{given, none, _when_, lowest}
-use Rattle.ranged1d.specs.Admitted.{wholeAdmitted, pixelAdmitted, limitAdmitted}
+use Rattle.ranged1d.specs.Admitted.{wholeAdmitted, readingAdmitted}
 use Rattle.ranged1d.specs.declared.Limit.{Limit}
 use Rattle.ranged1d.proofs.Answers.{given-is, not-both, not-none, choice}
 use Rattle.ranged1d.proofs.Lowest.{given-tests}
 use Rattle.ranged1d.proofs.Whole.{sub-cases, minus-far, not-lt, from-start, back-to-start, not-before, no-difference}
 use Rattle.discrete.specs.Index.{noIndex}
-use Rattle.discrete.proofs.Index.{not-zero}
+use Rattle.discrete.proofs.Within.{not-zero}
 use Rattle.discrete.proofs.Theorems.{Between, index-at-most}
-use Rattle.numeric.specs.Whole.{endsAdmitted, countOf, isIndex, wholeIndexOf, wholeFromIndex, wholeReading, readIndex}
+use Rattle.numeric.specs.Whole.{endsAdmitted, countOf, isIndex, wholeIndexOf, wholeFromIndex, wholeReading, readIndex, fromIndexReasons}
 use Rattle.numeric.proofs.Readings.{ends-near}
 
 -- up to one past an admitted value there are only i32s
@@ -57,7 +57,7 @@ module _ (a b v : ℤ) where
 pub index-of-value : (a b : ℤ) (k : ℕ) {v : ℤ} → wholeFromIndex a b k ≡ given v → wholeAdmitted v ≡ true → wholeIndexOf a b v ≡ given k
 unfolding wholeIndexOf wholeFromIndex
 index-of-value a b k e h =
-    let told = given-tests (1 when not (endsAdmitted a b) ∷ 10 when (isIndex k && ltZ (pos 2147483647) (a +ℤ pos k)) ∷ []) (cond (isIndex k) (given (a +ℤ pos k)) none) e in
+    let told = given-tests (fromIndexReasons a b k) (cond (isIndex k) (given (a +ℤ pos k)) none) e in
     rw (not-false (endsAdmitted a b) (told .0 .0), h, ← choice (isIndex k) (a +ℤ pos k) _ (told .1) .1, not-before a k, back-to-start a (pos k))
 
 -- ---- a pixel between the limits
@@ -76,7 +76,7 @@ counted a b k e l = go (ltZ b a) refl l
         (omega arith, not-too-high a (natAbs (b -ℤ a)) k (rw (from-start a b (not-lt b a u)) (near .1)) apart l)
 
 module _ (a b x : ℤ) (l : Limit) where
-  pub reading-between : endsAdmitted a b ≡ true → (pixelAdmitted x && limitAdmitted l) ≡ true → (l .1 ≡ l .0 → ⊥) → Between (l .0) x (l .1)
+  pub reading-between : endsAdmitted a b ≡ true → readingAdmitted x l ≡ true → (l .1 ≡ l .0 → ⊥) → Between (l .0) x (l .1)
       → (wholeReading a b x l ≡ given (a +ℤ pos (readIndex a b x l))) × (readIndex a b x l ≤ countOf a b)
   unfolding noIndex wholeReading
   reading-between ends film apart between =

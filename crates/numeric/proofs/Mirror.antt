@@ -1,23 +1,23 @@
 -- The mirror theorem for marks: `mirror` proves what specs/Mirror states. Assumes nothing.
 use mathlib.Core.Path.{_≡_, refl, sym, ap, ap₂, _∙_, subst}
 use mathlib.Core.Logic.{_⊎_, inl, inr}
-use mathlib.Core.Bool.{Bool, true, false, cond, not, _&&_}
+use mathlib.Core.Bool.{Bool, true, false, cond, _&&_}
 use mathlib.Core.List.{List, [], _∷_, _++_, map}
 use Prim.Native.Nat.{ℕ, zero, suc, _+_, _-_, _*_, _/_, _%_, _≤_, _<_}
 use native.Mathlib.Nat.{zero-mod, suc-mul, div-add-mod', div-mul-le-self, le-div-iff-mul-le, mod-lt, le-trans}
 use native.Mathlib.Omega.{arith}
 use borrow.Author.Tests.{leb-true, leb-false, ltb-true, eqb-true, eqb-false, lt-ltb}
 use lib.Arith.{digits-div}
-use lib.Dec.{T, leb, ltb, eqb}
+use lib.Dec.{T, leb, eqb}
 use lib.IntN.{ℤ, pos, negsuc, negℤ, natAbs, _+ℤ_, _*ℤ_, +ℤ-comm, negℤ-negℤ}
 use lib.ListN.{length, length-append, length-map, length-reverse}
 use lib.Signed.{leZ, ltZ, quotZ, _<ℤ_}
-use Rattle.ranged1d.specs.Answer.{Answer, given, Reason, _when_, lowest, BothLong}
+use Rattle.ranged1d.specs.Answer.{given, BothLong}
 use Rattle.ranged1d.specs.Admitted.{wholeAdmitted}
 use Rattle.ranged1d.proofs.Lowest.{lowest-then}
-use Rattle.ranged1d.proofs.Whole.{low-neg, high-neg, low-high, neg-far, less-not-above, yes-le, yes-lt, lt-yes, neg-below, below-all, neg-le, neg-lt, neg-times, quot-neg}
+use Rattle.ranged1d.proofs.Whole.{admitted-neg, low-neg, high-neg, low-high, neg-far, less-not-above, yes-le, yes-lt, lt-yes, neg-below, below-all, neg-le, neg-lt, neg-times, quot-neg}
 use Rattle.numeric.specs.Marks.{low, high, distance, stepAt, chosen, ceilDiv, firstIndex, lastIndex, multiple, multiples, noStepFor, stepFor, marksFor, noStep, stepOf, marks}
-use Rattle.numeric.specs.Calls.{wholeKeyPoints}
+use Rattle.numeric.specs.Calls.{keyPointsReasons, wholeKeyPoints}
 use Rattle.numeric.specs.Mirror.{mirrored, nearest, Divides, NextTowardZero, OneMore, stepOnly, Mirrored}
 use Rattle.numeric.proofs.Steps.{step-pos}
 use Rattle.numeric.proofs.Reflect.{reflect, one-more, mirrored-cons}
@@ -141,13 +141,6 @@ nearest-below lo (pos q) l h = absurd (omega (arith, ltb-true q 0 (lt-yes h)))
 nearest-below (pos p) (negsuc q) l h = absurd (subst T (sym l) tt)
 nearest-below (negsuc p) (negsuc q) l h = refl
 
--- the reasons of `key_points`, and its answer without the count
-abbrev reasons : Bool → Bool → Bool → List Reason
-reasons t u v = 1 when t ∷ 3 when u ∷ 13 when v ∷ []
-
-abbrev by : Bool → Bool → Bool → ℕ → Answer ℤ
-by t u v n = lowest (reasons t u v) (given (pos n))
-
 module _ (a b : ℤ) (m : ℕ) where
   lo : ℤ
   lo = low a b
@@ -177,11 +170,9 @@ module _ (a b : ℤ) (m : ℕ) where
   verdict : (old old′ : List ℤ) → BothLong (length (marks a b m)) old (length (marks (negℤ a) (negℤ b) m)) old′ → stepOnly (wholeKeyPoints (negℤ a) (negℤ b) m old′ .0) ≡ stepOnly (wholeKeyPoints a b m old .0)
   unfolding wholeKeyPoints
   verdict old old′ e =
-      lowest-then (reasons (not (wholeAdmitted (negℤ a) && wholeAdmitted (negℤ b))) (noStep (negℤ a) (negℤ b) m) (ltb (length old′) (length (marks (negℤ a) (negℤ b) m)))) _ (λ x. given (x .0))
-      ∙ ap₂ (λ (x y : ℕ). by (not (leb x 1_000_000_000 && leb y 1_000_000_000)) (noStep (negℤ a) (negℤ b) m) (ltb (length old′) (length (marks (negℤ a) (negℤ b) m))) (stepOf (negℤ a) (negℤ b) m)) (neg-far a) (neg-far b)
-      ∙ ap₂ (λ (u : Bool) (n : ℕ). by (not (wholeAdmitted a && wholeAdmitted b)) u (ltb (length old′) (length (marks (negℤ a) (negℤ b) m))) n) no-step-neg step-neg
-      ∙ ap (λ (v : Bool). by (not (wholeAdmitted a && wholeAdmitted b)) (noStep a b m) v (stepOf a b m)) (sym e)
-      ∙ sym (lowest-then (reasons (not (wholeAdmitted a && wholeAdmitted b)) (noStep a b m) (ltb (length old) (length (marks a b m)))) _ (λ x. given (x .0)))
+      lowest-then (keyPointsReasons (wholeAdmitted (negℤ a) && wholeAdmitted (negℤ b)) (negℤ a) (negℤ b) m (marks (negℤ a) (negℤ b) m) old′) _ (λ x. given (x .0))
+      ∙ rw (admitted-neg a, admitted-neg b, no-step-neg, step-neg, ← e) refl
+      ∙ sym (lowest-then (keyPointsReasons (wholeAdmitted a && wholeAdmitted b) a b m (marks a b m) old) _ (λ x. given (x .0)))
 
   -- where a step serves
   module _ (served : noStep a b m ≡ false) where

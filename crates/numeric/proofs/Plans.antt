@@ -1,6 +1,6 @@
 -- A plan of an axis: the list that `key_points` writes is read off it, and every number on the way fits. Assumes nothing.
 use mathlib.Core.Path.{_≡_, refl, sym, ap, _∙_, subst}
-use mathlib.Core.Bool.{Bool, cond, not, _&&_}
+use mathlib.Core.Bool.{Bool, cond, _&&_}
 use mathlib.Core.List.{List, [], _∷_, _++_, map}
 use Prim.Native.Nat.{ℕ, suc, _+_, _*_, _≤_, _<_}
 use native.Mathlib.Omega.{arith}
@@ -16,8 +16,8 @@ use Rattle.ranged1d.proofs.Bools as tests
 use Rattle.ranged1d.proofs.Lowest.{given-tests, lowest-then}
 use Rattle.ranged1d.proofs.Whole.{both-near}
 use Rattle.numeric.specs.declared.KeyPoints.{KeyPoints}
-use Rattle.numeric.specs.Marks.{low, high, distance, chosen, stepAt, firstIndex, lastIndex, howMany, listOf, multiple, noStepFor, noStep, stepFor, stepOf, marksFor, marks}
-use Rattle.numeric.specs.Calls.{keyPointsBy, wholeKeyPoints, wholePlan, planOf, element, indexMarks, indexKeyPoints}
+use Rattle.numeric.specs.Marks.{low, high, distance, chosen, stepAt, firstIndex, lastIndex, howMany, listOf, multiple, noStepFor, stepFor, stepOf, marksFor, marks}
+use Rattle.numeric.specs.Calls.{planReasons, keyPointsBy, wholeKeyPoints, wholePlan, planOf, element, indexMarks, indexKeyPoints}
 use Rattle.numeric.proofs.Lists.{length-of, list-ext, map-list}
 use Rattle.numeric.proofs.Steps.{step-pos, step-top}
 use Rattle.numeric.proofs.Bounds.{multiple-element, marks-near, count-near}
@@ -62,7 +62,7 @@ module _ (a b : ℤ) (m : ℕ) where
   pub planned-good : {p : KeyPoints} → wholePlan a b m ≡ given p → Good a b m p
   unfolding wholePlan noStepFor
   planned-good e =
-      let told = given-tests (1 when not (wholeAdmitted a && wholeAdmitted b) ∷ 3 when noStep a b m ∷ []) (given (planOf a b m)) e in
+      let told = given-tests (planReasons (wholeAdmitted a && wholeAdmitted b) a b m) (given (planOf a b m)) e in
       let near = both-near 1_000_000_000 a b (not-false (wholeAdmitted a && wholeAdmitted b) (told .0 .0)) in
       subst (Good a b m) (given-is (told .1)) (good-plan (near .0) (near .1) (leb-false _ _ (told .0 .1 .0)))
 
@@ -79,7 +79,7 @@ module _ {A : Type 0} (f : ℤ → A) (a b : ℤ) (m : ℕ) (new old : List A) (
   by-plan : ruleBy ≡ byPlan (wholePlan a b m)
   unfolding wholePlan byPlan
   by-plan = rw same (ap (λ (r : Answer (A × ℕ)). written r new old)
-      (sym (lowest-then (1 when not (wholeAdmitted a && wholeAdmitted b) ∷ 3 when noStep a b m ∷ []) (given (planOf a b m)) (λ p. lowest (13 when ltb (length old) (p .count) ∷ []) (given (f (p .step), p .count))))))
+      (sym (lowest-then (planReasons (wholeAdmitted a && wholeAdmitted b) a b m) (given (planOf a b m)) (λ p. lowest (13 when ltb (length old) (p .count) ∷ []) (given (f (p .step), p .count))))))
 
   pub plan-refused : {n : ℕ} → wholePlan a b m ≡ refused n → ruleBy ≡ (refused n, old)
   unfolding byPlan

@@ -8,7 +8,7 @@ use lib.IntN.{ℤ, pos, negsuc, natAbs, _+ℤ_, _-ℤ_}
 use lib.Signed.{ltZ}
 use borrow.Author.Tests.{le-ltb}
 use Rattle.ranged1d.specs.Answer.{Answer, given, none, _when_, lowest, andThen}
-use Rattle.ranged1d.specs.Admitted.{pixelAdmitted, limitAdmitted}
+use Rattle.ranged1d.specs.Admitted.{readingAdmitted}
 use Rattle.ranged1d.specs.declared.Limit.{Limit}
 use Rattle.ranged1d.proofs.Whole.{sub-cases, both-near}
 use Rattle.discrete.specs.Index.{noIndex, indexBy, indexFor, pixelIndex}
@@ -28,7 +28,7 @@ thenValue a r = andThen r (valueFrom a)
 
 pub by-index : (a b x : ℤ) (l : Limit) → endsAdmitted a b ≡ true → wholeReading a b x l ≡ thenValue a (pixelIndex x l (countOf a b))
 unfolding wholeReading valueFrom pixelIndex indexFor
-by-index a b x l e = rw e (go (pixelAdmitted x && limitAdmitted l) (noIndex d w n))
+by-index a b x l e = rw e (go (readingAdmitted x l) (noIndex d w n))
   where
     d : ℤ
     d = x -ℤ l .0

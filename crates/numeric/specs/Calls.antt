@@ -2,11 +2,11 @@
 -- refusals of 01 "Why a call stops". Assumes nothing.
 use Prim.Native.Nat.{ℕ}
 use mathlib.Core.Bool.{Bool, cond, not, _&&_}
-use mathlib.Core.List.{List, [], _∷_, map}
+use mathlib.Core.List.{List, [], _∷_, _++_, map}
 use lib.Dec.{ltb}
 use lib.IntN.{ℤ, pos, natAbs, _+ℤ_, _*ℤ_}
 use lib.ListN.{length}
-use Rattle.ranged1d.specs.Answer.{Answer, given, none, refused, _when_, lowest, written}
+use Rattle.ranged1d.specs.Answer.{Answer, given, none, refused, Reason, _when_, lowest, written}
 use Rattle.ranged1d.specs.Refusals.{numberOf}
 use Rattle.ranged1d.specs.Admitted.{wholeAdmitted, indexAdmitted}
 use Rattle.ranged1d.specs.Numbers.{isI32}
@@ -38,15 +38,17 @@ abbrev pub tellPoint : Point → Answer ℤ
 tellPoint (point-is.At v) = given v
 tellPoint point-is.Nothing = none
 
--- ---- `key_points`, of either kind of axis, from whether its ends are admitted, the step and the list of marks as it has them: 1 where
--- an end is not admitted, 3 where no step serves, 13 where the lent list is too short; else the step and the number of marks, which is the
--- length of their list, and the marks at the start of the lent list
+-- ---- why an axis has no marks, from whether its ends are admitted: 1 where they are not, 3 where no step serves
+abbrev pub planReasons : Bool → ℤ → ℤ → ℕ → List Reason
+planReasons admitted a b m = 1 when not admitted ∷ 3 when noStep a b m ∷ []
+
+-- ---- `key_points`, of either kind of axis, with the step and the list of marks as it has them: 13 where the lent list is too short; else the
+-- step and the number of marks, which is the length of their list, and the marks at the start of the lent list
+abbrev pub keyPointsReasons : {A : Type 0} → Bool → ℤ → ℤ → ℕ → List A → List A → List Reason
+keyPointsReasons admitted a b m new old = planReasons admitted a b m ++ (13 when ltb (length old) (length new) ∷ [])
+
 abbrev pub keyPointsBy : {A : Type 0} → Bool → A → ℤ → ℤ → ℕ → List A → List A → Answer (A × ℕ) × List A
-keyPointsBy admitted step a b m new old =
-    written
-    (lowest (1 when not admitted ∷ 3 when noStep a b m ∷ 13 when ltb (length old) (length new) ∷ []) (given (step, length new)))
-    new
-    old
+keyPointsBy admitted step a b m new old = written (lowest (keyPointsReasons admitted a b m new old) (given (step, length new))) new old
 
 -- ---- RangedCoordi32
 unfoldable pub wholeKeyPoints : ℤ → ℤ → ℕ → List ℤ → Answer (ℤ × ℕ) × List ℤ
@@ -62,7 +64,7 @@ planOf a b m = record {
 }
 
 unfoldable pub wholePlan : ℤ → ℤ → ℕ → Answer KeyPoints
-wholePlan a b m = lowest (1 when not (wholeAdmitted a && wholeAdmitted b) ∷ 3 when noStep a b m ∷ []) (given (planOf a b m))
+wholePlan a b m = lowest (planReasons (wholeAdmitted a && wholeAdmitted b) a b m) (given (planOf a b m))
 
 -- ---- KeyPoints
 -- `get`: mark i, counted from 0; none from the count on. A value of the struct that no plan gives may lead past the range of an i32:

@@ -3,19 +3,17 @@
 -- Assumes nothing.
 use Prim.Native.Nat.{ℕ, _+_}
 use mathlib.Core.Bool.{Bool, cond, not, _&&_}
-use mathlib.Core.List.{[], _∷_}
+use mathlib.Core.List.{List, [], _∷_}
 use lib.Dec.{leb}
 use lib.IntN.{ℤ, pos, natAbs, _+ℤ_, _-ℤ_}
 use lib.Signed.{ltZ}
-use Rattle.ranged1d.specs.Answer.{Answer, given, none, refused, _when_, lowest}
+use Rattle.ranged1d.specs.Answer.{Answer, given, none, refused, _when_, lowest, Reason}
 use Rattle.ranged1d.specs.Refusals.{numberOf}
-use Rattle.ranged1d.specs.Admitted.{wholeAdmitted, pixelAdmitted, limitAdmitted}
+use Rattle.ranged1d.specs.Admitted.{wholeAdmitted, readingAdmitted}
 use Rattle.ranged1d.specs.declared.Limit.{Limit}
 use Rattle.discrete.specs.Index.{noIndex, indexBy}
 use Rattle.numeric.specs.declared.whole.Count.{Count}
 use Rattle.numeric.specs.declared.whole.Count.the-variants as count-is
-use Rattle.numeric.specs.declared.whole.Index.{Index}
-use Rattle.numeric.specs.declared.whole.Index.the-variants as index-is
 use Rattle.numeric.specs.declared.whole.Value.{Value}
 use Rattle.numeric.specs.declared.whole.Value.the-variants as value-is
 
@@ -23,11 +21,6 @@ use Rattle.numeric.specs.declared.whole.Value.the-variants as value-is
 abbrev pub tellCount : Count → Answer ℕ
 tellCount (count-is.Of n) = given n
 tellCount (count-is.Refused r) = refused (numberOf r)
-
-abbrev pub tellIndex : Index → Answer ℕ
-tellIndex (index-is.At k) = given k
-tellIndex index-is.Nothing = none
-tellIndex (index-is.Refused r) = refused (numberOf r)
 
 abbrev pub tellValue : Value → Answer ℤ
 tellValue (value-is.At v) = given v
@@ -62,8 +55,11 @@ valueAt a k = cond (isIndex k) (given (a +ℤ pos k)) none
 unfoldable pub valueFrom : ℤ → ℕ → Answer ℤ
 valueFrom a k = lowest (10 when aboveI32 a k ∷ []) (valueAt a k)
 
+abbrev pub fromIndexReasons : ℤ → ℤ → ℕ → List Reason
+fromIndexReasons a b k = 1 when not (endsAdmitted a b) ∷ 10 when aboveI32 a k ∷ []
+
 unfoldable pub wholeFromIndex : ℤ → ℤ → ℕ → Answer ℤ
-wholeFromIndex a b k = lowest (1 when not (endsAdmitted a b) ∷ 10 when aboveI32 a k ∷ []) (valueAt a k)
+wholeFromIndex a b k = lowest (fromIndexReasons a b k) (valueAt a k)
 
 -- ---- `unmap`: none where the pixel has no index, which is where it lies above limits that meet and the axis has a value; else the
 -- value at its index
@@ -73,11 +69,12 @@ noReading a b x l = noIndex (x -ℤ l .0) (l .1 -ℤ l .0) (countOf a b)
 abbrev pub readIndex : ℤ → ℤ → ℤ → Limit → ℕ
 readIndex a b x l = indexBy (x -ℤ l .0) (l .1 -ℤ l .0) (countOf a b)
 
-unfoldable pub wholeReading : ℤ → ℤ → ℤ → Limit → Answer ℤ
-wholeReading a b x l =
-    lowest (
+abbrev pub readingReasons : ℤ → ℤ → ℤ → Limit → List Reason
+readingReasons a b x l =
     1 when not (endsAdmitted a b)
-    ∷ 2 when not (pixelAdmitted x && limitAdmitted l)
+    ∷ 2 when not (readingAdmitted x l)
     ∷ 10 when (not (noReading a b x l) && aboveI32 a (readIndex a b x l))
     ∷ []
-    ) (cond (noReading a b x l) none (valueAt a (readIndex a b x l)))
+
+unfoldable pub wholeReading : ℤ → ℤ → ℤ → Limit → Answer ℤ
+wholeReading a b x l = lowest (readingReasons a b x l) (cond (noReading a b x l) none (valueAt a (readIndex a b x l)))

@@ -6,7 +6,7 @@ use mathlib.Core.List.{List, [], _∷_}
 use lib.Dec.{eqb}
 use lib.IntN.{ℤ, pos, negℤ}
 use Rattle.ranged1d.specs.Answer.{Answer, given, none, refused}
-use Rattle.ranged1d.specs.Numbers.{same}
+use Rattle.ranged1d.specs.Numbers.{same, sameEach}
 use Rattle.numeric.specs.Marks.{stepOf, marks}
 use Rattle.numeric.specs.Calls.{wholePlan}
 
@@ -23,12 +23,6 @@ pub record Row : Type 0 where
   pub says : Says
 
 -- a row holds: the call accepts or refuses as the row has it, with that step, and with those marks and no others
-abbrev pub sameList : List ℤ → List ℤ → Bool
-sameList [] [] = true
-sameList [] (y ∷ ys) = false
-sameList (x ∷ xs) [] = false
-sameList (x ∷ xs) (y ∷ ys) = same x y && sameList xs ys
-
 abbrev pub accepted : {A : Type 0} → Answer A → Bool
 accepted (given x) = true
 accepted none = false
@@ -40,7 +34,7 @@ refusedWith n none = false
 refusedWith n (refused k) = eqb k n
 
 abbrev pub saysTrue : ℤ → ℤ → ℕ → Says → Bool
-saysTrue a b m (marksAre s l) = accepted (wholePlan a b m) && (eqb (stepOf a b m) s && sameList (marks a b m) l)
+saysTrue a b m (marksAre s l) = accepted (wholePlan a b m) && (eqb (stepOf a b m) s && sameEach same (marks a b m) l)
 saysTrue a b m (stepIs s) = accepted (wholePlan a b m) && eqb (stepOf a b m) s
 saysTrue a b m (isRefused n) = refusedWith n (wholePlan a b m)
 

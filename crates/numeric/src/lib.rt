@@ -3,22 +3,21 @@ ghost use mathlib.Core.Path.{_≡_};
 ghost use mathlib.Core.Bool.{true};
 ghost use mathlib.Core.List.{[], _∷_, _++_};
 ghost use Prim.Native.Nat.{ℕ, _+_, _*_, _<_, _≤_};
-ghost use lib.Dec.{T};
-ghost use lib.IntN.{ℤ, pos, natAbs, _-ℤ_, _*ℤ_};
+ghost use lib.IntN.{ℤ, pos, natAbs, _*ℤ_};
 ghost use lib.ListN.{length, drop};
-ghost use lib.Signed.{leZ, nonNeg};
+ghost use lib.Signed.{leZ};
 ghost use Rattle.ranged1d.specs.Answer.{given, _when_, lowest};
 ghost use Rattle.numeric.specs.Marks.{stepAt, serves, chosen, firstIndex, lastIndex, howMany, distance, listOf, noStepFor};
 ghost use Rattle.numeric.specs.Calls.{tellMarks, tellIndexMarks, tellPlanned, tellPoint, wholeKeyPoints, wholePlan, planOf, element, pointAt, indexKeyPoints};
 
 mod whole;
 
+pub use discrete::Index;
 use ranged1d::Refusal;
 pub use real::Place;
 pub use real::RangedCoordf64;
 pub use real::RealReading;
 pub use whole::Count;
-pub use whole::Index;
 pub use whole::Value;
 
 // An axis with two whole ends, in either order.

@@ -3,11 +3,12 @@
 ghost use mathlib.Core.Path.{_≡_};
 ghost use mathlib.Core.Bool.{true};
 ghost use Rattle.ranged1d.specs.Admitted.{wholeAdmitted, limitAdmitted};
+ghost use Rattle.discrete.specs.Index.{tellIndex};
 ghost use Rattle.real.specs.Place.{tellPlace, wholeSpot, wholePlace};
-ghost use Rattle.numeric.specs.Whole.{endsAdmitted, tellCount, tellIndex, tellValue, wholeSize, wholeIndexOf, wholeFromIndex, wholeReading, countOf, valueFrom};
+ghost use Rattle.numeric.specs.Whole.{endsAdmitted, tellCount, tellValue, wholeSize, wholeIndexOf, wholeFromIndex, wholeReading, countOf, valueFrom};
 use crate::RangedCoordi32;
 use crate::span;
-use discrete::PixelIndex;
+use discrete::Index;
 use ranged1d::Limit;
 use ranged1d::Refusal;
 use real::Place;
@@ -15,12 +16,6 @@ use rounding::Whole;
 
 pub enum Count {
     Of(u64),
-    Refused(Refusal),
-}
-
-pub enum Index {
-    At(u64),
-    Nothing,
     Refused(Refusal),
 }
 
@@ -154,9 +149,9 @@ impl RangedCoordi32 {
             return Value::Refused(Refusal::WholeNotAdmitted);
         }
         match discrete::pixel_index(x, limit, self.len()) {
-            PixelIndex::Refused(r) => Value::Refused(r),
-            PixelIndex::Nothing => Value::Nothing,
-            PixelIndex::At(k) => self.value_at(k),
+            Index::Refused(r) => Value::Refused(r),
+            Index::Nothing => Value::Nothing,
+            Index::At(k) => self.value_at(k),
         }
     }
 }

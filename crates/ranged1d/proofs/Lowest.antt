@@ -2,20 +2,15 @@
 -- than that reason's; if none does, the answer. Then what a given answer and a refusal say of the reasons, and of more of them.
 -- Assumes nothing.
 use mathlib.Core.Path.{_≡_, refl, sym, ap, _∙_, subst}
-use mathlib.Core.Bool.{Bool, true, false, cond, _&&_}
+use mathlib.Core.Bool.{Bool, true, false, cond}
 use mathlib.Core.List.{List, [], _∷_, _++_, List·Memᴰ, List·Memᴰ·head, List·Memᴰ·tail, List·Memᴰ·cases-cons, List·Memᴰ·not-nil}
 use mathlib.Core.Logic.{_⊎_, inl, inr}
 use Prim.Native.Nat.{ℕ, _≤_, _<_}
 use native.Mathlib.Omega.{arith}
 use lib.Dec.{T, ltb, ltb→lt}
 use mir.Facts.{and-yes}
-use Rattle.ranged1d.specs.Answer.{Answer, given, refused, Reason, lowest, andThen}
+use Rattle.ranged1d.specs.Answer.{Answer, given, refused, Reason, lowest, rising, andThen}
 use Rattle.ranged1d.proofs.Answers.{not-both, one-refusal}
-
--- the numbers rise, from above k
-abbrev pub rising : ℕ → List Reason → Bool
-rising k [] = true
-rising k (r ∷ rs) = ltb k (r .number) && rising (r .number) rs
 
 above : (k : ℕ) (rs : List Reason) → T (rising k rs) → (r : Reason) → List·Memᴰ r rs → k < r .number
 above k [] t r m = absurd (List·Memᴰ·not-nil m)

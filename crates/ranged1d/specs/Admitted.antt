@@ -23,3 +23,7 @@ limitOf p q = record { 0 = p; 1 = q }
 
 abbrev pub limitAdmitted : Limit → Bool
 limitAdmitted l = pixelAdmitted (l .0) && pixelAdmitted (l .1)
+
+-- a pixel that is to be read, and the limits that it is read by
+abbrev pub readingAdmitted : ℤ → Limit → Bool
+readingAdmitted x l = pixelAdmitted x && limitAdmitted l

@@ -2,7 +2,7 @@
 -- Assumes nothing.
 use Prim.Native.Nat.{ℕ}
 use mathlib.Core.Path.{_≡_}
-use mathlib.Core.Bool.{Bool, cond}
+use mathlib.Core.Bool.{Bool, true, cond, _&&_}
 use mathlib.Core.List.{List, [], _∷_, _++_}
 use lib.Dec.{ltb}
 use lib.ListN.{length, drop}
@@ -28,6 +28,11 @@ abbrev pub lowest : {A : Type 0} → List Reason → Answer A → Answer A
 lowest [] a = a
 lowest (r ∷ rs) a = cond (r .applies) (refused (r .number)) (lowest rs a)
 
+-- The numbers of reasons rise, from above k.
+abbrev pub rising : ℕ → List Reason → Bool
+rising k [] = true
+rising k (r ∷ rs) = ltb k (r .number) && rising (r .number) rs
+
 -- Lent memory that held `old`, once a call has this answer: an answer stands at its start and leaves the rest as it was; none and a
 -- refusal write nothing.
 abbrev pub heldAfter : {A B : Type 0} → Answer A → List B → List B → List B
@@ -44,6 +49,13 @@ abbrev pub andThen : {A B : Type 0} → Answer A → (A → Answer B) → Answer
 andThen (given x) f = f x
 andThen none f = none
 andThen (refused n) f = refused n
+
+-- Two answers side by side: both give something, and R says how the one stands to the other; or there is none on either side; or both are refused with
+-- the same number.
+pub data Paired {A : Type 0} (R : A → A → Type 0) : Answer A → Answer A → Type 0 where
+  both-given : {x y : A} → R x y → Paired R (given x) (given y)
+  both-none : Paired R none none
+  both-refused : {n : ℕ} → Paired R (refused n) (refused n)
 
 -- A list that is put into lent memory, 13 where that is too short for it; else how many entries it has.
 abbrev pub listWritten : {A : Type 0} → List A → List A → Answer ℕ × List A

@@ -1,6 +1,6 @@
 -- What rules of several crates ask of whole numbers and of lists. Assumes nothing.
 use Prim.Native.Nat.{ℕ}
-use mathlib.Core.Bool.{Bool, true, cond, _&&_}
+use mathlib.Core.Bool.{Bool, true, false, cond, _&&_}
 use mathlib.Core.List.{List, [], _∷_}
 use lib.IntN.{ℤ, pos, negsuc}
 use lib.Signed.{leZ}
@@ -24,6 +24,13 @@ high a b = cond (leZ a b) b a
 abbrev pub raised : ℤ → ℕ
 raised (pos n) = n
 raised (negsuc n) = 0
+
+-- whether two lists are the same, entry for entry
+abbrev pub sameEach : {A : Type 0} → (A → A → Bool) → List A → List A → Bool
+sameEach eq [] [] = true
+sameEach eq [] (y ∷ ys) = false
+sameEach eq (x ∷ xs) [] = false
+sameEach eq (x ∷ xs) (y ∷ ys) = eq x y && sameEach eq xs ys
 
 -- a test of every entry of a list
 abbrev pub every : {A : Type 0} → (A → Bool) → List A → Bool

@@ -4,7 +4,7 @@ ghost use lib.IntN.{natAbs};
 ghost use mir.Syntax.{w32};
 ghost use mir.Val.{toZ};
 ghost use Rattle.ranged1d.specs.Refusals.{numberOf};
-ghost use Rattle.ranged1d.specs.Admitted.{wholeAdmitted, indexAdmitted, pixelAdmitted, limitAdmitted};
+ghost use Rattle.ranged1d.specs.Admitted.{wholeAdmitted, indexAdmitted, pixelAdmitted, limitAdmitted, readingAdmitted};
 
 // The limits p and q of an axis on the film: where its first and its second end are placed.
 pub struct Limit(pub i32, pub i32);
@@ -103,6 +103,16 @@ impl Limit {
     {
         if pixel_admitted(self.0) {
             return pixel_admitted(self.1);
+        }
+        false
+    }
+
+    // Whether pixel x may be read by these limits: it is admitted, and they are.
+    pub fn admits(self, x: i32) -> bool
+        ensures { λ r. ⌜ r ≡ readingAdmitted x self ⌝ }
+    {
+        if pixel_admitted(x) {
+            return self.admitted();
         }
         false
     }

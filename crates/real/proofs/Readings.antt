@@ -1,19 +1,19 @@
 -- The mirror of a real reading. Assumes nothing.
 use mathlib.Core.Path.{_≡_, refl, sym, ap, _∙_, subst}
 use mathlib.Core.Logic.{inl, inr}
-use mathlib.Core.Bool.{Bool, true, false, not, cond, _&&_, _||_, true≢false, and-comm, or-comm}
+use mathlib.Core.Bool.{Bool, true, false, not, cond, _||_, true≢false, and-comm, or-comm}
 use Prim.Native.Nat.{ℕ}
 use lib.Dec.{leb}
 use lib.IntN.{ℤ, negℤ, negℤ-+ℤ, _-ℤ_}
 use lib.Signed.{ltZ, leZ}
 use lib.Ieee.{Float, nan, inf, fin, binary64, neg, add, sub, mul, ofInt, isNan}
-use Rattle.ranged1d.specs.Answer.{given, none, refused}
-use Rattle.ranged1d.specs.Admitted.{pixelAdmitted, limitAdmitted}
+use Rattle.ranged1d.specs.Answer.{given, none, refused, both-given, both-none, both-refused}
+use Rattle.ranged1d.specs.Admitted.{pixelAdmitted, limitAdmitted, readingAdmitted}
 use Rattle.ranged1d.specs.declared.Limit.{Limit}
 use Rattle.ranged1d.specs.Numbers.{low, high, same}
 use Rattle.ranged1d.proofs.Whole.{neg-far, neg-le, neg-lt, low-neg, high-neg, same-yes, no-difference}
 use Rattle.real.specs.Reading.{outside, offset, valueAt, realReading}
-use Rattle.real.specs.Mirror.{mirrored, Same, Opposite, values, both-none, both-refused}
+use Rattle.real.specs.Mirror.{mirrored, Same, Opposite}
 use Rattle.real.proofs.Signs.{Alike, zeros-equal, alike-on, alike-through, turns-alike, add-turns, sub-turns, mul-neg, mul-alike, div-alike, add-left, int-neg, int-alike}
 use Rattle.real.proofs.Exact.{eq-self}
 
@@ -66,7 +66,7 @@ readings limit a b x =
     let p = limit .0 in
     let q = limit .1 in
     rw (limit-neg limit, pixel-neg x, outside-neg x p q, same-neg p q)
-    (go (limitAdmitted limit && pixelAdmitted x) (outside x p q) (same p q) refl)
+    (go (readingAdmitted x limit) (outside x p q) (same p q) refl)
   where
     go : (c o e : Bool) → same (limit .0) (limit .1) ≡ e
         → Opposite
@@ -75,4 +75,4 @@ readings limit a b x =
     go false o e h = both-refused
     go true true e h = both-none
     go true false true h = both-none
-    go true false false h = values (alike-same (value-alike a b _ _ (offset-alike x (limit .0) (limit .1) h)))
+    go true false false h = both-given (alike-same (value-alike a b _ _ (offset-alike x (limit .0) (limit .1) h)))

@@ -13,8 +13,8 @@ use lib.Ieee.Fits.{up-pos, down-pos}
 use lib.Ieee.Exact.{HasValue}
 use lib.Ieee.Back.{round-whole}
 use lib.Ieee.Scale.{round-same}
-use borrow.Author.Tests.{ltb-false, eq-eqb}
-use Rattle.rounding.proofs.Signs.{neg-neg, round-neg}
+use borrow.Author.Tests.{ltb-false, eq-eqb, ne-eqb, eqb-true, eqb-false}
+use Rattle.rounding.proofs.Signs.{neg-neg, either-neg, round-neg}
 
 -- ---- signs
 unlike-both : (s t : Bool) → unlike (not s) (not t) ≡ unlike s t
@@ -23,7 +23,7 @@ unlike-both true false = refl
 unlike-both false true = refl
 unlike-both false false = refl
 
-pub unlike-one : (s t : Bool) → unlike (not s) t ≡ not (unlike s t)
+unlike-one : (s t : Bool) → unlike (not s) t ≡ not (unlike s t)
 unlike-one true true = refl
 unlike-one true false = refl
 unlike-one false true = refl
@@ -44,6 +44,32 @@ eq-neg (inf s) (fin t n d) = refl
 eq-neg (fin s m e) nan = refl
 eq-neg (fin s m e) (inf t) = refl
 eq-neg (fin s m e) (fin t n d) = rw (beq-both s t)
+
+-- equality is the same from either side
+beq-even : (s t : Bool) → Bool·beq s t ≡ Bool·beq t s
+beq-even true true = refl
+beq-even true false = refl
+beq-even false true = refl
+beq-even false false = refl
+
+level-even : (s t : Bool) (a b : ℕ) → level s a t b ≡ level t b s a
+level-even s t a b = go (eqb a b) refl
+  where
+    go : (x : Bool) → eqb a b ≡ x → level s a t b ≡ level t b s a
+    go true e = let d : a ≡ b = eqb-true a b e in subst (λ (z : ℕ). level s a t z ≡ level t z s a) d (ap (λ (w : Bool). eqb a a && w) (ap (λ (z : Bool). z || eqb a 0) (beq-even s t)))
+    go false e = rw (e, ne-eqb b a (λ d. eqb-false a b e (sym d))) refl
+
+pub eq-even : (x y : Float) → eq x y ≡ eq y x
+unfolding eq
+eq-even nan nan = refl
+eq-even nan (inf t) = refl
+eq-even nan (fin t b d) = refl
+eq-even (inf s) nan = refl
+eq-even (inf s) (inf t) = beq-even s t
+eq-even (inf s) (fin t b d) = refl
+eq-even (fin s a e) nan = refl
+eq-even (fin s a e) (inf t) = refl
+eq-even (fin s a e) (fin t b d) = level-even s t (a * up e * down d) (b * up d * down e)
 
 -- ---- zeros
 abbrev pub zeroOf : Bool → Float
@@ -160,21 +186,27 @@ unfolding sub
 sub-turns x y = turns-map (λ (w : eq (neg (neg y)) x ≡ true). rw (neg-neg y) at w) (add-turns x (neg y))
 
 -- ---- products and quotients of negated numbers
-nan-or-inf : (b s : Bool) → cond b nan (inf (not s)) ≡ neg (cond b nan (inf s))
-unfolding neg
-nan-or-inf true s = refl
-nan-or-inf false s = refl
-
 pub mul-neg : (x y : Float) → mul binary64 (neg x) y ≡ neg (mul binary64 x y)
 unfolding mul neg
 mul-neg nan y = refl
 mul-neg (inf s) nan = refl
 mul-neg (inf s) (inf t) = ap inf (unlike-one s t)
-mul-neg (inf s) (fin t n d) = rw (unlike-one s t) (nan-or-inf (eqb n 0) (unlike s t))
+mul-neg (inf s) (fin t n d) = rw (unlike-one s t) (either-neg (eqb n 0) nan (inf (unlike s t)) refl refl)
 mul-neg (fin s m e) nan = refl
-mul-neg (fin s m e) (inf t) = rw (unlike-one s t) (nan-or-inf (eqb m 0) (unlike s t))
+mul-neg (fin s m e) (inf t) = rw (unlike-one s t) (either-neg (eqb m 0) nan (inf (unlike s t)) refl refl)
 mul-neg (fin s m e) (fin t n d) =
     rw (unlike-one s t) (round-neg binary64 (unlike s t) (m * up e * (n * up d)) (down e * down d))
+
+pub div-neg : (f : Format) (x y : Float) → div f (neg x) y ≡ neg (div f x y)
+unfolding div neg
+div-neg f nan y = refl
+div-neg f (inf s) nan = refl
+div-neg f (inf s) (inf t) = refl
+div-neg f (inf s) (fin t n d) = ap inf (unlike-one s t)
+div-neg f (fin s m e) nan = refl
+div-neg f (fin s m e) (inf t) = ap zeroOf (unlike-one s t)
+div-neg f (fin s m e) (fin t n d) =
+    rw (unlike-one s t) (either-neg (eqb n 0) _ _ (either-neg (eqb m 0) nan (inf (unlike s t)) refl refl) (round-neg f (unlike s t) (m * up e * down d) (n * up d * down e)))
 
 div-both : (x y : Float) → div binary64 (neg x) (neg y) ≡ div binary64 x y
 unfolding div neg
@@ -259,14 +291,7 @@ eq-left (inf u) s t = refl
 eq-left (fin u n d) s t = rw (zero-mul (down d), or-true (Bool·beq s u), or-true (Bool·beq t u))
 
 eq-right : (x : Float) (s t : Bool) → eq x (zeroOf s) ≡ eq x (zeroOf t)
-unfolding eq
-eq-right nan s t = refl
-eq-right (inf u) s t = refl
-eq-right (fin u m e) s t = rw (zero-mul (down e)) (go (eqb (m * up e * 1) 0))
-  where
-    go : (b : Bool) → b && (Bool·beq u s || b) ≡ b && (Bool·beq u t || b)
-    go true = or-true (Bool·beq u s) ∙ sym (or-true (Bool·beq u t))
-    go false = refl
+eq-right x s t = eq-even x (zeroOf s) ∙ eq-left x s t ∙ eq-even (zeroOf t) x
 
 pub eq-alike : {x' x y' y : Float} → Alike x' x → Alike y' y → eq x' y' ≡ eq x y
 eq-alike {x} {y'} v w = same-through (λ (z : Float). eq z y') (eq-left y') v ∙ same-through (eq x) (eq-right x) w

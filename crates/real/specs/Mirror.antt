@@ -1,13 +1,12 @@
 -- 01 "Mirroring, real reading, stepped axes": what the mirror theorem says of places and of real readings. It is stated over the rules
 -- that the calls promise. `mirror` of proofs/Mirror proves `Mirrored limit` of all limits. Assumes nothing.
-use Prim.Native.Nat.{ℕ}
 use mathlib.Core.Path.{_≡_}
 use mathlib.Core.Bool.{true}
 use mathlib.Core.Logic.{_⊎_}
 use lib.IntN.{ℤ, negℤ}
 use lib.Ieee as Ieee
 use lib.Ieee.{Float, nan, neg}
-use Rattle.ranged1d.specs.Answer.{Answer, given, none, refused, andThen}
+use Rattle.ranged1d.specs.Answer.{Answer, given, andThen, Paired}
 use Rattle.ranged1d.specs.declared.Limit.{Limit}
 use Rattle.real.specs.Place.{realPlace, wholePlace}
 use Rattle.real.specs.Reading.{realReading}
@@ -25,10 +24,8 @@ abbrev pub Same : Float → Float → Type 0
 Same x y = ((x ≡ nan) × (y ≡ nan)) ⊎ (Ieee.eq x y ≡ true)
 
 -- a reading and that of the mirror: a value and its negation, or none of both, or both refused with one number
-pub data Opposite : Answer Float → Answer Float → Type 0 where
-  values : {x y : Float} → Same x (neg y) → Opposite (given x) (given y)
-  both-none : Opposite none none
-  both-refused : {n : ℕ} → Opposite (refused n) (refused n)
+abbrev pub Opposite : Answer Float → Answer Float → Type 0
+Opposite x y = Paired (λ (v w : Float). Same v (neg w)) x y
 
 -- ---- the statement
 pub record Mirrored (limit : Limit) : Type 0 where

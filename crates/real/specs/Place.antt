@@ -1,12 +1,12 @@
 -- Where a value of an axis falls on the film between the limits p and q, and which calls for a place are refused. Assumes nothing.
 use Prim.Native.Nat.{ℕ, zero, suc}
 use mathlib.Core.Bool.{Bool, true, false, not, cond, _&&_}
-use mathlib.Core.List.{[], _∷_}
+use mathlib.Core.List.{List, [], _∷_}
 use lib.IntN.{ℤ, pos, negsuc, _+ℤ_, _-ℤ_}
 use lib.Signed.{quotZ}
 use lib.Ieee as Ieee
 use lib.Ieee.{Float, inf, binary64}
-use Rattle.ranged1d.specs.Answer.{Answer, given, refused, _when_, lowest}
+use Rattle.ranged1d.specs.Answer.{Answer, given, refused, _when_, lowest, Reason}
 use Rattle.ranged1d.specs.Refusals.{numberOf}
 use Rattle.ranged1d.specs.Admitted.{wholeAdmitted, limitAdmitted}
 use Rattle.ranged1d.specs.declared.Limit.{Limit}
@@ -86,24 +86,21 @@ abbrev pub spotAnswer : Whole → Answer ℤ
 spotAnswer w = lowest (5 when isBeyond w ∷ []) (given (number w))
 
 -- a place on a real axis: 2 where a limit is not admitted, 5 where the whole number is beyond
+abbrev pub realPlaceReasons : Float → Float → Float → Limit → List Reason
+realPlaceReasons a b v limit = 2 when not (limitAdmitted limit) ∷ 5 when isBeyond (spot a b v limit) ∷ []
+
 unfoldable pub realPlace : Float → Float → Float → Limit → Answer ℤ
-realPlace a b v limit =
-    lowest (
-    2 when not (limitAdmitted limit)
-    ∷ 5 when isBeyond (spot a b v limit)
-    ∷ []
-    ) (given (number (spot a b v limit)))
+realPlace a b v limit = lowest (realPlaceReasons a b v limit) (given (number (spot a b v limit)))
 
 -- The same rule on a whole axis, ends and value taken as f64, which holds each of them.
 abbrev pub wholeSpot : ℤ → ℤ → ℤ → Limit → Whole
 wholeSpot a b v limit = spot (Ieee.ofInt binary64 a) (Ieee.ofInt binary64 b) (Ieee.ofInt binary64 v) limit
 
 -- a place on a whole axis: before 2 and 5, 1 where an end or the value is not admitted
-unfoldable pub wholePlace : ℤ → ℤ → ℤ → Limit → Answer ℤ
-wholePlace a b v limit =
-    lowest (
+abbrev pub wholePlaceReasons : ℤ → ℤ → ℤ → Limit → List Reason
+wholePlaceReasons a b v limit =
     1 when not (wholeAdmitted a && wholeAdmitted b && wholeAdmitted v)
-    ∷ 2 when not (limitAdmitted limit)
-    ∷ 5 when isBeyond (wholeSpot a b v limit)
-    ∷ []
-    ) (given (number (wholeSpot a b v limit)))
+    ∷ realPlaceReasons (Ieee.ofInt binary64 a) (Ieee.ofInt binary64 b) (Ieee.ofInt binary64 v) limit
+
+unfoldable pub wholePlace : ℤ → ℤ → ℤ → Limit → Answer ℤ
+wholePlace a b v limit = lowest (wholePlaceReasons a b v limit) (given (number (wholeSpot a b v limit)))

@@ -1,5 +1,5 @@
 -- The value that a real axis has at a pixel of the film, and which calls for a reading are refused. Assumes nothing.
-use mathlib.Core.Bool.{Bool, not, cond, _&&_, _||_}
+use mathlib.Core.Bool.{Bool, not, cond, _||_}
 use mathlib.Core.List.{[], _∷_}
 use lib.IntN.{ℤ, _-ℤ_}
 use lib.Signed.{ltZ}
@@ -7,7 +7,7 @@ use lib.Ieee as Ieee
 use lib.Ieee.{Float, binary64}
 use Rattle.ranged1d.specs.Answer.{Answer, given, none, refused, _when_, lowest}
 use Rattle.ranged1d.specs.Refusals.{numberOf}
-use Rattle.ranged1d.specs.Admitted.{pixelAdmitted, limitAdmitted}
+use Rattle.ranged1d.specs.Admitted.{readingAdmitted}
 use Rattle.ranged1d.specs.declared.Limit.{Limit}
 use Rattle.ranged1d.specs.Numbers.{same, low, high}
 use Rattle.real.specs.declared.RealReading.{RealReading}
@@ -33,9 +33,9 @@ offset x p q = Ieee.div binary64 (Ieee.ofInt binary64 (x -ℤ p)) (Ieee.ofInt bi
 abbrev pub valueAt : Float → Float → Float → Float
 valueAt a b t = Ieee.add binary64 (Ieee.mul binary64 (Ieee.sub binary64 b a) t) a
 
--- ---- 01 "Why a call stops": the call. 2 where a limit or the pixel is not admitted; then none off the film and on a film without length,
+-- ---- 01 "Why a call stops": the call. 2 where the pixel or a limit is not admitted; then none off the film and on a film without length,
 -- whose limits are the same
 unfoldable pub realReading : Float → Float → ℤ → Limit → Answer Float
 realReading a b x limit =
-    lowest (2 when not (limitAdmitted limit && pixelAdmitted x) ∷ [])
+    lowest (2 when not (readingAdmitted x limit) ∷ [])
     (cond (outside x (limit .0) (limit .1) || same (limit .0) (limit .1)) none (given (valueAt a b (offset x (limit .0) (limit .1)))))

@@ -61,9 +61,9 @@ odd-neg d s zero k l = refl
 odd-neg d s (suc q) k l = refl
 
 -- a choice between two numbers that are both negated
-both : (b : Bool) (x y x' y' : Float) → x' ≡ neg x → y' ≡ neg y → cond b x' y' ≡ neg (cond b x y)
-both true x y x' y' p q = p
-both false x y x' y' p q = q
+pub either-neg : (b : Bool) (x y : Float) {x' y' : Float} → x' ≡ neg x → y' ≡ neg y → cond b x' y' ≡ neg (cond b x y)
+either-neg true x y p q = p
+either-neg false x y p q = q
 
 inf-neg : (s : Bool) → inf (not s) ≡ neg (inf s)
 unfolding neg
@@ -71,7 +71,7 @@ inf-neg s = refl
 
 units-neg : (f : Format) (s : Bool) (q k : ℕ) → units f (not s) q k ≡ neg (units f s q k)
 unfolding units
-units-neg f s q k = both (ltb (q * 2 ^ k) (2 ^ (low f + suc (emax f)))) _ _ _ _ (odd-neg (suc (prec f)) s q k (low f)) (inf-neg s)
+units-neg f s q k = either-neg (ltb (q * 2 ^ k) (2 ^ (low f + suc (emax f)))) _ _ (odd-neg (suc (prec f)) s q k (low f)) (inf-neg s)
 
 pub round-neg : (f : Format) (s : Bool) (n d : ℕ) → round f (not s) n d ≡ neg (round f s n d)
 unfolding round
@@ -94,7 +94,7 @@ unfolding integral neg
 integral-neg f w nan = refl
 integral-neg f w (inf s) = refl
 integral-neg f w (fin s m e) =
-    both (isWhole m e) _ _ _ _ (neg-fin s m e)
+    either-neg (isWhole m e) _ _ (neg-fin s m e)
     (ap (λ (k : ℕ). round f (not s) k 1) (sized-neg w s (m * up e) (down e)) ∙ round-neg f s (sized (turned w) s (m * up e) (down e)) 1)
 
 -- the way back: what a function that goes by the mirrored number returns

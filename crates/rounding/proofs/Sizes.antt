@@ -21,20 +21,20 @@ use Rattle.rounding.proofs.Compare.{Says, Tells, compared, own, under}
 use Rattle.rounding.proofs.Quotients.{Is, sized-of, sized-next, sized-whole, sized-le, sized-is}
 use Rattle.rounding.proofs.Signs.{zeroF, neg-neg, lt-neg}
 use Rattle.rounding.proofs.Sums.{whole-sum}
-use Rattle.rounding.proofs.Steps.{Small, before, signed-abs, of-signed, not-below}
+use Rattle.rounding.proofs.Steps.{Small, power, before, signed-abs, of-signed, not-below}
 
 abbrev pub half : Float
 half = fin false 1 (negsuc 0)
 
--- ---- integers up to 2 ^ 52 are floats, and come back
-pub in-float : (n : ℕ) → n ≤ 2 ^ 52 → T (inFloat binary64 (pos n))
+-- ---- integers of so many binary digits are floats, and come back
+pub in-float : (f : Format) (z : ℤ) → natAbs z ≤ 2 ^ prec f → T (inFloat f z)
 unfolding inFloat
-in-float n h = le→leb n (2 ^ 53) (omega arith)
+in-float f (pos n) h = le→leb n (2 ^ prec f) h
+in-float f (negsuc n) h = lt→ltb n (2 ^ prec f) h
 
 pub cast-back : (z : ℤ) → natAbs z ≤ 2 ^ 52 → T (inSigned binary64 63 (ofInt binary64 z)) × (toSigned 63 (ofInt binary64 z) ≡ z)
-unfolding inFloat
-cast-back (pos n) h = positive-back binary64 63 n (le→leb n (2 ^ 53) (omega arith)) (omega arith)
-cast-back (negsuc n) h = negative-back binary64 63 n (lt→ltb n (2 ^ 53) (omega arith)) (omega arith)
+cast-back (pos n) h = positive-back binary64 63 n (in-float binary64 (pos n) (omega arith)) (omega arith)
+cast-back (negsuc n) h = negative-back binary64 63 n (in-float binary64 (negsuc n) (omega arith)) (omega arith)
 
 -- ---- a number without a fraction is its own answer
 pub stays-whole : (f : Format) (w : Way) (s : Bool) (m : ℕ) (e : ℤ) → m * up e % down e ≡ 0 → integral f w (fin s m e) ≡ fin s m e
@@ -80,7 +80,7 @@ pub least-high : (k : ℕ) (x : Float) → lt x (fin false 1 (pos k)) ≡ false 
 unfolding lt
 least-high k nan h = tt
 least-high k (inf s) h = tt
-least-high k (fin false m e) h = under false false m e (fin false 1 (pos k)) (2 ^ k) (refl, ap (λ (n : ℕ). n * 1) (one-mul (2 ^ k))) h
+least-high k (fin false m e) h = under false false m e (fin false 1 (pos k)) (2 ^ k) (power false k) h
 least-high k (fin true m e) h =
     let l : m * up e * 1 + 1 * 2 ^ k * down e ≤ 0 = ltb-false 0 (m * up e * 1 + 1 * 2 ^ k * down e) h in
     let p : 0 < 1 * 2 ^ k * down e = rw (one-mul (2 ^ k)) (mul-pos (pow-pos k) (down-pos e)) in

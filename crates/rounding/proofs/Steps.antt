@@ -2,13 +2,14 @@
 use mathlib.Core.Path.{_≡_, refl, sym, ap, _∙_}
 use mathlib.Core.Bool.{Bool, true, false, not, true≢false, false≢true}
 use Prim.Native.Nat.{ℕ, zero, suc, _+_, _-_, _*_, _^_, _≤_, _<_, zero-le}
-use native.Mathlib.Nat.{mul-one, zero-mul, add-zero, add-mul, suc-mul, lt-of-mul-lt-mul-right}
+use native.Mathlib.Nat.{mul-one, one-mul, zero-mul, add-zero, add-mul, suc-mul, lt-of-mul-lt-mul-right}
 use native.Mathlib.Omega.{arith}
 use lib.IntN.{ℤ, pos, negsuc, negℤ, natAbs, _+ℤ_, negℤ-negℤ, negℤ-+ℤ, +ℤ-negℤ-cancel}
 use lib.Ieee.{Float, nan, inf, fin, Format, binary64, up, down, round, sum, add, sub, neg, lt, ofInt}
 use lib.Ieee.Fits.{down-pos}
 use lib.Ieee.Nearest.{closest}
 use lib.Ieee.Back.{round-whole}
+use lib.Ieee.Exact.{HasValue}
 use borrow.Author.Tests.{ltb-true, ltb-false, lt-ltb}
 use Rattle.ranged1d.proofs.Whole.{neg-far}
 use Rattle.rounding.specs.Integral.{floors, sized}
@@ -57,7 +58,7 @@ of-signed f true (suc k) p = refl
 -- ---- x against ±q of its own sign, 0 being +0 in either
 zero-after : (t : Bool) (m : ℕ) (e : ℤ) → lt (fin true m e) zeroF ≡ t → Says t 0 (m * up e)
 unfolding lt
-zero-after t m e h = simp (mul-one, zero-mul, add-zero) at (says 0 (m * up e * 1 + 0 * down e) t h)
+zero-after t m e h = simp (mul-one, one-mul, zero-mul, add-zero) at (says 0 (m * up e * 1 + 0 * down e) t h)
 
 zero-before : (t : Bool) (m : ℕ) (e : ℤ) → lt zeroF (fin true m e) ≡ t → Says t (m * up e) 0
 unfolding lt
@@ -132,19 +133,27 @@ anchored-zero m e h = (
   ap (λ (z : Float). add binary64 z (neg (big false))) (add-whole binary64 (fin true m e) (big false) true false 0 4503599627370496 (refl, omega arith) (refl, refl)),
 )
 
--- x is finite and below 2 ^ 52 in size
-abbrev pub Small : Float → Type 0
-Small nan = ⊥
-Small (inf s) = ⊥
-Small (fin s m e) = m * up e < 4503599627370496 * down e
+-- x is finite and below C in size
+abbrev pub Below : ℕ → Float → Type 0
+Below C nan = ⊥
+Below C (inf s) = ⊥
+Below C (fin s m e) = m * up e < C * down e
 
-pub small : (x : Float) → lt (big true) x ≡ true → lt x (big false) ≡ true → Small x
+-- ±2 ^ k, as a fraction
+pub power : (s : Bool) (k : ℕ) → HasValue (fin s 1 (pos k)) s (2 ^ k) 1
+power s k = (refl, ap (λ (n : ℕ). n * 1) (one-mul (2 ^ k)))
+
+-- what lies between −2 ^ k and 2 ^ k
+pub below-power : (k : ℕ) (x : Float) → lt (fin true 1 (pos k)) x ≡ true → lt x (fin false 1 (pos k)) ≡ true → Below (2 ^ k) x
 unfolding lt
-small nan g h = false≢true g
-small (inf true) g h = false≢true g
-small (inf false) g h = false≢true h
-small (fin true m e) g h = over true true m e (big true) 4503599627370496 (refl, refl) g
-small (fin false m e) g h = under false true m e (big false) 4503599627370496 (refl, refl) h
+below-power k nan g h = false≢true g
+below-power k (inf true) g h = false≢true g
+below-power k (inf false) g h = false≢true h
+below-power k (fin true m e) g h = over true true m e (fin true 1 (pos k)) (2 ^ k) (power true k) g
+below-power k (fin false m e) g h = under false true m e (fin false 1 (pos k)) (2 ^ k) (power false k) h
+
+abbrev pub Small : Float → Type 0
+Small x = Below 4503599627370496 x
 
 pub not-below : (m : ℕ) (e : ℤ) → lt (fin true m e) zeroF ≡ false → m * up e ≡ 0
 unfolding lt

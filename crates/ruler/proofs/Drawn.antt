@@ -20,7 +20,7 @@ use Rattle.numeric.specs.Calls.{wholePlan, planOf}
 use Rattle.numeric.proofs.Plans.{Good, planned-good}
 use Rattle.ruler.specs.declared.Draft.{Draft}
 use Rattle.ruler.specs.Bytes.{axis, laid, joined}
-use Rattle.ruler.specs.Rule.{markAt, rulerBytes, rulerWrite, hasRuler, rulerPlan}
+use Rattle.ruler.specs.Rule.{noRuler, markAt, rulerBytes, rulerWrite, hasRuler, rulerPlan}
 use Rattle.ruler.specs.Steps.{Reachable, firstOf}
 use Rattle.ruler.proofs.Records.{axis-long, head, marksOf, first-long, first-more}
 
@@ -67,7 +67,7 @@ module _ (a b : ℤ) (limit : Limit) (m : ℕ) where
   unfolding rulerWrite rulerPlan
   by-plan old e =
       ap (λ (r : Answer (ℕ × ℕ)). written r (rulerBytes a b limit m) old)
-      (sym (lowest-then (1 when not (wholeAdmitted a && wholeAdmitted b) ∷ 2 when not (limitAdmitted limit) ∷ 3 when noStep a b m ∷ []) (given (planOf a b m)) (λ p. lowest (13 when ltb (length old) (length (rulerBytes a b limit m)) ∷ []) (given (length (rulerBytes a b limit m), p .count)))))
+      (sym (lowest-then (noRuler a b limit m) (given (planOf a b m)) (λ p. lowest (13 when ltb (length old) (length (rulerBytes a b limit m)) ∷ []) (given (length (rulerBytes a b limit m), p .count)))))
       ∙ ap (byPlan old) e
 
   pub write-refused : (old : List ℕ) {n : ℕ} → rulerPlan a b limit m ≡ refused n → rulerWrite a b limit m old ≡ (refused n, old)

@@ -1,21 +1,22 @@
 -- The bytes of a ruler and of its mirror, from the mirror of the marks and that of places. Assumes nothing.
 use mathlib.Core.Path.{_≡_, refl, sym, ap, ap₂, _∙_}
-use mathlib.Core.Bool.{Bool, true, false, cond, not, _&&_}
+use mathlib.Core.Bool.{Bool, true, false, not, _&&_}
 use mathlib.Core.List.{List, [], _∷_, _++_, map, reverse, reverse-cons, map-append}
 use mathlib.Core.Logic.{_⊎_, inl, inr}
 use Prim.Native.Nat.{ℕ, _+_, _*_, _%_}
 use native.Mathlib.Omega.{arith}
-use lib.Dec.{ltb, eqb}
+use lib.Dec.{eqb}
 use lib.IntN.{ℤ, pos, negℤ, natAbs, negℤ-negℤ}
 use lib.ListN.{length, length-append}
 use lib.Signed.{_<ℤ_}
 use borrow.Author.Tests.{eqb-true, eqb-false}
 use Rattle.ruler.proofs.Places.{served}
-use Rattle.ranged1d.specs.Answer.{Answer, given, none, refused, Reason, _when_, lowest, BothLong}
-use Rattle.ranged1d.specs.Admitted.{wholeAdmitted, limitAdmitted}
+use Rattle.ranged1d.specs.Answer.{Answer, given, none, refused, Reason, lowest, andThen, BothLong}
+use Rattle.ranged1d.specs.Admitted.{wholeAdmitted}
 use Rattle.ranged1d.specs.declared.Limit.{Limit}
+use Rattle.ranged1d.proofs.Lowest.{lowest-then}
 use Rattle.ranged1d.proofs.Whole.{admitted-neg}
-use Rattle.numeric.specs.Marks.{low, high, noStep, stepOf, marks}
+use Rattle.numeric.specs.Marks.{low, high, stepOf, marks}
 use Rattle.numeric.specs.Mirror.{mirrored, nearestZero, Divides}
 use Rattle.numeric.proofs.Mirror as marks
 use Rattle.real.specs.Place.{wholePlace}
@@ -24,7 +25,7 @@ use Rattle.real.proofs.Mirror as places
 use Rattle.real.proofs.Readings.{limit-neg}
 use Rattle.ruler.specs.Bytes.{Record, axis, mark, laid, joined}
 use Rattle.ruler.specs.Place.{placeIn, placeOf}
-use Rattle.ruler.specs.Rule.{markAt, recordsOf, rulerBytes, rulerWrite, hasRuler}
+use Rattle.ruler.specs.Rule.{writeReasons, markAt, recordsOf, rulerBytes, rulerWrite, hasRuler}
 use Rattle.ruler.specs.Mirror.{negated, turned, verdict, OneMore, Mirrored}
 use Rattle.ruler.proofs.Records.{axis-long, records-long}
 use Rattle.ruler.proofs.Drawn.{has-plan, ruler-long}
@@ -82,13 +83,14 @@ records-back a b limit m z e =
 
 -- ---- refusals
 -- a verdict does not see the numbers of an answer
+-- a verdict is the same of an answer and of what is made of it
+pub verdict-then : {A B : Type 0} (r : Answer A) (f : A → B) → verdict r ≡ verdict (andThen r (λ x. given (f x)))
+verdict-then (given x) f = refl
+verdict-then none f = refl
+verdict-then (refused n) f = refl
+
 verdict-of : {A B : Type 0} (x : A) (y : B) (rs : List Reason) → verdict (lowest rs (given x)) ≡ verdict (lowest rs (given y))
-verdict-of x y [] = refl
-verdict-of x y (r ∷ rs) = go (r .applies) (verdict-of x y rs)
-  where
-    go : (t : Bool) → verdict (lowest rs (given x)) ≡ verdict (lowest rs (given y)) → verdict (cond t (refused (r .number)) (lowest rs (given x))) ≡ verdict (cond t (refused (r .number)) (lowest rs (given y)))
-    go true e = refl
-    go false e = e
+verdict-of x y rs = verdict-then (lowest rs (given x)) (λ z. y) ∙ ap verdict (lowest-then rs (given x) (λ z. given y))
 
 module _ (a b : ℤ) (limit : Limit) (m : ℕ) where
   abbrev −limit : Limit
@@ -105,7 +107,7 @@ module _ (a b : ℤ) (limit : Limit) (m : ℕ) where
   unfolding rulerWrite
   verdict-same old old′ e =
       rw (ends-same, limit-neg limit, marks.mirror a b m .same-refusal, ← e)
-      (verdict-of _ _ (1 when not (wholeAdmitted a && wholeAdmitted b) ∷ 2 when not (limitAdmitted limit) ∷ 3 when noStep a b m ∷ 13 when ltb (length old) (length (rulerBytes a b limit m)) ∷ []))
+      (verdict-of _ _ (writeReasons a b limit m old))
 
   -- ---- where there is a ruler
   module _ (h : hasRuler a b limit m ≡ true) where

@@ -10,7 +10,7 @@ use lib.Signed.{ltZ, mag}
 use borrow.Author.Tests.{ltb-true}
 use mir.Facts.{toZ-ofZ, fits-ofZ}
 use mir.Syntax.{w32}
-use mir.Val.{bits, hbits, ofZ, toZ, SFits}
+use mir.Val.{hbits, ofZ, toZ, SFits}
 
 pub bits-below : (z : ℤ) → ltZ z (pos 0) ≡ true → (0 < natAbs z) × (4294967295 - (natAbs z - 1) ≡ ofZ w32 z)
 bits-below (pos n) h = absurd (omega (arith, ltb-true n 0 h))

@@ -14,7 +14,7 @@ use Rattle.numeric.specs.Marks.{listOf}
 use Rattle.numeric.specs.Calls.{element}
 use Rattle.numeric.proofs.Lists.{length-of}
 use Rattle.decimal.specs.Print.{decimal}
-use Rattle.decimal.proofs.Digits.{decimal-most, filled-to-long}
+use Rattle.decimal.proofs.Digits.{decimal-most, filled-long}
 use Rattle.ruler.specs.declared.Draft.{Draft}
 use Rattle.ruler.specs.Bytes.{Record, axis, mark, axisBody, markBody, laid, joined}
 use Rattle.ruler.specs.Place.{placeOf}
@@ -33,7 +33,7 @@ joined-append (x ∷ xs) ys = ap (λ (l : List ℕ). laid x ++ l) (joined-append
 
 pub mark-body-long : (v x : ℤ) → length (markBody v x) ≡ 19
 unfolding markBody
-mark-body-long v x = omega (arith, filled-to-long 11 (decimal v) (decimal-most v))
+mark-body-long v x = omega (arith, filled-long 32 11 (decimal v) (decimal-most v))
 
 pub mark-long : (v x : ℤ) → length (laid (mark v x)) ≡ 20
 unfolding laid

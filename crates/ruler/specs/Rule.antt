@@ -2,12 +2,12 @@
 -- "Why a call stops". Assumes nothing.
 use Prim.Native.Nat.{ℕ, suc, _+_, _-_, _*_}
 use mathlib.Core.Bool.{Bool, cond, not, _&&_}
-use mathlib.Core.List.{List, [], _∷_, map}
+use mathlib.Core.List.{List, [], _∷_, _++_, map}
 use lib.Dec.{ltb}
 use lib.IntN.{ℤ, pos}
 use lib.ListN.{length, take, drop}
 use lib.Signed.{ltZ}
-use Rattle.ranged1d.specs.Answer.{Answer, given, refused, _when_, lowest, written}
+use Rattle.ranged1d.specs.Answer.{Answer, given, refused, Reason, _when_, lowest, written}
 use Rattle.ranged1d.specs.Refusals.{numberOf}
 use Rattle.ranged1d.specs.Admitted.{wholeAdmitted, limitAdmitted}
 use Rattle.ranged1d.specs.Numbers.{same}
@@ -47,31 +47,22 @@ recordsOf a b limit m = axis a b limit m (pos (stepOf a b m)) ∷ map (markAt a 
 unfoldable pub rulerBytes : ℤ → ℤ → Limit → ℕ → List ℕ
 rulerBytes a b limit m = joined (recordsOf a b limit m)
 
--- `write`, 01 "Why a call stops": 1 where an end is not admitted, 2 where a limit is not, 3 where no step serves, 13 where the lent bytes
--- are too few; else the number of bytes and of marks, and the ruler at the start of the lent bytes. 5 is never met: `every-placed` of
--- proofs/Places.
+-- 01 "Why a call stops": why there is no ruler. 1 where an end is not admitted, 2 where a limit is not, 3 where no step serves. 5 is never met:
+-- `every-placed` of proofs/Places.
+abbrev pub noRuler : ℤ → ℤ → Limit → ℕ → List Reason
+noRuler a b limit m = 1 when not (wholeAdmitted a && wholeAdmitted b) ∷ 2 when not (limitAdmitted limit) ∷ 3 when noStep a b m ∷ []
+
+-- `write`: 13 where the lent bytes are too few; else the number of bytes and of marks, and the ruler at the start of the lent bytes
+abbrev pub writeReasons : ℤ → ℤ → Limit → ℕ → List ℕ → List Reason
+writeReasons a b limit m old = noRuler a b limit m ++ (13 when ltb (length old) (length (rulerBytes a b limit m)) ∷ [])
+
 unfoldable pub rulerWrite : ℤ → ℤ → Limit → ℕ → List ℕ → Answer (ℕ × ℕ) × List ℕ
 rulerWrite a b limit m old =
-    written
-    (lowest (
-    1 when not (wholeAdmitted a && wholeAdmitted b)
-    ∷ 2 when not (limitAdmitted limit)
-    ∷ 3 when noStep a b m
-    ∷ 13 when ltb (length old) (length (rulerBytes a b limit m))
-    ∷ []
-    ) (given (length (rulerBytes a b limit m), length (marks a b m))))
-    (rulerBytes a b limit m)
-    old
+    written (lowest (writeReasons a b limit m old) (given (length (rulerBytes a b limit m), length (marks a b m)))) (rulerBytes a b limit m) old
 
 -- `plan`, the same without memory: the first mark, the step and the count, or the first reason that there is no ruler
 unfoldable pub rulerPlan : ℤ → ℤ → Limit → ℕ → Answer KeyPoints
-rulerPlan a b limit m =
-    lowest (
-    1 when not (wholeAdmitted a && wholeAdmitted b)
-    ∷ 2 when not (limitAdmitted limit)
-    ∷ 3 when noStep a b m
-    ∷ []
-    ) (given (planOf a b m))
+rulerPlan a b limit m = lowest (noRuler a b limit m) (given (planOf a b m))
 
 -- ---- 01 "Ruler bytes": the reader
 -- whether an axis has a ruler: nothing stops the writer but memory

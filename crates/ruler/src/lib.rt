@@ -4,7 +4,7 @@ ghost use mathlib.Core.List.{_∷_, _++_, map};
 ghost use Prim.Native.Nat.{ℕ, _+_, _*_, _<_, _≤_};
 ghost use lib.ListN.{length, drop};
 ghost use mir.Syntax.{w32};
-ghost use mir.Val.{ofZ, toZ};
+ghost use mir.Val.{ofZ};
 ghost use Rattle.numeric.specs.Marks.{listOf};
 ghost use Rattle.numeric.specs.Calls.{element, tellPlanned};
 ghost use Rattle.decimal.specs.Read.{sameBytes};

@@ -9,8 +9,8 @@ use lib.Seq.{take-all, drop-drop}
 use Rattle.ranged1d.specs.Numbers.{every}
 use Rattle.ranged1d.proofs.Bools.{both-true}
 use Rattle.search.specs.Search.{Numbers}
-use Rattle.search.specs.Lists.{goesOn, ascends, searchable}
-use Rattle.search.specs.Steps.{toward, risesFirst}
+use Rattle.search.specs.Lists.{toward, goesOn, ascends, searchable}
+use Rattle.search.specs.Steps.{risesFirst}
 use Rattle.search.proofs.Orders.{Order, Between, way}
 use Rattle.search.proofs.Settles.{Sorted, Ordinary}
 

@@ -1,7 +1,7 @@
 -- What the proofs on searches ask of an order and its equality, in either direction. Assumes nothing.
 use mathlib.Core.Path.{_≡_, refl, _∙_}
 use mathlib.Core.Bool.{Bool, true, false}
-use Rattle.search.specs.Steps.{toward}
+use Rattle.search.specs.Lists.{toward}
 
 -- `total` is asked of numbers that equal themselves: a NaN does not
 pub record Order (A : Type 0) (lt eq : A → A → Bool) : Type 0 where

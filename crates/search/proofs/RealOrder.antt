@@ -1,11 +1,11 @@
 -- Floats are ordered by IEEE 754's comparisons, but for a NaN, which equals nothing. Assumes nothing.
 use mathlib.Core.Path.{_≡_, refl, sym, ap, subst, _∙_}
 use mathlib.Core.Bool.{Bool, true, false, true≢false, _&&_, _||_, not, Bool·beq}
-use Prim.Native.Nat.{ℕ, zero, _+_, _*_, _≤_, _<_}
+use Prim.Native.Nat.{ℕ, _+_, _*_, _≤_, _<_}
 use native.Mathlib.Nat.{le-of-lt, le-of-eq, mul-right-comm, zero-mul, mul-pos, lt-of-mul-lt-mul-right, mul-le-mul-right, mul-lt-mul-of-pos-right}
 use native.Mathlib.Omega.{arith}
 use native.Mathlib.Decide.{decLt}
-use borrow.Author.Tests.{lt-ltb, le-ltb, eq-eqb, ne-eqb, ltb-true, ltb-false, eqb-true, eqb-false}
+use borrow.Author.Tests.{lt-ltb, le-ltb, eq-eqb, ne-eqb, ltb-true, ltb-false, eqb-true}
 use lib.Dec.{ltb, eqb, T}
 use lib.Ieee as Ieee
 use lib.Ieee.{Float, nan, inf, fin, up, down, below, level, lt, eq, neg}
@@ -14,7 +14,7 @@ use lib.Ieee.Positive.{first-pos}
 use Rattle.ranged1d.proofs.Bools.{both-true}
 use Rattle.rounding.proofs.Order.{eq-zero}
 use Rattle.rounding.proofs.Signs.{lt-neg}
-use Rattle.real.proofs.Signs.{eq-neg}
+use Rattle.real.proofs.Signs.{eq-neg, eq-even}
 use Rattle.real.proofs.Exact.{eq-self}
 use Rattle.search.proofs.Orders.{Order}
 
@@ -68,19 +68,6 @@ below-apart true false a b h = go (eqb a b) refl
     go true e = ne-eqb a 0 (λ z. omega (arith, l, z, eqb-true a b e))
     go false e = refl
 below-apart true true a b h = let l : b < a = ltb-true b a h in rw (ne-eqb a b (λ e. omega (arith, l, e))) refl
-
-level-even : (s t : Bool) (a b : ℕ) → level s a t b ≡ level t b s a
-level-even s t a b = go (eqb a b) refl
-  where
-    turn : (s t x : Bool) → (Bool·beq s t || x) ≡ (Bool·beq t s || x)
-    turn true true x = refl
-    turn true false x = refl
-    turn false true x = refl
-    turn false false x = refl
-
-    go : (x : Bool) → eqb a b ≡ x → level s a t b ≡ level t b s a
-    go true e = let d : a ≡ b = eqb-true a b e in subst (λ (z : ℕ). level s a t z ≡ level t z s a) d (ap (λ (w : Bool). eqb a a && w) (turn s t (eqb a 0)))
-    go false e = rw (e, ne-eqb b a (λ d. eqb-false a b e (sym d))) refl
 
 -- the signs of equal fractions are equal, or both are zero
 pub data Level (s t : Bool) (x y : ℕ) : Type 0 where
@@ -210,21 +197,6 @@ lt-apart (inf s) (fin t b d) h = refl
 lt-apart (fin s a e) nan h = never h
 lt-apart (fin s a e) (inf t) h = refl
 lt-apart (fin s a e) (fin t b d) h = below-apart s t (a * up e * down d) (b * up d * down e) h
-
-eq-even : (x y : Float) → eq x y ≡ eq y x
-unfolding eq
-eq-even nan nan = refl
-eq-even nan (inf t) = refl
-eq-even nan (fin t b d) = refl
-eq-even (inf s) nan = refl
-eq-even (inf true) (inf true) = refl
-eq-even (inf true) (inf false) = refl
-eq-even (inf false) (inf true) = refl
-eq-even (inf false) (inf false) = refl
-eq-even (inf s) (fin t b d) = refl
-eq-even (fin s a e) nan = refl
-eq-even (fin s a e) (inf t) = refl
-eq-even (fin s a e) (fin t b d) = level-even s t (a * up e * down d) (b * up d * down e)
 
 lt-follow : (x y z : Float) → eq x y ≡ true → lt y z ≡ true → lt x z ≡ true
 unfolding lt eq

@@ -15,9 +15,9 @@ use Rattle.ranged1d.specs.Admitted.{wholeAdmitted}
 use Rattle.ranged1d.specs.Numbers.{every}
 use Rattle.ranged1d.proofs.Whole.{same-yes}
 use Rattle.search.specs.Search.{Numbers, wholes, reals, best, search}
-use Rattle.search.specs.Lists.{ascends, searchable, wholeSearch, realSearch}
+use Rattle.search.specs.Lists.{toward, ascends, searchable, wholeSearch, realSearch}
 use Rattle.search.specs.Settled.{settled, settledNan}
-use Rattle.search.specs.Steps.{toward, risesFirst, PlaceOf}
+use Rattle.search.specs.Steps.{risesFirst, PlaceOf}
 use Rattle.search.specs.declared.RoundingMethod.{RoundingMethod}
 use Rattle.search.specs.declared.RoundingMethod.the-variants.{Exact, Ceil, Floor, Round}
 use Rattle.search.proofs.Best.{best-none}

@@ -12,7 +12,8 @@ use Rattle.ranged1d.specs.Answer.{Answer, given, none}
 use Rattle.ranged1d.proofs.Bools.{or-right, cond-same}
 use Rattle.search.specs.Search.{Numbers, best, exact, up, down, between, indexOf, search}
 use Rattle.search.specs.Settled.{ahead, behind, nearest, closer, unequal, settled}
-use Rattle.search.specs.Steps.{toward, PlaceOf}
+use Rattle.search.specs.Lists.{toward}
+use Rattle.search.specs.Steps.{PlaceOf}
 use Rattle.search.specs.declared.RoundingMethod.{RoundingMethod}
 use Rattle.search.specs.declared.RoundingMethod.the-variants.{Exact, Ceil, Floor, Round}
 use Rattle.search.proofs.Best.{Beats, best-none, best-is}

@@ -1,13 +1,9 @@
 -- What the steps of a search find, for the promises of private functions. Assumes nothing.
 use Prim.Native.Nat.{ℕ, _≤_, _<_}
 use mathlib.Core.Path.{_≡_}
-use mathlib.Core.Bool.{Bool, true, false, cond}
+use mathlib.Core.Bool.{Bool, true, false}
 use mathlib.Core.List.{List, [], _∷_}
 use lib.ListN.{length, getD}
-
--- the order in a list's own direction
-abbrev pub toward : {A : Type 0} → Bool → (A → A → Bool) → A → A → Bool
-toward rises lt x y = cond rises (lt x y) (lt y x)
 
 -- whether the first two entries rise; a list without two counts as rising
 abbrev pub risesFirst : {A : Type 0} → (A → A → Bool) → List A → Bool

@@ -1,14 +1,14 @@
 // The four searches, after the rounding methods of combinators/linspace.rs.
 ghost use mathlib.Core.Path.{_≡_};
 ghost use mathlib.Core.Bool.{_&&_};
-ghost use Rattle.numeric.specs.Whole.{tellIndex};
+ghost use Rattle.discrete.specs.Index.{tellIndex};
 ghost use Rattle.search.specs.Lists.{isExact};
 ghost use Rattle.search.specs.Settled.{ahead, behind, nearest, unequal, settledNan};
 
 mod reals;
 mod wholes;
 
-use numeric::Index;
+use discrete::Index;
 use ranged1d::Refusal;
 pub use reals::precedes;
 pub use reals::search_real;

@@ -7,16 +7,16 @@ ghost use lib.ListN.{getD};
 ghost use lib.Ieee as Ieee;
 ghost use lib.Ieee.{nan};
 ghost use Rattle.ranged1d.specs.Numbers.{every};
-ghost use Rattle.numeric.specs.Whole.{tellIndex};
-ghost use Rattle.search.specs.Lists.{ascends, searchable, realSearch};
+ghost use Rattle.discrete.specs.Index.{tellIndex};
+ghost use Rattle.search.specs.Lists.{toward, ascends, searchable, realSearch};
 ghost use Rattle.search.specs.Search.{reals, search};
 ghost use Rattle.search.specs.Settled.{closer, settled};
-ghost use Rattle.search.specs.Steps.{toward, risesFirst, PlaceOf};
+ghost use Rattle.search.specs.Steps.{risesFirst, PlaceOf};
 use crate::RoundingMethod;
 use crate::both;
 use crate::settle;
 use crate::settle_nan;
-use numeric::Index;
+use discrete::Index;
 use ranged1d::Refusal;
 
 // Whether x comes before y in a list that rises or falls.

@@ -6,17 +6,17 @@ ghost use lib.Dec.{ltb};
 ghost use lib.ListN.{getD};
 ghost use lib.IntN.{pos};
 ghost use lib.Signed.{ltZ};
-ghost use Rattle.numeric.specs.Whole.{tellIndex};
 ghost use Rattle.ranged1d.specs.Admitted.{wholeAdmitted};
 ghost use Rattle.ranged1d.specs.Numbers.{every, same};
-ghost use Rattle.search.specs.Lists.{ascends, searchable, wholeSearch};
+ghost use Rattle.discrete.specs.Index.{tellIndex};
+ghost use Rattle.search.specs.Lists.{toward, ascends, searchable, wholeSearch};
 ghost use Rattle.search.specs.Search.{wholes, search};
 ghost use Rattle.search.specs.Settled.{closer, settled};
-ghost use Rattle.search.specs.Steps.{toward, risesFirst, PlaceOf};
+ghost use Rattle.search.specs.Steps.{risesFirst, PlaceOf};
 use crate::RoundingMethod;
 use crate::both;
 use crate::settle;
-use numeric::Index;
+use discrete::Index;
 use ranged1d::Refusal;
 
 // Whether x comes before y in a list that rises or falls.

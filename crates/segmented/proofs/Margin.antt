@@ -1,19 +1,19 @@
 -- The margin of a segment: it lies between 0 and the film's length, so that the narrowed limits lie between the film's; and it turns with the
 -- film. Assumes nothing.
 use mathlib.Core.Path.{_≡_, refl, sym, ap, _∙_, subst}
-use mathlib.Core.Bool.{Bool, true, false, cond, not, true≢false}
+use mathlib.Core.Bool.{Bool, true, false, true≢false}
 use Prim.Native.Nat.{ℕ, zero, suc, _+_, _-_, _*_, _≤_}
 use native.Mathlib.Nat.{zero-mul, mul-pos, le-mul-of-pos-right, le-trans}
 use native.Mathlib.Omega.{arith}
-use lib.Dec.{T, eqb, eqb·suc-zero}
+use lib.Dec.{eqb·suc-zero}
 use lib.IntN.{ℤ, pos, negsuc, natAbs, negℤ, _+ℤ_, _-ℤ_, negℤ-negℤ, negℤ-+ℤ, +ℤ-negℤ-cancel, +ℤ-assoc, +ℤ-idl}
-use lib.Ieee.{Format, Float, nan, inf, fin, binary32, up, down, unlike, round, neg, div, ofInt, inFloat}
+use lib.Ieee.{Float, nan, inf, fin, binary32, up, down, unlike, div, ofInt}
 use lib.Ieee.Fits.{down-pos, up-pos}
 use lib.Ieee.Exact.{HasValue}
 use lib.Ieee.Back.{round-whole}
 use mir.Syntax.{w32}
 use mir.Val.{SFits}
-use borrow.Author.Tests.{le-leb, lt-ltb, ltb-true}
+use borrow.Author.Tests.{le-leb, ltb-true}
 use lib.Signed.{ltZ}
 use Rattle.ranged1d.specs.Admitted.{limitAdmitted}
 use Rattle.ranged1d.specs.declared.Limit.{Limit}
@@ -21,11 +21,11 @@ use Rattle.ranged1d.proofs.Whole.{add-far, neg-far, quotient-far, length-near, 
 use Rattle.rounding.specs.Integral.{halves, sized}
 use Rattle.rounding.specs.Within.{wholeOf, AtMost}
 use Rattle.rounding.proofs.Quotients.{sized-le}
-use Rattle.rounding.proofs.Signs.{round-neg, whole-neg}
+use Rattle.rounding.proofs.Signs.{whole-neg}
 use Rattle.real.specs.Mirror.{mirrored}
 use Rattle.real.proofs.Cases.{near-limits}
 use Rattle.real.proofs.Readings.{length-neg}
-use Rattle.real.proofs.Signs.{unlike-one, zeroOf, zero-one, round-zero, int-neg}
+use Rattle.real.proofs.Signs.{zeroOf, zero-one, round-zero, div-neg, int-neg}
 use Rattle.rounding.proofs.Small.{Plus}
 use Rattle.real.proofs.Sizes.{plus-div, small-quotient}
 use Rattle.segmented.specs.Axes.{mostValues}
@@ -43,30 +43,6 @@ unfolding margin shared
 margin-is n limit = refl
 
 -- ---- negation
-div-neg : (f : Format) (x y : Float) → div f (neg x) y ≡ neg (div f x y)
-unfolding div neg
-div-neg f nan y = refl
-div-neg f (inf s) nan = refl
-div-neg f (inf s) (inf t) = refl
-div-neg f (inf s) (fin t n d) = ap inf (unlike-one s t)
-div-neg f (fin s m e) nan = refl
-div-neg f (fin s m e) (inf t) = ap zeroOf (unlike-one s t)
-div-neg f (fin s m e) (fin t n d) = rw (unlike-one s t) (go (eqb n 0) (eqb m 0))
-  where
-    u : Bool
-    u = unlike s t
-
-    a : ℕ
-    a = m * up e * down d
-
-    b : ℕ
-    b = n * up d * down e
-
-    go : (x y : Bool) → cond x (cond y nan (inf (not u))) (round f (not u) a b) ≡ neg (cond x (cond y nan (inf u)) (round f u a b))
-    go true true = refl
-    go true false = refl
-    go false y = round-neg f u a b
-
 -- nothing, shared among however many
 zero-whole : (s : Bool) → wholeOf halves (zeroOf s) ≡ pos 0
 unfolding wholeOf
@@ -154,12 +130,6 @@ module _ (n : ℕ) (some : 1 ≤ n) (few : n ≤ mostValues) where
   pub shared-small : (l : ℤ) → natAbs l ≤ 2000000 → natAbs (shared n l) ≤ 2000000
   unfolding shared
   shared-small l h = le-trans (share-small l (omega arith)) h
-
--- what an f32 holds exactly
-pub in-f32 : (z : ℤ) → natAbs z ≤ 16777216 → T (inFloat binary32 z)
-unfolding inFloat
-in-f32 (pos n) h = subst T (sym (le-leb n 16777216 h)) tt
-in-f32 (negsuc n) h = subst T (sym (lt-ltb n 16777216 h)) tt
 
 -- ---- of admitted limits
 module _ (n : ℕ) (limit : Limit) (admitted : limitAdmitted limit ≡ true) where

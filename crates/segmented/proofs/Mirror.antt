@@ -7,7 +7,7 @@ use Prim.Native.Nat.{ℕ, zero, suc}
 use lib.IntN.{ℤ, negℤ, _+ℤ_, _-ℤ_, negℤ-+ℤ}
 use lib.ListN.{length}
 use lib.Ieee.{Float, neg}
-use Rattle.ranged1d.specs.Answer.{Answer, given, none, refused, _when_, lowest, BothLong}
+use Rattle.ranged1d.specs.Answer.{Answer, given, none, refused, _when_, lowest, Paired, both-given, both-none, both-refused, BothLong}
 use Rattle.ranged1d.specs.Admitted.{wholeAdmitted, limitAdmitted}
 use Rattle.ranged1d.specs.declared.Limit.{Limit}
 use Rattle.ranged1d.proofs.Answers.{not-none, not-both}
@@ -65,11 +65,6 @@ by-parts : (f f' u u' : Bool) (r r' : Answer ℤ) → f ≡ f' → u ≡ u' → 
 by-parts f f' u u' r r' e g h = rw (e, g, h) (sym (lowest-then (5 when f' ∷ 9 when u' ∷ []) r' (λ z. given (negℤ z))))
 
 -- ---- an entry and its mirror, or none of both
-data Paired {A : Type 0} (R : A → A → Type 0) : Answer A → Answer A → Type 0 where
-  both-given : {x y : A} → R x y → Paired R (given x) (given y)
-  both-none : Paired R none none
-  both-refused : {n : ℕ} → Paired R (refused n) (refused n)
-
 nth-paired : {A : Type 0} (R : A → A → Type 0) (xs ys : List A) → Each R xs ys → (k : ℕ) → Paired R (nth xs k) (nth ys k)
 nth-paired R [] [] end k = both-none
 nth-paired R (x ∷ xs) (y ∷ ys) (more r e) zero = both-given r

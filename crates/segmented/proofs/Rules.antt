@@ -12,7 +12,7 @@ use lib.IntN.{ℤ, _+ℤ_, _-ℤ_}
 use lib.ListN.{length}
 use lib.Ieee.{Float}
 use Rattle.ranged1d.specs.Answer.{Answer, given, none, refused, Reason, _when_, lowest, written}
-use Rattle.ranged1d.specs.Admitted.{wholeAdmitted, pixelAdmitted, limitAdmitted}
+use Rattle.ranged1d.specs.Admitted.{wholeAdmitted, limitAdmitted, readingAdmitted}
 use Rattle.ranged1d.specs.declared.Limit.{Limit}
 use Rattle.ranged1d.proofs.Answers.{one-refusal, given-is, not-both}
 use Rattle.ranged1d.proofs.Bools.{both-false}
@@ -28,7 +28,7 @@ use Rattle.linspace.proofs.Walks.{nth-past}
 use Rattle.linspace.proofs.Marks.{marks-none, marks-some, some-marks}
 use Rattle.linspace.proofs.WholeRules.{ends-place}
 use Rattle.segmented.specs.Values.{Segment, exact, centerOf, last}
-use Rattle.segmented.specs.Segments.{Axis, Finder, unlisted, half, margin, narrowed, start, entryAfter, successor, middle, placed, afterBeyond, tooFar, fitIn, unsoughtPlace, segmentPlace, segmentSize, indexIn, unsoughtIn, segmentIndexOf, exactly, segmentAt, segmentFromIndex, segmentOf, segmentReading, segmentKeyPoints}
+use Rattle.segmented.specs.Segments.{Axis, Finder, unlisted, half, margin, narrowed, start, entryAfter, successor, middle, placed, afterBeyond, tooFar, fitIn, unsoughtPlace, segmentPlace, segmentSize, indexIn, unsoughtIn, segmentIndexOf, exactly, segmentAt, segmentFromIndex, segmentOf, segmentReading, segmentKeyPoints, countReasons}
 use Rattle.segmented.specs.Axes.{mostValues, steppedAxis, steppedFinder}
 use Rattle.segmented.specs.Steps.{atLeastOne, countAnswer, Stands, nextAnswer, centerAnswer, placedAnswer}
 use Rattle.segmented.proofs.Margin.{narrowed-admitted}
@@ -62,9 +62,6 @@ module _ {A : Type 0} (axis : Axis A) where
   abbrev w : Bool
   w = eqb (axis .count) 0 || axis .tooMany
 
-  abbrev reasons : List Reason
-  reasons = 1 when not (axis .admitted) ∷ unlisted axis
-
   counts-are : axis .admitted ≡ true → countAnswer axis ≡ lowest (unlisted axis) (given (axis .count))
   unfolding countAnswer
   counts-are h = rw h refl
@@ -73,7 +70,7 @@ module _ {A : Type 0} (axis : Axis A) where
   pub stands : (axis .tooMany ≡ false → axis .tooLong ≡ false → axis .count ≤ mostValues) → {n : ℕ} → countAnswer axis ≡ given n → Stands axis n
   unfolding countAnswer
   stands few e =
-      let told = given-tests reasons (given (axis .count)) e in
+      let told = given-tests (countReasons axis) (given (axis .count)) e in
       let hu = told .0 .1 .1 .0 in
       let hz = told .0 .1 .1 .1 .0 in
       let both = both-false (eqb (axis .count) 0) (axis .tooMany) (rw (hu, hz) at (told .0 .1 .0)) in
@@ -83,7 +80,7 @@ module _ {A : Type 0} (axis : Axis A) where
   -- there is a count, or why there is none
   pub counted-or-stopped : (countAnswer axis ≡ given (axis .count)) ⊎ ((n : ℕ) × (countAnswer axis ≡ refused n))
   unfolding countAnswer
-  counted-or-stopped = either (axis .count) reasons
+  counted-or-stopped = either (axis .count) (countReasons axis)
 
   module _ {n : ℕ} (k : Stands axis n) where
     pub some-entries : eqb (axis .count) 0 ≡ false
@@ -92,7 +89,7 @@ module _ {A : Type 0} (axis : Axis A) where
   -- ---- `size`
   pub size-stopped : {n : ℕ} → countAnswer axis ≡ refused n → refused n ≡ segmentSize axis
   unfolding countAnswer segmentSize
-  size-stopped e = sym (stops reasons [] (given (suc (axis .count))) (axis .count) e)
+  size-stopped e = sym (stops (countReasons axis) [] (given (suc (axis .count))) (axis .count) e)
 
   pub size-is : {n : ℕ} → Stands axis n → given (n + 1) ≡ segmentSize axis
   unfolding segmentSize
@@ -176,7 +173,7 @@ module _ {A : Type 0} (axis : Axis A) where
 
     pub index-stopped : fitIn axis s ≡ true → {n : ℕ} → countAnswer axis ≡ refused n → refused n ≡ segmentIndexOf axis find s
     unfolding countAnswer segmentIndexOf
-    index-stopped h e = rw (h, and-true (axis .admitted)) (sym (stops reasons (9 when unsoughtIn axis find s ∷ []) (indexIn axis find s) (axis .count) e))
+    index-stopped h e = rw (h, and-true (axis .admitted)) (sym (stops (countReasons axis) (9 when unsoughtIn axis find s ∷ []) (indexIn axis find s) (axis .count) e))
 
   module _ (find : Finder A) where
     pub index-last : {n : ℕ} → Stands axis n → given n ≡ segmentIndexOf axis find last
@@ -198,7 +195,7 @@ module _ {A : Type 0} (axis : Axis A) where
 
   pub from-stopped : (k : ℕ) {n : ℕ} → countAnswer axis ≡ refused n → refused n ≡ segmentFromIndex axis k
   unfolding countAnswer segmentFromIndex
-  from-stopped k e = sym (stops reasons [] (segmentAt axis k) (axis .count) e)
+  from-stopped k e = sym (stops (countReasons axis) [] (segmentAt axis k) (axis .count) e)
 
   pub from-is : (k : ℕ) {n : ℕ} → Stands axis n → segmentAt axis k ≡ segmentFromIndex axis k
   unfolding segmentFromIndex
@@ -211,36 +208,31 @@ module _ {A : Type 0} (axis : Axis A) where
     reading-unfit h = rw h refl
 
     module _ (h : axis .admitted ≡ true) where
-      pub reading-off : pixelAdmitted x ≡ false → refused 2 ≡ segmentReading axis x limit
+      pub reading-off : readingAdmitted x limit ≡ false → refused 2 ≡ segmentReading axis x limit
       unfolding segmentReading
       reading-off p = rw (h, p) refl
 
-      module _ (p : pixelAdmitted x ≡ true) where
-        pub reading-unlimited : limitAdmitted limit ≡ false → refused 2 ≡ segmentReading axis x limit
+      module _ (p : readingAdmitted x limit ≡ true) where
+        abbrev readAt : Answer (Segment A)
+        readAt = segmentOf axis (indexFor (x -ℤ limit .0) (limit .1 -ℤ limit .0) (suc (axis .count)))
+
+        reading-tests : segmentReading axis x limit ≡ lowest (unlisted axis) readAt
         unfolding segmentReading
-        reading-unlimited l = rw (h, p, l) refl
+        reading-tests = rw (h, p) refl
 
-        module _ (l : limitAdmitted limit ≡ true) where
-          abbrev readAt : Answer (Segment A)
-          readAt = segmentOf axis (indexFor (x -ℤ limit .0) (limit .1 -ℤ limit .0) (suc (axis .count)))
+        pub reading-stopped : {n : ℕ} → countAnswer axis ≡ refused n → refused n ≡ segmentReading axis x limit
+        reading-stopped e = sym (reading-tests ∙ stops (unlisted axis) [] readAt (axis .count) (sym (counts-are h) ∙ e))
 
-          reading-tests : segmentReading axis x limit ≡ lowest (unlisted axis) readAt
-          unfolding segmentReading
-          reading-tests = rw (h, p, l) refl
+        reading-by : {n : ℕ} → Stands axis n → segmentReading axis x limit ≡ readAt
+        unfolding segmentReading
+        reading-by s = rw (h, p, s .onward, s .short, some-entries s, s .few) refl
 
-          pub reading-stopped : {n : ℕ} → countAnswer axis ≡ refused n → refused n ≡ segmentReading axis x limit
-          reading-stopped e = sym (reading-tests ∙ stops (unlisted axis) [] readAt (axis .count) (sym (counts-are h) ∙ e))
+        index-by : (n : ℕ) {r : Answer ℕ} → pixelIndex x limit (n + 1) ≡ r → indexFor (x -ℤ limit .0) (limit .1 -ℤ limit .0) (suc n) ≡ r
+        unfolding pixelIndex
+        index-by n e = rw (p, add-one n) at e
 
-          reading-by : {n : ℕ} → Stands axis n → segmentReading axis x limit ≡ readAt
-          unfolding segmentReading
-          reading-by s = rw (h, p, l, s .onward, s .short, some-entries s, s .few) refl
-
-          index-by : (n : ℕ) {r : Answer ℕ} → pixelIndex x limit (n + 1) ≡ r → indexFor (x -ℤ limit .0) (limit .1 -ℤ limit .0) (suc n) ≡ r
-          unfolding pixelIndex
-          index-by n e = rw (p, l, add-one n) at e
-
-          pub reading-is : {n : ℕ} → Stands axis n → {r : Answer ℕ} → pixelIndex x limit (n + 1) ≡ r → segmentOf axis r ≡ segmentReading axis x limit
-          reading-is {n} s e = sym (reading-by s ∙ ap (segmentOf axis) (ap (λ (k : ℕ). indexFor (x -ℤ limit .0) (limit .1 -ℤ limit .0) (suc k)) (s .count) ∙ index-by n e))
+        pub reading-is : {n : ℕ} → Stands axis n → {r : Answer ℕ} → pixelIndex x limit (n + 1) ≡ r → segmentOf axis r ≡ segmentReading axis x limit
+        reading-is {n} s e = sym (reading-by s ∙ ap (segmentOf axis) (ap (λ (k : ℕ). indexFor (x -ℤ limit .0) (limit .1 -ℤ limit .0) (suc k)) (s .count) ∙ index-by n e))
 
 -- ---- stepped axes
 module _ {A : Type 0} (kind : Kind A) (a b d : A) where

@@ -20,7 +20,7 @@ use Rattle.real.specs.Place.{wholePlace, spotAnswer}
 use Rattle.ranged1d.proofs.Whole.{not-lt, from-start, near-on}
 use Rattle.numeric.specs.declared.KeyPoints.{KeyPoints}
 use Rattle.numeric.specs.Marks.{marks, stepOf, noStep}
-use Rattle.numeric.specs.Calls.{planOf, wholePlan, wholeKeyPoints}
+use Rattle.numeric.specs.Calls.{planReasons, planOf, wholePlan, wholeKeyPoints}
 use Rattle.numeric.proofs.Readings.{ends-near}
 use Rattle.numeric.specs.Whole.{countOf, endsAdmitted, wholeSize, wholeIndexOf}
 use Rattle.segmented.specs.Values.{exact}
@@ -142,18 +142,15 @@ module _ (a b : ℤ) where
     abbrev told : ℤ × ℕ
     told = (pos (stepOf a b m), length (marks a b m))
 
-    abbrev plan-reasons : List Reason
-    plan-reasons = 1 when not (endsAdmitted a b) ∷ 3 when noStep a b m ∷ []
-
     pub points-refused : {n : ℕ} → wholePlan a b m ≡ refused n → (refused n, old) ≡ segmentKeyPoints axis told m old
     unfolding wholePlan segmentKeyPoints
     points-refused e = ap (λ (x : Answer (ℤ × ℕ)). written x (marks a b m) old)
-        (sym (stops plan-reasons (none-or-many ∷ 13 when ltb (length old) (length (marks a b m)) ∷ []) (given told) (planOf a b m) e))
+        (sym (stops (planReasons (endsAdmitted a b) a b m) (none-or-many ∷ 13 when ltb (length old) (length (marks a b m)) ∷ []) (given told) (planOf a b m) e))
 
     module _ {p : KeyPoints} (e : wholePlan a b m ≡ given p) where
       planned : (endsAdmitted a b ≡ true) × (noStep a b m ≡ false)
       unfolding wholePlan
-      planned = let tests = given-tests plan-reasons (given (planOf a b m)) e .0 in (not-false (endsAdmitted a b) (tests .0), tests .1 .0)
+      planned = let tests = given-tests (planReasons (endsAdmitted a b) a b m) (given (planOf a b m)) e .0 in (not-false (endsAdmitted a b) (tests .0), tests .1 .0)
 
       pub points-stopped : {n : ℕ} → countAnswer axis ≡ refused n → (refused n, old) ≡ segmentKeyPoints axis told m old
       unfolding segmentKeyPoints

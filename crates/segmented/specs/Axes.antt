@@ -1,7 +1,7 @@
 -- The axes that segments stand on: 01 "Whole reading, segments, real labels" for the whole axis, 01 "Mirroring, real reading, stepped axes" for
 -- the stepped ones. Assumes nothing.
 use Prim.Native.Nat.{ℕ}
-use mathlib.Core.Bool.{false, cond, not, _&&_}
+use mathlib.Core.Bool.{false, cond, _&&_}
 use lib.Dec.{ltb, eqb}
 use lib.IntN.{ℤ, pos, natAbs, _+ℤ_, _-ℤ_}
 use lib.ListN.{length}

@@ -2,7 +2,7 @@
 -- stops". Every rule is written once, over what segments ask of the axis below them. Assumes nothing.
 use Prim.Native.Nat.{ℕ, suc}
 use mathlib.Core.Bool.{Bool, false, cond, not, _&&_, _||_}
-use mathlib.Core.List.{List, [], _∷_}
+use mathlib.Core.List.{List, [], _∷_, _++_}
 use lib.Dec.{ltb, eqb}
 use lib.IntN.{ℤ, pos, _+ℤ_, _-ℤ_}
 use lib.ListN.{length}
@@ -10,7 +10,7 @@ use lib.Signed.{quotZ}
 use lib.Ieee as Ieee
 use lib.Ieee.{binary32}
 use Rattle.ranged1d.specs.Answer.{Answer, given, none, refused, Reason, _when_, lowest, written, andThen}
-use Rattle.ranged1d.specs.Admitted.{pixelAdmitted, limitAdmitted}
+use Rattle.ranged1d.specs.Admitted.{limitAdmitted, readingAdmitted}
 use Rattle.ranged1d.specs.declared.Limit.{Limit}
 use Rattle.rounding.specs.declared.Whole.{Whole}
 use Rattle.rounding.specs.Integral as way
@@ -70,8 +70,11 @@ module _ {A : Type 0} (axis : Axis A) where
   abbrev pub unlisted : List Reason
   unlisted = 4 when noSegments ∷ 6 when axis .against ∷ 7 when axis .tooLong ∷ []
 
+  abbrev pub countReasons : List Reason
+  countReasons = 1 when not (axis .admitted) ∷ unlisted
+
   abbrev pub counted : {B : Type 0} → Answer B → Answer B
-  counted r = lowest (1 when not (axis .admitted) ∷ unlisted) r
+  counted r = lowest countReasons r
 
   -- ---- places
   -- an entry's place, between the narrowed limits
@@ -119,9 +122,8 @@ module _ {A : Type 0} (axis : Axis A) where
   unsoughtPlace find last = false
 
   -- ---- `map`
-  unfoldable pub segmentPlace : Finder A → Segment A → Limit → Answer ℤ
-  segmentPlace find s limit =
-      lowest (
+  abbrev pub segmentPlaceReasons : Finder A → Segment A → Limit → List Reason
+  segmentPlaceReasons find s limit =
       1 when not (axis .admitted && fitIn s)
       ∷ 2 when not (limitAdmitted limit)
       ∷ 4 when noSegments
@@ -130,7 +132,9 @@ module _ {A : Type 0} (axis : Axis A) where
       ∷ 7 when axis .tooLong
       ∷ 9 when unsoughtPlace find s
       ∷ []
-      ) (placed find s limit)
+
+  unfoldable pub segmentPlace : Finder A → Segment A → Limit → Answer ℤ
+  segmentPlace find s limit = lowest (segmentPlaceReasons find s limit) (placed find s limit)
 
   -- ---- `size`: a value for each entry, and `Last`
   unfoldable pub segmentSize : Answer ℕ
@@ -147,16 +151,11 @@ module _ {A : Type 0} (axis : Axis A) where
   unsoughtIn find (centerOf v) = find .unsought v
   unsoughtIn find last = false
 
+  abbrev pub segmentIndexReasons : Finder A → Segment A → List Reason
+  segmentIndexReasons find s = 1 when not (axis .admitted && fitIn s) ∷ unlisted ++ (9 when unsoughtIn find s ∷ [])
+
   unfoldable pub segmentIndexOf : Finder A → Segment A → Answer ℕ
-  segmentIndexOf find s =
-      lowest (
-      1 when not (axis .admitted && fitIn s)
-      ∷ 4 when noSegments
-      ∷ 6 when axis .against
-      ∷ 7 when axis .tooLong
-      ∷ 9 when unsoughtIn find s
-      ∷ []
-      ) (indexIn find s)
+  segmentIndexOf find s = lowest (segmentIndexReasons find s) (indexIn find s)
 
   -- ---- `from_index`: `Exact` of each entry, then `Last`, then none
   abbrev pub exactly : Answer A → Answer (Segment A)
@@ -172,29 +171,16 @@ module _ {A : Type 0} (axis : Axis A) where
   abbrev pub segmentOf : Answer ℕ → Answer (Segment A)
   segmentOf r = andThen r segmentAt
 
+  abbrev pub segmentReadingReasons : ℤ → Limit → List Reason
+  segmentReadingReasons x limit = 1 when not (axis .admitted) ∷ 2 when not (readingAdmitted x limit) ∷ unlisted
+
   unfoldable pub segmentReading : ℤ → Limit → Answer (Segment A)
   segmentReading x limit =
-      lowest (
-      1 when not (axis .admitted)
-      ∷ 2 when not (pixelAdmitted x && limitAdmitted limit)
-      ∷ 4 when noSegments
-      ∷ 6 when axis .against
-      ∷ 7 when axis .tooLong
-      ∷ []
-      ) (segmentOf (indexFor (x -ℤ limit .0) (limit .1 -ℤ limit .0) (suc (axis .count))))
+      lowest (segmentReadingReasons x limit) (segmentOf (indexFor (x -ℤ limit .0) (limit .1 -ℤ limit .0) (suc (axis .count))))
 
   -- ---- `key_points`: the marks of the axis, each standing for `CenterOf` of it, written to the lent list; told is what the call answers then
+  abbrev pub segmentKeyPointsReasons : ℕ → List A → List Reason
+  segmentKeyPointsReasons m old = 1 when not (axis .admitted) ∷ 3 when axis .noStep m ∷ unlisted ++ (13 when ltb (length old) (length (axis .marks m)) ∷ [])
+
   unfoldable pub segmentKeyPoints : {B : Type 0} → B → ℕ → List A → Answer B × List A
-  segmentKeyPoints told m old =
-      written
-      (lowest (
-      1 when not (axis .admitted)
-      ∷ 3 when axis .noStep m
-      ∷ 4 when noSegments
-      ∷ 6 when axis .against
-      ∷ 7 when axis .tooLong
-      ∷ 13 when ltb (length old) (length (axis .marks m))
-      ∷ []
-      ) (given told))
-      (axis .marks m)
-      old
+  segmentKeyPoints told m old = written (lowest (segmentKeyPointsReasons m old) (given told)) (axis .marks m) old

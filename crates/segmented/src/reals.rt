@@ -4,7 +4,8 @@ ghost use mathlib.Core.Bool.{true};
 ghost use lib.ListN.{length};
 ghost use Rattle.ranged1d.specs.Admitted.{limitAdmitted};
 ghost use Rattle.rounding.specs.declared.Whole.the-variants.{Number};
-ghost use Rattle.numeric.specs.Whole.{tellCount, tellIndex};
+ghost use Rattle.discrete.specs.Index.{tellIndex};
+ghost use Rattle.numeric.specs.Whole.{tellCount};
 ghost use Rattle.real.specs.Place.{tellPlace};
 ghost use Rattle.real.specs.Reading.{tellReading};
 ghost use Rattle.linspace.specs.List.{real};
@@ -21,11 +22,10 @@ use crate::between;
 use crate::narrow;
 use crate::some_entries;
 use crate::some_marks;
-use discrete::PixelIndex;
+use discrete::Index;
 use linspace::Linspacef64;
 use linspace::Listed;
 use numeric::Count;
-use numeric::Index;
 use numeric::Place;
 use numeric::RealReading;
 use ranged1d::Limit;
@@ -186,18 +186,15 @@ impl SegmentedLinspacef64 {
         ensures { λ r. ⌜ tellRealSegment r ≡ segmentReading (steppedAxis real (self .0 .inner .0) (self .0 .inner .1) (self .0 .step)) x limit ⌝ }
     {
         let axis = self.0;
-        if !ranged1d::pixel_admitted(x) {
-            return Segmentf64::Refused(Refusal::LimitNotAdmitted);
-        }
-        if !limit.admitted() {
+        if !limit.admits(x) {
             return Segmentf64::Refused(Refusal::LimitNotAdmitted);
         }
         match segments(axis) {
             Count::Refused(r) => Segmentf64::Refused(r),
             Count::Of(n) => match discrete::pixel_index(x, limit, n as u32 + 1) {
-                PixelIndex::Refused(r) => Segmentf64::Refused(r),
-                PixelIndex::Nothing => Segmentf64::Nothing,
-                PixelIndex::At(k) => segment_at(axis, n, k),
+                Index::Refused(r) => Segmentf64::Refused(r),
+                Index::Nothing => Segmentf64::Nothing,
+                Index::At(k) => segment_at(axis, n, k),
             },
         }
     }

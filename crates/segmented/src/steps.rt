@@ -4,7 +4,8 @@ ghost use mathlib.Core.Bool.{true, _&&_};
 ghost use lib.ListN.{length};
 ghost use Rattle.ranged1d.specs.Admitted.{wholeAdmitted, limitAdmitted};
 ghost use Rattle.rounding.specs.declared.Whole.the-variants.{Number};
-ghost use Rattle.numeric.specs.Whole.{tellCount, tellIndex, tellValue};
+ghost use Rattle.discrete.specs.Index.{tellIndex};
+ghost use Rattle.numeric.specs.Whole.{tellCount, tellValue};
 ghost use Rattle.real.specs.Place.{tellPlace};
 ghost use Rattle.linspace.specs.List.{whole, axisAdmitted};
 ghost use Rattle.linspace.specs.Calls.{tellListed, stepMarks};
@@ -21,11 +22,10 @@ use crate::narrow;
 use crate::some_entries;
 use crate::some_marks;
 use crate::value_fits;
-use discrete::PixelIndex;
+use discrete::Index;
 use linspace::Linspacei32;
 use linspace::Listed;
 use numeric::Count;
-use numeric::Index;
 use numeric::Place;
 use numeric::Value;
 use ranged1d::Limit;
@@ -208,18 +208,15 @@ impl SegmentedLinspacei32 {
         if !axis.admitted() {
             return Segmenti32::Refused(Refusal::WholeNotAdmitted);
         }
-        if !ranged1d::pixel_admitted(x) {
-            return Segmenti32::Refused(Refusal::LimitNotAdmitted);
-        }
-        if !limit.admitted() {
+        if !limit.admits(x) {
             return Segmenti32::Refused(Refusal::LimitNotAdmitted);
         }
         match segments(axis) {
             Count::Refused(r) => Segmenti32::Refused(r),
             Count::Of(n) => match discrete::pixel_index(x, limit, n as u32 + 1) {
-                PixelIndex::Refused(r) => Segmenti32::Refused(r),
-                PixelIndex::Nothing => Segmenti32::Nothing,
-                PixelIndex::At(k) => segment_at(axis, n, k),
+                Index::Refused(r) => Segmenti32::Refused(r),
+                Index::Nothing => Segmenti32::Nothing,
+                Index::At(k) => segment_at(axis, n, k),
             },
         }
     }

@@ -5,9 +5,10 @@ ghost use lib.IntN.{pos};
 ghost use lib.ListN.{length};
 ghost use Rattle.ranged1d.specs.Admitted.{wholeAdmitted, limitAdmitted};
 ghost use Rattle.rounding.specs.declared.Whole.the-variants.{Number};
+ghost use Rattle.discrete.specs.Index.{tellIndex};
 ghost use Rattle.numeric.specs.Calls.{tellMarks};
 ghost use Rattle.numeric.specs.Marks.{marks, stepOf};
-ghost use Rattle.numeric.specs.Whole.{tellCount, tellIndex, tellValue, endsAdmitted};
+ghost use Rattle.numeric.specs.Whole.{tellCount, tellValue, endsAdmitted};
 ghost use Rattle.real.specs.Place.{tellPlace};
 ghost use Rattle.segmented.specs.Values.{wholeSegment, tellSegment, exact};
 ghost use Rattle.segmented.specs.Segments.{narrowed, start, fitIn, segmentPlace, segmentSize, segmentIndexOf, segmentAt, segmentFromIndex, segmentReading, segmentKeyPoints};
@@ -21,9 +22,8 @@ use crate::between;
 use crate::narrow;
 use crate::some_entries;
 use crate::value_fits;
-use discrete::PixelIndex;
+use discrete::Index;
 use numeric::Count;
-use numeric::Index;
 use numeric::Marks;
 use numeric::Place;
 use numeric::Planned;
@@ -200,18 +200,15 @@ impl SegmentedCoordi32 {
         if !axis.admitted() {
             return Segmenti32::Refused(Refusal::WholeNotAdmitted);
         }
-        if !ranged1d::pixel_admitted(x) {
-            return Segmenti32::Refused(Refusal::LimitNotAdmitted);
-        }
-        if !limit.admitted() {
+        if !limit.admits(x) {
             return Segmenti32::Refused(Refusal::LimitNotAdmitted);
         }
         match segments(axis) {
             Count::Refused(r) => Segmenti32::Refused(r),
             Count::Of(n) => match discrete::pixel_index(x, limit, n as u32 + 1) {
-                PixelIndex::Refused(r) => Segmenti32::Refused(r),
-                PixelIndex::Nothing => Segmenti32::Nothing,
-                PixelIndex::At(k) => segment_at(axis, n, k),
+                Index::Refused(r) => Segmenti32::Refused(r),
+                Index::Nothing => Segmenti32::Nothing,
+                Index::At(k) => segment_at(axis, n, k),
             },
         }
     }

@@ -4,7 +4,7 @@ use borrow.Author.Needs.{needs}
 use denote.Ref.{now}
 use mir.Facts.{toZ-ofZ}
 use mir.Syntax.{w32}
-use Rattle.numeric.specs.Whole.{tellIndex}
+use Rattle.discrete.specs.Index.{tellIndex}
 use Rattle.culvraod.proofs.Crossing.{single-cross}
 use Rattle.culvraod.proofs.give_index.Statement.{statement}
 use Rattle.culvraod.proofs.give_index.Tie as tie

@@ -1,24 +1,24 @@
 -- `decimal::is_label` meets its contract. Assumes nothing.
-use mathlib.Core.Path.{_≡_}
+use mathlib.Core.Path.{ap, _∙_}
 use borrow.Author.Needs.{needs}
 use mir.Facts.{toZ-ofZ}
-use Rattle.decimal.specs.Print.{decimal, textOf}
-use Rattle.decimal.proofs.Digits.{decimal-most}
-use Rattle.decimal.proofs.Texts.{text-fits, text-same}
+use Rattle.decimal.specs.Print.{decimal}
+use Rattle.decimal.specs.Read.{sameBytes}
+use Rattle.decimal.proofs.Digits.{decimal-most, Told, text-told}
 use Rattle.decimal.proofs.is_label.Statement.{statement}
 use Rattle.decimal.proofs.is_label.Tie as tie
 
 label-requires : tie.Need-label-requires
 label-requires c κs = search needs
 
-told : (c : tie.After-label) → c .label .result ≡ textOf (decimal (c .before .before .args .v))
-told c = rw (toZ-ofZ (c .before .before .fits .v)) at (c .label .ensures)
+told : (c : tie.After-label) → Told 11 (c .label .result .blanks) (c .label .result .bytes) (decimal (c .before .before .args .v))
+told c = let s = c .before .before in text-told (decimal (s .args .v)) (decimal-most (s .args .v)) (rw (toZ-ofZ (s .fits .v)) at (c .label .ensures))
 
 is-text-requires : tie.Need-is-text-requires
-is-text-requires c κs = let v = c .before .before .args .v in text-fits (decimal v) (told c) (decimal-most v)
+is-text-requires c κs = (told c .low, told c .long)
 
 returns : tie.Need-returns
-returns c = let s = c .before .before .before .args in text-same (decimal (s .v)) (told (c .before)) (s .s .now) (c .is-text .ensures)
+returns c = c .is-text .ensures ∙ ap (sameBytes (c .before .before .before .args .s .now)) (told (c .before) .text)
 
 pub is-label-spec : {M : Type 1} → statement M
 is-label-spec = tie.close (tie.spec label-requires is-text-requires returns)

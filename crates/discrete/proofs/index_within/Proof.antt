@@ -13,7 +13,7 @@ use mir.Syntax.{w32, w64}
 use mir.Val.{SFits, toZ, ofZ}
 use Rattle.ranged1d.proofs.Whole.{fits64, wide, widens, quotient-far, times-far, not-negative}
 use Rattle.discrete.specs.Index.{isZero}
-use Rattle.discrete.proofs.Index.{zero-is, not-zero, zero-bits, past-limits, at-limits, quotient, below-zero, from-zero}
+use Rattle.discrete.proofs.Within.{zero-is, not-zero, zero-bits, past-limits, at-limits, quotient, below-zero, from-zero}
 use Rattle.discrete.proofs.index_within.Statement.{statement}
 use Rattle.discrete.proofs.index_within.Tie as tie
 

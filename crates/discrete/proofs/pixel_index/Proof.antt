@@ -9,49 +9,39 @@ use lib.IntN.{ℤ, natAbs, _-ℤ_}
 use mir.Facts.{toZ-ofZ}
 use mir.Syntax.{w32}
 use mir.Val.{SFits, toZ, ofZ}
-use Rattle.ranged1d.specs.Admitted.{pixelAdmitted, limitAdmitted}
+use Rattle.ranged1d.specs.Admitted.{readingAdmitted}
 use Rattle.ranged1d.proofs.Whole.{fits32}
-use Rattle.discrete.proofs.Index.{distances}
+use Rattle.discrete.proofs.Within.{distances}
 use Rattle.discrete.specs.Index.{pixelIndex}
 use Rattle.discrete.proofs.pixel_index.Statement.{statement}
 use Rattle.discrete.proofs.pixel_index.Tie as tie
 
-pixel-admitted-requires : tie.Need-pixel-admitted-requires
-pixel-admitted-requires c κs = search needs
+admits-requires : tie.Need-admits-requires
+admits-requires c κs = search needs
 
-x-told : (c : tie.After-pixel-admitted) → c .pixel-admitted .result ≡ pixelAdmitted (c .before .args .x)
-x-told c = rw (toZ-ofZ (c .before .fits .x)) at (c .pixel-admitted .ensures)
+told : (c : tie.After-admits) → c .admits .result ≡ readingAdmitted (c .before .args .x) (c .before .args .limit)
+told c = rw (toZ-ofZ (c .before .fits .x)) at (c .admits .ensures)
 
-x-admitted : (c : tie.Else1) → pixelAdmitted (c .before .before .args .x) ≡ true
-x-admitted c = sym (x-told (c .before)) ∙ not-false _ (c .if1 .left)
-
-limit-admitted : (c : tie.Else2) → limitAdmitted (c .before .before .before .before .args .limit) ≡ true
-limit-admitted c = sym (c .before .admitted .ensures) ∙ not-false _ (c .if2 .left)
+admitted : (c : tie.Else1) → let s = c .before .before .args in readingAdmitted (s .x) (s .limit) ≡ true
+admitted c = sym (told (c .before)) ∙ not-false _ (c .if1 .left)
 
 returns : tie.Need-returns
 unfolding pixelIndex
-returns c = rw (sym (x-told (c .before)) ∙ not-true _ (c .if1 .taken))
-
-admitted-requires : tie.Need-admitted-requires
-admitted-requires c κs = search needs
-
-returns-2 : tie.Need-returns-2
-unfolding pixelIndex
-returns-2 c = rw (x-admitted (c .before .before), sym (c .before .admitted .ensures) ∙ not-true _ (c .if2 .taken))
+returns c = rw (sym (told (c .before)) ∙ not-true _ (c .if1 .taken))
 
 module _ (c : tie.After-struct-told2) where
   x : ℤ
-  x = c .before .before .before .before .before .before .args .x
+  x = c .before .before .before .before .args .x
 
   p : ℤ
-  p = c .before .before .before .before .before .before .args .limit .0
+  p = c .before .before .before .before .args .limit .0
 
   q : ℤ
-  q = c .before .before .before .before .before .before .args .limit .1
+  q = c .before .before .before .before .args .limit .1
 
   x-is : toZ w32 (ofZ w32 x) ≡ x
   unfolding x
-  x-is = toZ-ofZ (c .before .before .before .before .before .before .fits .x)
+  x-is = toZ-ofZ (c .before .before .before .before .fits .x)
 
   p-is : toZ w32 (ofZ w32 p) ≡ p
   unfolding p
@@ -63,7 +53,7 @@ module _ (c : tie.After-struct-told2) where
 
   far : (natAbs (x -ℤ p) ≤ 2000000) × (natAbs (q -ℤ p) ≤ 2000000)
   unfolding x p q
-  far = let s = c .before .before .before .before .before .before .args in distances (s .x) (s .limit) (x-admitted (c .before .before .before .before)) (limit-admitted (c .before .before))
+  far = let s = c .before .before .before .before .args in distances (s .x) (s .limit) (admitted (c .before .before))
 
   d-fits : SFits w32 (x -ℤ p)
   d-fits = fits32 _ (omega (arith, far .0))
@@ -83,22 +73,20 @@ index-within-requires : tie.Need-index-within-requires
 unfolding x p q
 index-within-requires c κs = rw (x-is c, p-is c, q-is c, toZ-ofZ (d-fits c), toZ-ofZ (w-fits c)) (far c)
 
-returns-3 : tie.Need-returns-3
+returns-2 : tie.Need-returns-2
 unfolding x p q pixelIndex
-returns-3 c =
+returns-2 c =
     let s = c .before in
-    rw (x-admitted (s .before .before .before .before), limit-admitted (s .before .before))
+    rw (admitted (s .before .before))
     (rw (x-is s, p-is s, q-is s, toZ-ofZ (d-fits s), toZ-ofZ (w-fits s)) at (c .index-within .ensures))
 
 pub pixel-index-spec : {M : Type 1} → statement M
 pixel-index-spec =
     tie.close
     (tie.spec
-    pixel-admitted-requires
+    admits-requires
     returns
-    admitted-requires
-    returns-2
     sub-index-within
     sub-index-within-2
     index-within-requires
-    returns-3)
+    returns-2)

@@ -4,19 +4,20 @@ use Prim.Native.Nat.{_+_, _-_, _≤_}
 use native.Mathlib.Omega.{arith}
 use lib.ListN.{length}
 use Rattle.ranged1d.proofs.Answers.{too-short}
+use Rattle.decimal.proofs.Digits.{Told, long-told}
 use Rattle.float.specs.Text.{front}
 use Rattle.float.specs.Steps.{bytesOf}
 use Rattle.float.proofs.Cases.{tail-le}
-use Rattle.float.proofs.Lists.{Told, told, front-long, bytes-length, bytes-stored, text-held}
+use Rattle.float.proofs.Lists.{front-long, bytes-length, bytes-stored, text-held}
 use borrow.Author.Needs.{needs}
 use Rattle.float.proofs.float_to_string.Statement.{statement}
 use Rattle.float.proofs.float_to_string.Tie as tie
 
 -- the sign and the whole part
-label : (c : tie.After-struct-known2) → Told (c .before .long-label .result) (front (c .before .before .before .before .args .t .minus) (c .before .before .before .before .args .t .whole))
+label : (c : tie.After-struct-known2) → Told 21 (c .before .long-label .result .blanks) (c .before .long-label .result .bytes) (front (c .before .before .before .before .args .t .minus) (c .before .before .before .before .args .t .whole))
 label c =
     let t = c .before .before .before .before .args .t in
-    told (c .before .long-label .result) (front (t .minus) (t .whole)) (front-long (t .minus) (t .whole)) (c .before .long-label .ensures)
+    long-told (front (t .minus) (t .whole)) (front-long (t .minus) (t .whole)) (c .before .long-label .ensures)
 
 cast-k : tie.Need-cast-k
 cast-k c = search needs

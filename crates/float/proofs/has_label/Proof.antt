@@ -1,5 +1,6 @@
 -- `float::has_label` meets its contract. Assumes nothing.
 use lib.Ieee.{ofBits, neg}
+use Rattle.rounding.proofs.Steps.{below-power}
 use Rattle.rounding.proofs.Sizes.{least-low, least-high}
 use Rattle.float.proofs.Signs.{admit-yes, admit-no}
 use Rattle.float.proofs.has_label.Statement.{statement}
@@ -7,7 +8,7 @@ use Rattle.float.proofs.has_label.Tie as tie
 
 returns : tie.Need-returns
 unfolding ofBits neg
-returns c = admit-yes (c .before .before .args .n) (c .before .if1 .taken) (c .if2 .taken)
+returns c = let n = c .before .before .args .n in admit-yes n (below-power 53 n (c .if2 .taken) (c .before .if1 .taken))
 
 returns-2 : tie.Need-returns-2
 unfolding ofBits neg

@@ -5,17 +5,18 @@ use Prim.Native.Nat.{ℕ}
 use native.Mathlib.Omega.{arith}
 use lib.Seq.{sets}
 use Rattle.decimal.specs.Print.{longNatural}
+use Rattle.decimal.proofs.Digits.{Told, long-told}
 use Rattle.float.proofs.Decimals.{placed-none, placed-most}
-use Rattle.float.proofs.Lists.{Told, told, long-most, decimals-stored}
+use Rattle.float.proofs.Lists.{long-most, decimals-stored}
 use borrow.Author.Needs.{needs}
 use Rattle.float.proofs.put_decimals.Statement.{statement}
 use Rattle.float.proofs.put_decimals.Tie as tie
 
 -- the text of d
-label : (c : tie.After-struct-known) → Told (c .before .long-label .result) (longNatural (c .before .before .before .before .args .d))
+label : (c : tie.After-struct-known) → Told 21 (c .before .long-label .result .blanks) (c .before .long-label .result .bytes) (longNatural (c .before .before .before .before .args .d))
 label c =
     let d = c .before .before .before .before .args .d in
-    told (c .before .long-label .result) (longNatural d) (long-most d) (c .before .long-label .ensures)
+    long-told (longNatural d) (long-most d) (c .before .long-label .ensures)
 
 returns : tie.Need-returns
 returns c =

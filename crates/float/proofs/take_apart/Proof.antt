@@ -7,7 +7,8 @@ use Rattle.float.specs.Text.{wholePart, decimalsOf}
 use Rattle.float.proofs.Cases.{pow-small, parts-none, parts-grown, parts-trim}
 use Rattle.float.proofs.Bounds.{near, at-most-number}
 use Rattle.float.proofs.Casts.{whole-le, whole-exact, decimals-exact}
-use lib.Ieee.{toUnsigned}
+use lib.IntN.{pos}
+use lib.Ieee.{binary64, toUnsigned}
 use borrow.Author.Needs.{needs}
 use Rattle.float.proofs.take_apart.Statement.{statement}
 use Rattle.float.proofs.take_apart.Tie as tie
@@ -46,7 +47,7 @@ int-to-float-round c =
     let p = c .before .before in
     let s = p .before .before .before .before .before in
     let l : 10 ^ (s .args .p) ≤ 10_000_000_000 = pow-small (s .args .p) (s .pre .0) in
-    rw (p .power .ensures) (in-float (10 ^ (s .args .p)) (omega arith))
+    rw (p .power .ensures) (in-float binary64 (pos (10 ^ (s .args .p))) (omega arith))
 
 round-requires : tie.Need-round-requires
 round-requires c κs = search needs

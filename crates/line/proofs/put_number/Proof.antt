@@ -1,45 +1,34 @@
 -- `line::put_number` meets its contract. Assumes nothing.
-use mathlib.Core.Path.{_≡_, sym, subst, _∙_}
-use Prim.Native.Nat.{_-_, _≤_}
+use mathlib.Core.Path.{_≡_}
+use Prim.Native.Nat.{_-_}
 use native.Mathlib.Omega.{arith}
-use lib.IntN.{ℤ}
-use lib.ListN.{length, take, drop}
-use lib.Seq.{take-all}
+use lib.ListN.{take, drop}
+use lib.Seq.{take-length}
 use borrow.Author.Needs.{needs}
 use mir.Facts.{toZ-ofZ}
-use Rattle.decimal.specs.declared.Text.{Text}
-use Rattle.decimal.specs.Print.{decimal, filled, textOf}
-use Rattle.decimal.proofs.Digits.{decimal-most, filled-to-long, unfilled-to}
+use Rattle.decimal.specs.Print.{decimal}
+use Rattle.decimal.proofs.Digits.{decimal-most, Told, text-told}
 use Rattle.line.proofs.put_number.Statement.{statement}
 use Rattle.line.proofs.put_number.Tie as tie
 
 label-requires : tie.Need-label-requires
 label-requires c κs = search needs
 
-told : (c : tie.After-label) → c .label .result ≡ textOf (decimal (c .before .before .args .v))
-told c = rw (toZ-ofZ (c .before .before .fits .v)) at (c .label .ensures)
-
-few : (c : tie.After-label) → c .label .result .blanks ≤ 11
-few c = rw (told c) (omega arith)
-
-long : (c : tie.After-label) → length (c .label .result .bytes) ≡ 11
-long c = rw (told c) (filled-to-long 11 (decimal (c .before .before .args .v)) (decimal-most (c .before .before .args .v)))
+told : (c : tie.After-label) → Told 11 (c .label .result .blanks) (c .label .result .bytes) (decimal (c .before .before .args .v))
+told c = let s = c .before .before in text-told (decimal (s .args .v)) (decimal-most (s .args .v)) (rw (toZ-ofZ (s .fits .v)) at (c .label .ensures))
 
 -- the text without its blanks
 text-is : (c : tie.After-label) → take (11 - c .label .result .blanks) (drop (c .label .result .blanks) (c .label .result .bytes)) ≡ decimal (c .before .before .args .v)
-text-is c = subst (λ (t : Text). take (11 - t .blanks) (drop (t .blanks) (t .bytes)) ≡ decimal v) (sym (told c)) (take-all (11 - (11 - length (decimal v))) (drop (11 - length (decimal v)) (filled (decimal v))) (rw (unfilled-to 11 (decimal v)) (omega (arith, decimal-most v))) ∙ unfilled-to 11 (decimal v))
-  where
-    v : ℤ
-    v = c .before .before .args .v
+text-is c = rw (told c .text, told c .count) (take-length (decimal (c .before .before .args .v)))
 
 sub-put : tie.Need-sub-put
-sub-put c = few (c .before)
+sub-put c = told (c .before) .low
 
 part-put-start : tie.Need-part-put-start
-part-put-start c = few (c .before .before)
+part-put-start c = told (c .before .before) .low
 
 part-put-end : tie.Need-part-put-end
-part-put-end c = omega (arith, few (c .before .before), long (c .before .before))
+part-put-end c = let t = told (c .before .before) in omega (arith, t .low, t .long)
 
 put-requires : tie.Need-put-requires
 put-requires c κs =

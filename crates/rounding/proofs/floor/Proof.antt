@@ -2,7 +2,7 @@
 use mathlib.Core.Path.{sym, _∙_}
 use lib.Ieee.{ofBits, neg}
 use Rattle.rounding.specs.Integral.{floors}
-use Rattle.rounding.proofs.Steps.{Small, small}
+use Rattle.rounding.proofs.Steps.{Small, below-power}
 use Rattle.rounding.proofs.Sizes.{floor-cut, stays-floor, stays-large, least-low, least-high}
 use Rattle.rounding.proofs.floor.Statement.{statement}
 use Rattle.rounding.proofs.floor.Tie as tie
@@ -13,7 +13,7 @@ floor-small-requires c κs = (c .before .if1 .taken, c .if2 .taken)
 
 held : (c : tie.Then2) → Small (c .before .before .args .x)
 unfolding ofBits neg
-held c = small (c .before .before .args .x) (c .before .if1 .taken) (c .if2 .taken)
+held c = below-power 52 (c .before .before .args .x) (c .before .if1 .taken) (c .if2 .taken)
 
 returns : tie.Need-returns
 returns c =

@@ -3,7 +3,7 @@ use mathlib.Core.Path.{sym, subst}
 use mathlib.Core.Bool.{true, false}
 use mathlib.Core.Logic.{⊎-elim}
 use lib.Ieee.{Float, binary64, add, sub, ofBits, neg}
-use Rattle.rounding.proofs.Steps.{Anchored, small, anchored, floor-less, floor-same}
+use Rattle.rounding.proofs.Steps.{Anchored, below-power, anchored, floor-less, floor-same}
 use Rattle.rounding.proofs.floor_small.Statement.{statement}
 use Rattle.rounding.proofs.floor_small.Tie as tie
 
@@ -12,7 +12,7 @@ next : (c : tie.Joined1) → Anchored (c .before .args .x) (sub binary64 (add bi
 unfolding ofBits neg
 next c =
     let x = c .before .args .x in
-    let b = small x (c .before .pre .0) (c .before .pre .1) in
+    let b = below-power 52 x (c .before .pre .0) (c .before .pre .1) in
     ⊎-elim
     (λ w. subst (λ (z : Float). Anchored x (sub binary64 (add binary64 x z) z)) (sym (w .1)) (anchored true x b (w .0 .taken)))
     (λ w. subst (λ (z : Float). Anchored x (sub binary64 (add binary64 x z) z)) (sym (w .1)) (anchored false x b (w .0 .left)))

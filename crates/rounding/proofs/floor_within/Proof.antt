@@ -13,7 +13,7 @@ use mir.Facts.{toZ-ofZ}
 use Rattle.ranged1d.proofs.Whole.{fits-abs}
 use Rattle.rounding.specs.Integral.{floors}
 use Rattle.rounding.specs.Within.{kept, wholeOf}
-use Rattle.rounding.proofs.Steps.{Small, small}
+use Rattle.rounding.proofs.Steps.{Small, below-power}
 use Rattle.rounding.proofs.Sizes.{cast-back, Large, least-low, least-high, whole-small, within-small, within-nan, within-large}
 use Rattle.rounding.proofs.floor_within.Statement.{statement}
 use Rattle.rounding.proofs.floor_within.Tie as tie
@@ -24,7 +24,7 @@ floor-small-requires c κs = (c .before .if1 .taken, c .if2 .taken)
 
 held : (c : tie.Then2) → Small (c .before .before .args .x)
 unfolding ofBits neg
-held c = small (c .before .before .args .x) (c .before .if1 .taken) (c .if2 .taken)
+held c = below-power 52 (c .before .before .args .x) (c .before .if1 .taken) (c .if2 .taken)
 
 -- the floor is a whole number that the cast brings back
 cast-of : (c : tie.After-floor-small) → T (inSigned binary64 63 (c .floor-small .result)) × (toSigned 63 (c .floor-small .result) ≡ wholeOf floors (c .before .before .before .args .x))

@@ -5,7 +5,7 @@ use mathlib.Core.Logic.{⊎-elim}
 use lib.IntN.{pos}
 use lib.Ieee.{binary64, add, lt, ofBits, ofInt}
 use Rattle.rounding.specs.Integral.{halves, roundOf}
-use Rattle.rounding.proofs.Steps.{Small, small, above-big}
+use Rattle.rounding.proofs.Steps.{Small, below-power, above-big}
 use Rattle.rounding.proofs.Sizes.{half, step, round-step, stays-floor, stays-large, least-high}
 use Rattle.rounding.proofs.nearest.Statement.{statement}
 use Rattle.rounding.proofs.nearest.Tie as tie
@@ -16,7 +16,7 @@ floor-small-requires c κs = (above-big (c .before .args .x) (c .if1 .taken) (c 
 
 held : (c : tie.Then1) → Small (c .before .args .x)
 unfolding ofBits
-held c = small (c .before .args .x) (above-big (c .before .args .x) (c .if1 .taken) (c .before .pre)) (c .if1 .taken)
+held c = below-power 52 (c .before .args .x) (above-big (c .before .args .x) (c .if1 .taken) (c .before .pre)) (c .if1 .taken)
 
 -- whichever step the test against t + 0.5 picks
 stepped : (c : tie.Then2) (t : Bool)

@@ -3,7 +3,8 @@ use mathlib.Core.Path.{ap, _∙_}
 use Prim.Native.Nat.{ℕ, _+_, _/_, _≤_}
 use native.Mathlib.Omega.{arith}
 use lib.IntN.{pos}
-use Rattle.segmented.proofs.Margin.{in-f32}
+use lib.Ieee.{binary32}
+use Rattle.rounding.proofs.Sizes.{in-float}
 use Rattle.segmented.proofs.Halves.{cut-allowed, cut-small, share-cut}
 use Rattle.segmented.proofs.share_up.Statement.{statement}
 use Rattle.segmented.proofs.share_up.Tie as tie
@@ -12,10 +13,10 @@ add-truncating-f32-to-u64 : tie.Need-add-truncating-f32-to-u64
 add-truncating-f32-to-u64 c = omega (arith, c .pre .0)
 
 int-to-float-truncating-f32-to-u64 : tie.Need-int-to-float-truncating-f32-to-u64
-int-to-float-truncating-f32-to-u64 c = in-f32 _ (omega (arith, c .before .pre .0))
+int-to-float-truncating-f32-to-u64 c = in-float binary32 _ (omega (arith, c .before .pre .0))
 
 int-to-float-truncating-f32-to-u64-2 : tie.Need-int-to-float-truncating-f32-to-u64-2
-int-to-float-truncating-f32-to-u64-2 c = in-f32 _ (c .before .before .pre .1 .1)
+int-to-float-truncating-f32-to-u64-2 c = in-float binary32 _ (c .before .before .pre .1 .1)
 
 truncating-f32-to-u64-requires : tie.Need-truncating-f32-to-u64-requires
 truncating-f32-to-u64-requires c κs =

@@ -5,6 +5,8 @@ use mathlib.Core.List.{List}
 use Prim.Native.Nat.{ℕ, _^_, _≤_}
 use native.Mathlib.Omega.{arith}
 use borrow.Author.Tests.{not-true, not-false}
+use lib.IntN.{pos}
+use lib.Ieee.{binary64}
 use Rattle.ranged1d.specs.Answer.{listWritten}
 use Rattle.rounding.specs.Within.{AtMost}
 use Rattle.rounding.proofs.Sizes.{in-float}
@@ -70,7 +72,7 @@ int-to-float-eps c =
     let p = c .before in
     let h = p .before .before .before .before .before .before .args .self .«max_decimal» in
     let l : 10 ^ h ≤ 10_000_000_000 = pow-small h (p .before .before .if2 .left) in
-    rw (p .power .ensures) (in-float (10 ^ h) (omega arith))
+    rw (p .power .ensures) (in-float binary64 (pos (10 ^ h)) (omega arith))
 
 find-minimal-repr-requires : tie.Need-find-minimal-repr-requires
 find-minimal-repr-requires c κs = search needs

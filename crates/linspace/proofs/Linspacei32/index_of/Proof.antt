@@ -9,7 +9,8 @@ use lib.IntN.{ℤ}
 use mir.Facts.{toZ-ofZ}
 use Rattle.ranged1d.specs.Admitted.{wholeAdmitted}
 use Rattle.ranged1d.proofs.Whole.{same-yes}
-use Rattle.numeric.specs.Whole.{tellCount, tellIndex}
+use Rattle.discrete.specs.Index.{tellIndex}
+use Rattle.numeric.specs.Whole.{tellCount}
 use Rattle.numeric.specs.declared.whole.Count.{Count}
 use Rattle.numeric.specs.Marks.{listOf}
 use Rattle.numeric.specs.Calls.{element}

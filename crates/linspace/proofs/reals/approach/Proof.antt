@@ -7,9 +7,9 @@ use borrow.Author.Needs.{needs}
 use borrow.Author.Tests.{not-true, not-false}
 use lib.Ieee.{Float, eq}
 use Rattle.linspace.specs.List.{real, toward}
-use Rattle.linspace.specs.RealSteps.{plusStep, nearest, Parted}
+use Rattle.linspace.specs.RealSteps.{plusStep, nearest, Going, Parted}
 use Rattle.linspace.specs.Walks.{Tracked, headOf}
-use Rattle.linspace.proofs.Walks.{Going, going-starts, going-on}
+use Rattle.linspace.proofs.Walks.{going-starts, going-on}
 use Rattle.linspace.proofs.Tracks.{Runs, runs-from, runs-on, runs-test, head-on, track-head, before-both, not-both-before}
 use Rattle.linspace.proofs.reals.approach.Statement.{statement}
 use Rattle.linspace.proofs.reals.approach.Tie as tie
@@ -44,8 +44,7 @@ module _ (c : tie.At-loop Inv-loop μ-loop) where
       → let s = start .args in Parted passes (plusStep (s .s .d)) 65537 (s .s .a) test (c .loop .n) (c .loop .left) x
   ends x e f =
       let s = start .args in
-      let g = kept .1 in
-      subst (λ (y : Float). Parted passes (plusStep (s .s .d)) 65537 (s .s .a) test (c .loop .n) (c .loop .left) y) (sym e) record { walked = g .walked; front = g .front; last = g .last; stopped = f }
+      subst (λ (y : Float). Parted passes (plusStep (s .s .d)) 65537 (s .s .a) test (c .loop .n) (c .loop .left) y) (sym e) record { going = kept .1; stopped = f }
 
 nearer-requires : tie.Need-nearer-requires Inv-loop μ-loop
 nearer-requires c κs = search needs

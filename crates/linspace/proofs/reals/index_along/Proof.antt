@@ -23,7 +23,7 @@ module _ (c : tie.After-count-on) where
   start = number .before
 
   count-is : c .count-on .result ≡ length (stepped real (start .args .s .a) (start .args .s .b) (start .args .s .d))
-  count-is = let s = start .args .s in let r = c .before .approach in c .count-on .ensures ∙ walked-count (s .a) (s .b) (s .d) (r .result .n) (r .result .right) (start .pre .1) (r .ensures .walked)
+  count-is = let s = start .args .s in let r = c .before .approach in c .count-on .ensures ∙ walked-count (s .a) (s .b) (s .d) (r .result .n) (r .result .right) (start .pre .1) (r .ensures .going .walked)
 
 index-of-nan-requires : tie.Need-index-of-nan-requires
 index-of-nan-requires c κs = (c .before .pre .0, (c .before .pre .1, differs-from-itself (c .before .args .v) (subst T (sym (c .if1 .taken)) tt)))
@@ -38,7 +38,7 @@ approach-requires c κs =
     (end-number (s .args .s .a) (s .args .s .b) (s .args .s .d) (s .pre .1), equals-itself (s .args .v) (no .if1 .left))
 
 count-on-requires : tie.Need-count-on-requires
-count-on-requires c κs = c .approach .ensures .walked .within
+count-on-requires c κs = c .approach .ensures .going .walked .within
 
 returns-2 : tie.Need-returns-2
 returns-2 c =

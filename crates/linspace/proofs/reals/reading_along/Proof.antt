@@ -9,7 +9,7 @@ use mir.Facts.{toZ-ofZ}
 use mir.Syntax.{w32}
 use mir.Val.{SFits, toZ, ofZ}
 use Rattle.ranged1d.proofs.Whole.{fits32}
-use Rattle.discrete.proofs.Index.{distances}
+use Rattle.discrete.proofs.Within.{distances}
 use Rattle.linspace.specs.List.{real, stepped}
 use Rattle.linspace.specs.RealSteps.{Shares}
 use Rattle.linspace.proofs.Axis.{stepped-total}
@@ -41,7 +41,7 @@ module _ (c : tie.After-struct-told2) where
   q-is = toZ-ofZ (record { sfits = c .before .struct-told .given .1 .0 .1 })
 
   far : (natAbs (x -ℤ p) ≤ 2000000) × (natAbs (q -ℤ p) ≤ 2000000)
-  far = distances x (start .args .limit) (start .pre .1 .1 .0) (start .pre .1 .1 .1)
+  far = distances x (start .args .limit) (start .pre .1 .1)
 
   d-fits : SFits w32 (x -ℤ p)
   d-fits = fits32 _ (omega (arith, far .0))
@@ -76,7 +76,7 @@ returns c =
     let r = both .walk-both .ensures in
     let count : both .walk-both .result .n ≡ length (stepped real (s .s .a) (s .s .b) (s .s .d)) = r .counted ∙ sym (stepped-total (s .s .a) (s .s .b) (s .s .d) (begun .pre .1 .0)) in
     c .told .ensures
-    ∙ reading-told (s .s .a) (s .s .b) (s .s .d) (s .x) (s .limit) (begun .pre .1 .1 .0) (begun .pre .1 .1 .1) (begun .pre .0) count (λ h. r .at) (r .shared) (shared at)
+    ∙ reading-told (s .s .a) (s .s .b) (s .s .d) (s .x) (s .limit) (begun .pre .1 .1) (begun .pre .0) count (λ h. r .at) (r .shared) (shared at)
 
 pub reading-along-spec : {M : Type 1} → statement M
 reading-along-spec =

@@ -5,8 +5,8 @@ use Prim.Native.Nat.{ℕ}
 use borrow.Author.Needs.{needs}
 use borrow.Author.Tests.{not-true, not-false}
 use mir.Facts.{toZ-ofZ}
-use Rattle.discrete.specs.Index.{tellPixelIndex, pixelIndex}
-use Rattle.discrete.specs.declared.PixelIndex.{PixelIndex}
+use Rattle.discrete.specs.Index.{tellIndex, pixelIndex}
+use Rattle.discrete.specs.declared.Index.{Index}
 use Rattle.numeric.specs.Whole.{endsAdmitted, wholeReading}
 use Rattle.numeric.proofs.Readings.{thenValue, by-index}
 use Rattle.numeric.proofs.RangedCoordi32.unmap.Statement.{statement}
@@ -38,17 +38,17 @@ enum-known-k : tie.Need-enum-known-k
 enum-known-k c = search needs
 
 -- the reading, by the index that the pixel was found to have
-module _ (c : tie.After-pixel-index) {i : PixelIndex} (found : c .pixel-index .result ≡ i) where
+module _ (c : tie.After-pixel-index) {i : Index} (found : c .pixel-index .result ≡ i) where
   at : tie.Start
   at = c .before .before .before .before
 
-  reading : wholeReading (at .args .self .0) (at .args .self .1) (at .args .x) (at .args .limit) ≡ thenValue (at .args .self .0) (tellPixelIndex i)
+  reading : wholeReading (at .args .self .0) (at .args .self .1) (at .args .x) (at .args .limit) ≡ thenValue (at .args .self .0) (tellIndex i)
   unfolding at
   reading =
       let s = c .before .before .before .before in
       let index = (rw (toZ-ofZ (s .fits .x)) at (c .pixel-index .ensures)) ∙ ap (λ (n : ℕ). pixelIndex (s .args .x) (s .args .limit) n) (c .before .len .ensures) in
       by-index (s .args .self .0) (s .args .self .1) (s .args .x) (s .args .limit) (admitted (c .before .before))
-      ∙ ap (thenValue (s .args .self .0)) (sym index ∙ ap tellPixelIndex found)
+      ∙ ap (thenValue (s .args .self .0)) (sym index ∙ ap tellIndex found)
 
 value-at-requires : tie.Need-value-at-requires
 value-at-requires c κs = admitted (c .before .before .before .before .before)

@@ -2,7 +2,7 @@
 use borrow.Author.Needs.{needs}
 use borrow.Author.Tests.{not-true, not-false}
 use mathlib.Core.Path.{_≡_, sym, ap, _∙_}
-use mathlib.Core.Bool.{true, false}
+use mathlib.Core.Bool.{true, false, and-false}
 use native.Mathlib.Omega.{arith}
 use lib.IntN.{ℤ, _-ℤ_}
 use mir.Syntax.{w32}
@@ -20,7 +20,7 @@ admitted-requires c κs = search needs
 
 returns : tie.Need-returns
 unfolding realReading
-returns c = rw (sym (c .before .admitted .ensures) ∙ not-true _ (c .if1 .taken))
+returns c = rw (sym (c .before .admitted .ensures) ∙ not-true _ (c .if1 .taken), and-false (pixelAdmitted (c .before .before .args .x)))
 
 -- past the test of the limits
 module _ (c : tie.After-struct-told2) where

@@ -3,7 +3,7 @@ use mathlib.Core.Path.{_≡_}
 use native.Mathlib.Omega.{arith}
 use lib.ListN.{length}
 use Rattle.decimal.specs.Print.{natural}
-use Rattle.decimal.proofs.Digits.{filled-to-long, natural-most}
+use Rattle.decimal.proofs.Digits.{natural-most, text-told}
 use borrow.Author.Needs.{needs}
 use Rattle.rule.proofs.output.entry.Statement.{statement}
 use Rattle.rule.proofs.output.entry.Tie as tie
@@ -21,7 +21,7 @@ returns : tie.Need-returns
 returns c = search needs
 
 long : (c : tie.After-natural-label) → length (c .natural-label .result .bytes) ≡ 11
-long c = rw (c .natural-label .ensures) (filled-to-long 11 (natural (c .before .before .before .before .before .before .before .args .n)) (natural-most (c .before .before .before .before .before .before .before .args .n)))
+long c = let n = c .before .before .before .before .before .before .before .args .n in text-told (natural n) (natural-most n) (c .natural-label .ensures) .long
 
 part-text-start : tie.Need-part-text-start
 part-text-start c = search needs

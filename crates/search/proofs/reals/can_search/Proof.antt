@@ -4,8 +4,7 @@ use lib.Ieee.{lt, nan}
 use Rattle.search.specs.Search.{reals}
 use Rattle.search.proofs.RealOrder.{real-order}
 use Rattle.search.proofs.Lists.{searchable-one, searchable-is}
-use Rattle.search.specs.Steps.{toward}
-use Rattle.search.specs.Lists.{ascends}
+use Rattle.search.specs.Lists.{toward, ascends}
 use mathlib.Core.Bool.{Bool}
 use borrow.Author.Needs.{needs}
 use Rattle.search.proofs.reals.can_search.Statement.{statement}

@@ -7,8 +7,7 @@ use borrow.Author.Needs.{needs}
 use denote.Ref.{now}
 use lib.ListN.{length, drop}
 use lib.Ieee.{lt, nan}
-use Rattle.search.specs.Lists.{ascends}
-use Rattle.search.specs.Steps.{toward}
+use Rattle.search.specs.Lists.{toward, ascends}
 use Rattle.search.proofs.Lists.{walk-on, walk-done}
 use Rattle.search.proofs.reals.in_line.Statement.{statement}
 use Rattle.search.proofs.reals.in_line.Tie as tie

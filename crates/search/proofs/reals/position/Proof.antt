@@ -7,7 +7,7 @@ use borrow.Author.Needs.{needs}
 use denote.Ref.{now}
 use lib.ListN.{length}
 use lib.Ieee.{lt, nan}
-use Rattle.search.specs.Steps.{toward}
+use Rattle.search.specs.Lists.{toward}
 use Rattle.search.proofs.RealOrder.{real-order}
 use Rattle.search.proofs.Orders.{way}
 use Rattle.search.proofs.Lists.{sorted}

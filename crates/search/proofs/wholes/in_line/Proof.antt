@@ -10,8 +10,7 @@ use lib.IntN.{pos}
 use lib.Signed.{ltZ}
 use mir.Facts.{toZ-ofZ}
 use mir.Syntax.{w32}
-use Rattle.search.specs.Lists.{ascends}
-use Rattle.search.specs.Steps.{toward}
+use Rattle.search.specs.Lists.{toward, ascends}
 use Rattle.search.proofs.Lists.{walk-on, walk-done}
 use Rattle.search.proofs.wholes.in_line.Statement.{statement}
 use Rattle.search.proofs.wholes.in_line.Tie as tie

@@ -7,8 +7,7 @@ use borrow.Author.Tests.{not-true, not-false}
 use denote.Ref.{now}
 use lib.ListN.{length, drop}
 use lib.Signed.{ltZ}
-use Rattle.search.specs.Lists.{ascends}
-use Rattle.search.specs.Steps.{toward}
+use Rattle.search.specs.Lists.{toward, ascends}
 use Rattle.search.proofs.Lists.{run-on, run-stop, run-last}
 use Rattle.search.proofs.wholes.ordered.Statement.{statement}
 use Rattle.search.proofs.wholes.ordered.Tie as tie

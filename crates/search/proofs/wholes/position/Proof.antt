@@ -11,7 +11,8 @@ use lib.Signed.{ltZ}
 use mir.Facts.{toZ-ofZ}
 use mir.Syntax.{w32}
 use mir.Val.{toZ, ofZ}
-use Rattle.search.specs.Steps.{toward, PlaceOf}
+use Rattle.search.specs.Lists.{toward}
+use Rattle.search.specs.Steps.{PlaceOf}
 use Rattle.search.proofs.WholeOrder.{whole-order}
 use Rattle.search.proofs.Orders.{way}
 use Rattle.search.proofs.Lists.{sorted}

@@ -7,12 +7,11 @@ use denote.Ref.{now}
 use lib.IntN.{ℤ}
 use lib.Signed.{ltZ}
 use mir.Facts.{toZ-ofZ}
-use Rattle.numeric.specs.Whole.{tellIndex}
 use Rattle.ranged1d.specs.Admitted.{wholeAdmitted}
+use Rattle.discrete.specs.Index.{tellIndex}
 use Rattle.search.specs.Search.{wholes}
 use Rattle.search.specs.Search as rule
-use Rattle.search.specs.Lists.{ascends, searchable}
-use Rattle.search.specs.Steps.{toward}
+use Rattle.search.specs.Lists.{toward, ascends, searchable}
 use Rattle.search.proofs.Rules.{whole-searchable, whole-entry-refused, whole-target-refused, whole-order-refused, whole-answered}
 use Rattle.search.proofs.wholes.search_whole.Statement.{statement}
 use Rattle.search.proofs.wholes.search_whole.Tie as tie

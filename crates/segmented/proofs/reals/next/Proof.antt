@@ -3,8 +3,8 @@ use mathlib.Core.Path.{_≡_, refl, sym, ap, _∙_}
 use lib.Ieee.{Float}
 use Prim.Native.Nat.{_+_}
 use native.Mathlib.Numerals.{add-one}
-use Rattle.numeric.specs.Whole.{tellIndex}
-use Rattle.numeric.specs.declared.whole.Index.{Index}
+use Rattle.discrete.specs.Index.{tellIndex}
+use Rattle.discrete.specs.declared.Index.{Index}
 use Rattle.linspace.specs.List.{real}
 use Rattle.segmented.specs.Segments.{Axis, entryAfter}
 use Rattle.segmented.specs.Axes.{steppedAxis, steppedFinder}

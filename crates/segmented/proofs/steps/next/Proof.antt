@@ -4,8 +4,8 @@ use lib.IntN.{ℤ}
 use mir.Facts.{toZ-ofZ}
 use Prim.Native.Nat.{_+_}
 use native.Mathlib.Numerals.{add-one}
-use Rattle.numeric.specs.Whole.{tellIndex}
-use Rattle.numeric.specs.declared.whole.Index.{Index}
+use Rattle.discrete.specs.Index.{tellIndex}
+use Rattle.discrete.specs.declared.Index.{Index}
 use Rattle.linspace.specs.List.{whole}
 use Rattle.segmented.specs.Segments.{Axis, entryAfter}
 use Rattle.segmented.specs.Axes.{steppedAxis, steppedFinder}

@@ -12,9 +12,10 @@ use mir.Facts.{toZ-ofZ, toZ-pos}
 use mir.Syntax.{Width}
 use mir.Val.{SFits, hbits, toZ, ofZ}
 use Rattle.ranged1d.specs.Answer.{given, none}
-use Rattle.ranged1d.specs.Admitted.{pixelAdmitted, limitAdmitted}
+use Rattle.ranged1d.specs.Admitted.{pixelAdmitted, limitAdmitted, readingAdmitted}
 use Rattle.ranged1d.specs.Numbers.{raised}
 use Rattle.ranged1d.specs.declared.Limit.{Limit}
+use Rattle.ranged1d.proofs.Bools.{both-true}
 use Rattle.ranged1d.proofs.Whole.{minus-far, both-near, length-near, raised-below, raised-above}
 use Rattle.discrete.specs.Index.{isZero, noIndex, indexBy, indexFor}
 use Rattle.discrete.proofs.Floor.{cut-raised}
@@ -55,8 +56,9 @@ module _ (d w : ℤ) (n : ℕ) where
   from-zero e h = divided e ∙ ap given (raised-above quotient h)
 
 -- ---- how far a pixel and the second limit lie from the first
-pub distances : (x : ℤ) (l : Limit) → pixelAdmitted x ≡ true → limitAdmitted l ≡ true → (natAbs (x -ℤ l .0) ≤ 2000000) × (natAbs (l .1 -ℤ l .0) ≤ 2000000)
-distances x l h k =
-    let near = both-near 1000000 (l .0) (l .1) k in
-    let x-near : natAbs x ≤ 1000000 = leb-true _ _ h in
-    (omega (arith, minus-far x (l .0), x-near, near .0), length-near l k)
+pub distances : (x : ℤ) (l : Limit) → readingAdmitted x l ≡ true → (natAbs (x -ℤ l .0) ≤ 2000000) × (natAbs (l .1 -ℤ l .0) ≤ 2000000)
+distances x l h =
+    let each = both-true (pixelAdmitted x) (limitAdmitted l) h in
+    let near = both-near 1000000 (l .0) (l .1) (each .1) in
+    let x-near : natAbs x ≤ 1000000 = leb-true _ _ (each .0) in
+    (omega (arith, minus-far x (l .0), x-near, near .0), length-near l (each .1))

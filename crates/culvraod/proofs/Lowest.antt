@@ -1,0 +1,27 @@
+-- The reasons of every rule are listed with rising numbers: computed, whatever the arguments are. Assumes nothing.
+use Rattle.linspace.specs.List.{Kind}
+use Rattle.segmented.specs.Segments.{Axis}
+use Rattle.culvraod.specs.Lowest.{StepsRise, SegmentsRise, LowestFirst}
+
+steps-rise : {A : Type 0} (kind : Kind A) (a b d : A) → StepsRise kind a b d
+steps-rise kind a b d = record { values = λ old. tt; size = tt; index-of = λ v method. tt; map = λ v limit. tt; unmap = λ x limit. tt; key-points = λ m old. tt }
+
+segments-rise : {A : Type 0} (axis : Axis A) → SegmentsRise axis
+segments-rise axis = record { size = tt; index-of = λ find s. tt; map = λ find s limit. tt; unmap = λ x limit. tt; key-points = λ m old. tt }
+
+pub lowest-first : LowestFirst
+lowest-first = record {
+  plan = λ admitted a b m. tt;
+  key-points = λ admitted a b m new old. tt;
+  from-index = λ a b k. tt;
+  unmap = λ a b x limit. tt;
+  whole-map = λ a b v limit. tt;
+  real-map = λ a b v limit. tt;
+  search-whole = λ l t. tt;
+  search-real = λ l t method. tt;
+  stepped = steps-rise;
+  segmented = segments-rise;
+  ruler-plan = λ a b limit m. tt;
+  ruler-write = λ a b limit m old. tt;
+  print = λ n h e old. tt;
+}
