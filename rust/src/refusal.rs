@@ -1,70 +1,63 @@
 use std::fmt;
 
-/// Why a call stopped. Of several reasons it is the one with the lowest number.
-///
-/// The [crate's page](crate#refusals) has a table of the numbers and of when each is met.
-///
-/// ```
-/// use culvraod::{RangedCoordi32, Refusal};
-///
-/// let refused = RangedCoordi32(0, 1_000_000_001).size().unwrap_err();
-/// assert_eq!(refused, Refusal::WholeNotAdmitted);
-/// assert_eq!(refused.number(), 1);
-/// assert_eq!(Refusal::from_number(1), Some(refused));
-/// ```
-#[derive(Clone, Copy, Debug, PartialEq, Eq, Hash)]
-#[non_exhaustive]
-#[repr(i32)]
-pub enum Refusal {
-    /// A whole end, value, step or list entry is not admitted.
-    WholeNotAdmitted = 1,
-    /// A limit or pixel is not admitted.
-    LimitNotAdmitted = 2,
-    /// None of the 28 steps serves.
-    NoStep = 3,
-    /// A segment call on an axis without entries, or with too many.
-    NoSegments = 4,
-    /// The whole number added to the first limit is beyond ±1,000,000,000.
-    TooFar = 5,
-    /// The step of a stepped axis is zero or leads away from its end.
-    StepAgainstAxis = 6,
-    /// A stepped list has more than 65,536 entries, or more than the lent list holds.
-    ListTooLong = 7,
-    /// The searched list neither rises nor falls strictly, or holds NaN.
-    NotMonotone = 8,
-    /// The target is NaN, the list is not empty and the search is not exact.
-    NanTarget = 9,
-    /// The value at the index is above `i32::MAX`.
-    AboveI32 = 10,
-    /// The label of NaN, of an infinity, or of a number of size 2^53 or more.
-    NotPrintable = 11,
-    /// More decimals asked for than a label can have.
-    TooManyDecimals = 12,
-    /// The bytes or the mark list to be written are too short.
-    OutTooShort = 13,
-    /// The bytes given to the reader are no ruler.
-    NotARuler = 14,
+/// The refusals, each by its number, its name and when it is met: the enum, their list and their
+/// texts.
+macro_rules! refusals {
+    ($(#[$doc:meta])* $($number:literal $name:ident $when:literal;)*) => {
+        $(#[$doc])*
+        #[derive(Clone, Copy, Debug, PartialEq, Eq, Hash)]
+        #[non_exhaustive]
+        #[repr(i32)]
+        pub enum Refusal {
+            $(
+                #[doc = concat!("Refused, since ", $when, ".")]
+                $name = $number,
+            )*
+        }
+
+        use Refusal::*;
+
+        /// Every refusal, in the order of their numbers.
+        const ALL: [Refusal; 14] = [$($name),*];
+
+        impl Refusal {
+            fn text(self) -> &'static str {
+                match self {
+                    $($name => $when,)*
+                }
+            }
+        }
+    };
 }
 
-use Refusal::*;
-
-/// Every refusal, in the order of their numbers.
-const ALL: [Refusal; 14] = [
-    WholeNotAdmitted,
-    LimitNotAdmitted,
-    NoStep,
-    NoSegments,
-    TooFar,
-    StepAgainstAxis,
-    ListTooLong,
-    NotMonotone,
-    NanTarget,
-    AboveI32,
-    NotPrintable,
-    TooManyDecimals,
-    OutTooShort,
-    NotARuler,
-];
+refusals! {
+    /// Why a call stopped. Of several reasons it is the one with the lowest number.
+    ///
+    /// The [crate's page](crate#refusals) has a table of the numbers and of when each is met.
+    ///
+    /// ```
+    /// use culvraod::{RangedCoordi32, Refusal};
+    ///
+    /// let refused = RangedCoordi32(0, 1_000_000_001).size().unwrap_err();
+    /// assert_eq!(refused, Refusal::WholeNotAdmitted);
+    /// assert_eq!(refused.number(), 1);
+    /// assert_eq!(Refusal::from_number(1), Some(refused));
+    /// ```
+    1 WholeNotAdmitted "a whole end, value, step or list entry is not admitted";
+    2 LimitNotAdmitted "a limit or pixel is not admitted";
+    3 NoStep "none of the 28 steps serves";
+    4 NoSegments "there are no segments, or too many";
+    5 TooFar "the place is too far from the first limit";
+    6 StepAgainstAxis "the step is zero or leads away from the end";
+    7 ListTooLong "the stepped list has more than 65,536 entries, or more than are lent";
+    8 NotMonotone "the searched list neither rises nor falls strictly, or holds NaN";
+    9 NanTarget "the target of the search is NaN";
+    10 AboveI32 "the value at the index is above 2147483647";
+    11 NotPrintable "the number has no label";
+    12 TooManyDecimals "more decimals are asked for than a label can have";
+    13 OutTooShort "the list or the bytes to be written are too short";
+    14 NotARuler "the bytes are no ruler";
+}
 
 impl Refusal {
     /// The number that the C interface returns for this refusal.
@@ -75,25 +68,6 @@ impl Refusal {
     /// The refusal with this number.
     pub fn from_number(number: i32) -> Option<Refusal> {
         ALL.into_iter().find(|refusal| refusal.number() == number)
-    }
-
-    fn text(self) -> &'static str {
-        match self {
-            WholeNotAdmitted => "a whole end, value, step or list entry is not admitted",
-            LimitNotAdmitted => "a limit or pixel is not admitted",
-            NoStep => "none of the 28 steps serves",
-            NoSegments => "there are no segments, or too many",
-            TooFar => "the place is too far from the first limit",
-            StepAgainstAxis => "the step is zero or leads away from the end",
-            ListTooLong => "the stepped list has too many entries",
-            NotMonotone => "the searched list neither rises nor falls strictly",
-            NanTarget => "the target of the search is NaN",
-            AboveI32 => "the value is above 2147483647",
-            NotPrintable => "the number has no label",
-            TooManyDecimals => "too many decimals are asked for",
-            OutTooShort => "the list or the bytes to be written are too short",
-            NotARuler => "the bytes are no ruler",
-        }
     }
 }
 

@@ -6,24 +6,12 @@ use crate::{KeyPoints, Limit, Linspacef64, Linspacei32, RoundingMethod};
 use crate::{RangedCoordf64, RangedCoordi32};
 
 declare!(
-    "SegmentedCoord::size`] over a whole axis",
-    culv_seg_whole_size((a: i32, b: i32) n: *mut u64)
-);
-declare!(
     "SegmentedCoord::map`] over a whole axis",
     culv_seg_whole_map((a: i32, b: i32) kind: u32, v: i32, p: i32, q: i32, pixel: *mut i32)
 );
 declare!(
     "SegmentedCoord::index_of`] over a whole axis",
     culv_seg_whole_index_of((a: i32, b: i32) kind: u32, v: i32, k: *mut u64)
-);
-declare!(
-    "SegmentedCoord::from_index`] over a whole axis",
-    culv_seg_whole_from_index((a: i32, b: i32) k: u64, kind: *mut u32, v: *mut i32)
-);
-declare!(
-    "SegmentedCoord::unmap`] over a whole axis",
-    culv_seg_whole_unmap((a: i32, b: i32) x: i32, p: i32, q: i32, kind: *mut u32, v: *mut i32)
 );
 declare!(
     "SegmentedCoord::key_points`] over a whole axis",
@@ -89,22 +77,89 @@ impl<T: Default> SegmentValue<T> {
 #[derive(Clone, Copy, Debug, PartialEq, Eq)]
 pub struct SegmentedCoord<D>(pub D);
 
-impl RangedCoordi32 {
-    /// Segments over the axis.
-    pub fn into_segmented(self) -> SegmentedCoord<RangedCoordi32> {
-        SegmentedCoord(self)
-    }
+/// What segments over every kind of axis have, which the pattern `$axis` takes apart into the
+/// numbers that the C functions begin with. `$also` is the refusal that whole numbers alone meet,
+/// `$none` are those of an axis without segments.
+macro_rules! segments {
+    (
+        $coord:ident, $number:ty, $over:literal, $axis:pat => ($($part:ident),*),
+        also $also:literal, none $none:literal, $size:ident, $from_index:ident, $unmap:ident
+    ) => {
+        declare!(
+            concat!("SegmentedCoord::size`] over ", $over),
+            $size(($($part: $number),*) n: *mut u64)
+        );
+        declare!(
+            concat!("SegmentedCoord::from_index`] over ", $over),
+            $from_index(($($part: $number),*) k: u64, kind: *mut u32, v: *mut $number)
+        );
+        declare!(
+            concat!("SegmentedCoord::unmap`] over ", $over),
+            $unmap(
+                ($($part: $number),*)
+                x: i32, p: i32, q: i32, kind: *mut u32, v: *mut $number
+            )
+        );
+
+        impl $coord {
+            /// Segments over the axis.
+            pub fn into_segmented(self) -> SegmentedCoord<$coord> {
+                SegmentedCoord(self)
+            }
+        }
+
+        impl SegmentedCoord<$coord> {
+            /// The number of values: one for each entry, and the last.
+            ///
+            #[doc = concat!("Refused as ", $also, $none, ".")]
+            pub fn size(self) -> Result<u64, Refusal> {
+                let $axis = self.0;
+                ask!(answered, $size($($part),*))
+            }
+
+            /// The value at an index: where an entry begins, or the last; none behind that.
+            ///
+            #[doc = concat!("Refused as ", $also, $none, ".")]
+            #[allow(clippy::wrong_self_convention)] // plotters' name
+            pub fn from_index(self, k: u64) -> Result<Option<SegmentValue<$number>>, Refusal> {
+                let $axis = self.0;
+                let (mut kind, mut v) = (0, <$number>::default());
+                // SAFETY: the results are locals of their own.
+                let code = unsafe { $from_index($($part,)* k, &mut kind, &mut v) };
+                answered_or_none(
+                    stringify!($from_index),
+                    code,
+                    SegmentValue::of_parts(kind, v),
+                )
+            }
+
+            /// The value whose share of the film holds pixel `x`, the first one before the film;
+            /// none behind it.
+            ///
+            #[doc = concat!("Refused as ", $also, "[`Refusal::LimitNotAdmitted`], ", $none, ".")]
+            pub fn unmap(
+                self,
+                x: i32,
+                limit: Limit,
+            ) -> Result<Option<SegmentValue<$number>>, Refusal> {
+                let $axis = self.0;
+                let Limit(p, q) = limit;
+                let (mut kind, mut v) = (0, <$number>::default());
+                // SAFETY: the results are locals of their own.
+                let code = unsafe { $unmap($($part,)* x, p, q, &mut kind, &mut v) };
+                answered_or_none(stringify!($unmap), code, SegmentValue::of_parts(kind, v))
+            }
+        }
+    };
 }
 
-impl SegmentedCoord<RangedCoordi32> {
-    /// The number of values: one for each entry, and the last.
-    ///
-    /// Refused as [`Refusal::WholeNotAdmitted`] or [`Refusal::NoSegments`].
-    pub fn size(self) -> Result<u64, Refusal> {
-        let RangedCoordi32(a, b) = self.0;
-        ask!(answered, culv_seg_whole_size(a, b))
-    }
+segments!(
+    RangedCoordi32, i32, "a whole axis", RangedCoordi32(a, b) => (a, b),
+    also "[`Refusal::WholeNotAdmitted`], ", none "or [`Refusal::NoSegments`]",
+    culv_seg_whole_size, culv_seg_whole_from_index, culv_seg_whole_unmap
+);
 
+impl SegmentedCoord<RangedCoordi32> {
     /// The pixel of a value, which may carry a number outside the axis.
     ///
     /// Refused as [`Refusal::WholeNotAdmitted`], [`Refusal::LimitNotAdmitted`],
@@ -124,40 +179,6 @@ impl SegmentedCoord<RangedCoordi32> {
         ask!(answered_or_none, culv_seg_whole_index_of(a, b, kind, v))
     }
 
-    /// The value at an index: where an entry begins, or the last; none behind that.
-    ///
-    /// Refused as [`Refusal::WholeNotAdmitted`] or [`Refusal::NoSegments`].
-    #[allow(clippy::wrong_self_convention)] // plotters' name
-    pub fn from_index(self, k: u64) -> Result<Option<SegmentValue<i32>>, Refusal> {
-        let RangedCoordi32(a, b) = self.0;
-        let (mut kind, mut v) = (0, 0);
-        // SAFETY: the results are locals of their own.
-        let code = unsafe { culv_seg_whole_from_index(a, b, k, &mut kind, &mut v) };
-        answered_or_none(
-            "culv_seg_whole_from_index",
-            code,
-            SegmentValue::of_parts(kind, v),
-        )
-    }
-
-    /// The value whose share of the film holds pixel `x`, the first one before the film; none
-    /// behind it.
-    ///
-    /// Refused as [`Refusal::WholeNotAdmitted`], [`Refusal::LimitNotAdmitted`] or
-    /// [`Refusal::NoSegments`].
-    pub fn unmap(self, x: i32, limit: Limit) -> Result<Option<SegmentValue<i32>>, Refusal> {
-        let RangedCoordi32(a, b) = self.0;
-        let Limit(p, q) = limit;
-        let (mut kind, mut v) = (0, 0);
-        // SAFETY: the results are locals of their own.
-        let code = unsafe { culv_seg_whole_unmap(a, b, x, p, q, &mut kind, &mut v) };
-        answered_or_none(
-            "culv_seg_whole_unmap",
-            code,
-            SegmentValue::of_parts(kind, v),
-        )
-    }
-
     /// Writes the marks of the axis, at most `m` + 1, to `out`, ascending; each stands for the
     /// middle of its segment.
     ///
@@ -173,20 +194,13 @@ impl SegmentedCoord<RangedCoordi32> {
     }
 }
 
-/// Segments over a stepped axis: the same calls for whole and for real numbers, by their C
-/// functions. `$also` and `$nan` are the refusals that one kind alone meets.
+/// What segments over stepped axes have besides, for whole and for real numbers. `$also` and `$nan`
+/// are the refusals that one kind alone meets.
 macro_rules! stepped_segments {
     (
         $axis:ident, $ends:ident, $number:ty, $over:literal, also $also:literal, nan $nan:literal,
         $size:ident, $map:ident, $index_of:ident, $from_index:ident, $unmap:ident, $key_points:ident
     ) => {
-        declare!(
-            concat!("SegmentedCoord::size`] over ", $over),
-            $size(
-                (a: $number, b: $number, d: $number)
-                n: *mut u64
-            )
-        );
         declare!(
             concat!("SegmentedCoord::map`] over ", $over),
             $map(
@@ -202,20 +216,6 @@ macro_rules! stepped_segments {
             )
         );
         declare!(
-            concat!("SegmentedCoord::from_index`] over ", $over),
-            $from_index(
-                (a: $number, b: $number, d: $number)
-                k: u64, kind: *mut u32, v: *mut $number
-            )
-        );
-        declare!(
-            concat!("SegmentedCoord::unmap`] over ", $over),
-            $unmap(
-                (a: $number, b: $number, d: $number)
-                x: i32, p: i32, q: i32, kind: *mut u32, v: *mut $number
-            )
-        );
-        declare!(
             concat!("SegmentedCoord::key_points`] over ", $over),
             $key_points(
                 (a: $number, b: $number, d: $number)
@@ -223,23 +223,14 @@ macro_rules! stepped_segments {
             )
         );
 
-        impl $axis {
-            /// Segments over the axis.
-            pub fn into_segmented(self) -> SegmentedCoord<$axis> {
-                SegmentedCoord(self)
-            }
-        }
+        segments!(
+            $axis, $number, $over, $axis { inner: $ends(a, b), step: d } => (a, b, d),
+            also $also,
+            none "[`Refusal::NoSegments`], [`Refusal::StepAgainstAxis`] or [`Refusal::ListTooLong`]",
+            $size, $from_index, $unmap
+        );
 
         impl SegmentedCoord<$axis> {
-            /// The number of values: one for each entry, and the last.
-            ///
-            #[doc = concat!("Refused as ", $also, "[`Refusal::NoSegments`], ")]
-            /// [`Refusal::StepAgainstAxis`] or [`Refusal::ListTooLong`].
-            pub fn size(self) -> Result<u64, Refusal> {
-                let ($ends(a, b), d) = (self.0.inner, self.0.step);
-                ask!(answered, $size(a, b, d))
-            }
-
             /// The pixel of a value, which may carry a number outside the axis or between entries.
             ///
             #[doc = concat!("Refused as ", $also, "[`Refusal::LimitNotAdmitted`], ")]
@@ -270,42 +261,6 @@ macro_rules! stepped_segments {
                 let ($ends(a, b), d) = (self.0.inner, self.0.step);
                 let (kind, v) = value.parts();
                 ask!(answered_or_none, $index_of(a, b, d, method.number(), kind, v))
-            }
-
-            /// The value at an index: where an entry begins, or the last; none behind that.
-            ///
-            #[doc = concat!("Refused as ", $also, "[`Refusal::NoSegments`], ")]
-            /// [`Refusal::StepAgainstAxis`] or [`Refusal::ListTooLong`].
-            #[allow(clippy::wrong_self_convention)] // plotters' name
-            pub fn from_index(self, k: u64) -> Result<Option<SegmentValue<$number>>, Refusal> {
-                let ($ends(a, b), d) = (self.0.inner, self.0.step);
-                let (mut kind, mut v) = (0, <$number>::default());
-                // SAFETY: the results are locals of their own.
-                let code = unsafe { $from_index(a, b, d, k, &mut kind, &mut v) };
-                answered_or_none(
-                    stringify!($from_index),
-                    code,
-                    SegmentValue::of_parts(kind, v),
-                )
-            }
-
-            /// The value whose share of the film holds pixel `x`, the first one before the film;
-            /// none behind it.
-            ///
-            #[doc = concat!("Refused as ", $also, "[`Refusal::LimitNotAdmitted`], ")]
-            /// [`Refusal::NoSegments`], [`Refusal::StepAgainstAxis`] or
-            /// [`Refusal::ListTooLong`].
-            pub fn unmap(
-                self,
-                x: i32,
-                limit: Limit,
-            ) -> Result<Option<SegmentValue<$number>>, Refusal> {
-                let ($ends(a, b), d) = (self.0.inner, self.0.step);
-                let Limit(p, q) = limit;
-                let (mut kind, mut v) = (0, <$number>::default());
-                // SAFETY: the results are locals of their own.
-                let code = unsafe { $unmap(a, b, d, x, p, q, &mut kind, &mut v) };
-                answered_or_none(stringify!($unmap), code, SegmentValue::of_parts(kind, v))
             }
 
             /// Writes the marks of the axis, at most `m` + 1 of the entries, to `out` and gives
