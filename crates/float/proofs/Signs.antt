@@ -12,7 +12,7 @@ use Rattle.ranged1d.proofs.Bools.{both-true}
 use Rattle.rounding.proofs.Order.{eq-zero}
 use Rattle.rounding.proofs.Signs.{zeroF}
 use Rattle.rounding.proofs.Sizes.{AtLeast}
-use Rattle.rounding.proofs.Steps.{oneF, Below}
+use Rattle.rounding.proofs.Steps.{oneF, LessThan}
 use Rattle.float.specs.Text.{signOf, sizeOf}
 use Rattle.float.specs.Calls.{printable}
 
@@ -59,7 +59,7 @@ size-is (fin true m e) = refl
 size-is (fin false m e) = refl
 
 -- ---- the size is below 2 ^ 53
-pub admit-yes : (n : Float) → Below (2 ^ 53) n → true ≡ printable n
+pub admit-yes : (n : Float) → LessThan (2 ^ 53) n → true ≡ printable n
 unfolding printable
 admit-yes (fin s m e) h = sym (lt-ltb (m * up e) (2 ^ 53 * down e) h)
 

@@ -12,6 +12,7 @@ use Rattle.search.proofs.RealOrder.{real-order}
 use Rattle.linspace.specs.List.{real, entries, toward, stepped, against}
 use Rattle.linspace.specs.Calls.{hasEntries, stepSize}
 use Rattle.linspace.specs.RealSteps.{plusStep, Walked}
+use Rattle.linspace.proofs.Rules.{counts-against, counts-long, counts-all}
 use Rattle.linspace.proofs.Ways.{stepped-run}
 use Rattle.linspace.proofs.Walks.{entries-few}
 
@@ -46,12 +47,12 @@ module _ (a b d : Float) where
   -- ---- `size`
   pub size-against : against real a b d ≡ true → _≡_ {A = Answer ℕ} (refused 6) (stepSize real a b d)
   unfolding stepSize
-  size-against e = rw e refl
+  size-against e = counts-against real a b d e
 
   pub size-long : against real a b d ≡ false → 65536 < length (stepped real a b d) → _≡_ {A = Answer ℕ} (refused 7) (stepSize real a b d)
   unfolding stepSize
-  size-long e h = rw (e, lt-ltb 65536 (length (stepped real a b d)) h) refl
+  size-long e h = counts-long real a b d e (lt-ltb 65536 (length (stepped real a b d)) h)
 
   pub size-is : against real a b d ≡ false → length (stepped real a b d) ≤ 65536 → given (length (stepped real a b d)) ≡ stepSize real a b d
   unfolding stepSize
-  size-is e h = rw (e, le-ltb 65536 (length (stepped real a b d)) h) refl
+  size-is e h = counts-all real a b d e (le-ltb 65536 (length (stepped real a b d)) h)

@@ -112,6 +112,7 @@ module _ (a b d : Float) where
 
       place : PlaceOf (in-list.toward rises lt) l v v n
       place = record {
+        order = omega arith;
         within = inside;
         before = λ k h. subst (λ (z : Float). in-list.toward rises lt z v ≡ true) (sym (entry-of a b d v k (omega (arith, h, inside)))) (r .going .front k h);
         from = λ k h m. beneath w l v v (sorted w v l list-ascends) 0 (length l) n (enclosed w l v v) (omega arith) (omega (arith, h, m)) (stop (omega (arith, h, m))) .from k h m;

@@ -38,6 +38,15 @@ module _ {A : Type 0} (kind : Kind A) (a b d : A) where
   abbrev pub counts : Answer ℕ
   counts = lowest (unlisted kind a b d) (given (length (stepped kind a b d)))
 
+  pub counts-against : against kind a b d ≡ true → refused 6 ≡ counts
+  counts-against e = rw e refl
+
+  pub counts-long : against kind a b d ≡ false → tooLong kind a b d ≡ true → refused 7 ≡ counts
+  counts-long e l = rw (e, l) refl
+
+  pub counts-all : against kind a b d ≡ false → tooLong kind a b d ≡ false → given (length (stepped kind a b d)) ≡ counts
+  counts-all e l = rw (e, l) refl
+
   -- what is known once they are counted
   pub record Counted (n : ℕ) : Type 0 where
     pub onward : against kind a b d ≡ false

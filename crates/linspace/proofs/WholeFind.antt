@@ -54,6 +54,7 @@ module _ {rises : Bool} {a b d : ℤ} {p s : ℕ} (x : Sloped rises a b d p s) (
 
     place-behind : leZ q (pos 0) ≡ true → PlaceOf (toward rises ltZ) (listOf (element a d) n) (pos 0) v 0
     place-behind l = record {
+      order = omega arith;
       within = omega arith;
       before = λ k h. absurd (omega (arith, h));
       from = λ k h m. at k (omega (arith, m, length-of (element a d) n)) ∙ none-behind (k * s) q l;
@@ -69,11 +70,13 @@ module _ {rises : Bool} {a b d : ℤ} {p s : ℕ} (x : Sloped rises a b d p s) (
 
       place-cut : (t : Bool) → ltb m n ≡ t → PlaceOf (toward rises ltZ) (listOf (element a d) n) (pos 0) v (cond t m n)
       place-cut true c = record {
+        order = omega arith;
         within = omega (arith, ltb-true m n c, length-of (element a d) n);
         before = λ k h. counted k (omega (arith, h, ltb-true m n c)) ∙ lt-ltb k m h;
         from = λ k h u. counted k (omega (arith, u, length-of (element a d) n)) ∙ le-ltb k m h;
       }
       place-cut false c = record {
+        order = omega arith;
         within = omega (arith, length-of (element a d) n);
         before = λ k h. counted k h ∙ lt-ltb k m (omega (arith, h, ltb-false m n c));
         from = λ k h u. absurd (omega (arith, h, u, length-of (element a d) n));
@@ -139,7 +142,7 @@ module _ {a b d : ℤ} where
 
   placed : (n : ℕ) (v : ℤ) → Known a b d n → PlaceOf (toward (ltZ a b) ltZ) (listOf (element a d) n) (pos 0) v (wholePosition a b d n v)
   unfolding wholePosition
-  placed zero v known = rw (place-none a b d v) (record { within = omega arith; before = λ k h. absurd (omega (arith, h)); from = λ k h u. absurd (omega (arith, u)) })
+  placed zero v known = rw (place-none a b d v) (record { order = omega arith; within = omega arith; before = λ k h. absurd (omega (arith, h)); from = λ k h u. absurd (omega (arith, u)) })
   placed (suc n) v known = place (known-sloped known (omega arith)) (suc n) v (past a b v) (past-way (ltZ a b) a v)
 
   pub found : {n : ℕ} (v : ℤ) (method : RoundingMethod) (i : ℕ) (x y : ℤ) → Known a b d n → i ≡ wholePosition a b d n v

@@ -15,7 +15,7 @@ use Rattle.ranged1d.proofs.Whole.{fits32}
 use Rattle.real.specs.Place.{wholePlace}
 use Rattle.linspace.specs.List.{whole, most, against, axisAdmitted}
 use Rattle.linspace.specs.WholeSteps.{wholeCount, Known}
-use Rattle.linspace.proofs.Rules.{counts, Counted, counted, endsPlace}
+use Rattle.linspace.proofs.Rules.{counts, counts-long, counts-all, Counted, counted, endsPlace}
 use Rattle.linspace.proofs.WholeList.{sloped, too-long, not-long, length-is, admitted-near}
 
 -- ---- what is admitted keeps its number as an i32
@@ -43,15 +43,12 @@ module _ (a b d : ℤ) where
   pub step-some : against whole a b d ≡ false → (p s : ℕ) → p ≡ natAbs (b -ℤ a) → s ≡ natAbs d → s < p → 0 < s
   step-some h p s span size l = subst (λ (n : ℕ). 0 < n) (sym size) (sloped a b d h (λ e. omega (arith, l, span, ap (λ (z : ℤ). natAbs (z -ℤ a)) (sym e), ap natAbs (+ℤ-invr a))) .moves)
 
-  pub count-away : against whole a b d ≡ true → _≡_ {A = Answer ℕ} (refused 6) (counts whole a b d)
-  count-away h = rw h refl
-
   module _ (h : against whole a b d ≡ false) (n : ℕ) (count : n ≡ wholeCount a b d) where
     pub count-long : most < n → _≡_ {A = Answer ℕ} (refused 7) (counts whole a b d)
-    count-long l = rw (h, too-long a b d h (omega (arith, l, count))) refl
+    count-long l = counts-long whole a b d h (too-long a b d h (omega (arith, l, count)))
 
     pub count-given : n ≤ most → given n ≡ counts whole a b d
-    count-given l = let few : wholeCount a b d ≤ most = omega (arith, l, count) in rw (h, not-long a b d h few) (ap given (count ∙ sym (length-is a b d h few)))
+    count-given l = let few : wholeCount a b d ≤ most = omega (arith, l, count) in ap given (count ∙ sym (length-is a b d h few)) ∙ counts-all whole a b d h (not-long a b d h few)
 
   -- ---- what is known once the entries are counted
   pub known-of : {n : ℕ} → axisAdmitted whole a b d ≡ true → counts whole a b d ≡ given n → Known a b d n

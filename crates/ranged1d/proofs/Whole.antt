@@ -1,6 +1,6 @@
 -- Whole numbers: how far from 0 a sum, a difference, a product or a quotient lies, what fits an i32 or an i64, and what a test of
 -- order says. Assumes nothing.
-use mathlib.Core.Path.{_≡_, refl, sym, ap, _∙_, subst}
+use mathlib.Core.Path.{_≡_, refl, sym, ap, ap₂, _∙_, subst}
 use mathlib.Core.Bool.{Bool, true, false, cond, not, _&&_, _||_, and-true}
 use Prim.Native.Nat.{ℕ, zero, suc, _+_, _-_, _*_, _/_, _^_, _≤_, _<_}
 use native.Mathlib.Nat.{le-refl, div-le-self, zero-mul, zero-div}
@@ -286,8 +286,12 @@ pub below-all : (x y : ℕ) → leZ (negℤ (pos x)) (pos y) ≡ true
 below-all zero y = le-leb 0 y (omega arith)
 below-all (suc x) y = refl
 
+-- what is within a bound stays so
+pub within-neg : (k : ℕ) (z : ℤ) → leb (natAbs (negℤ z)) k ≡ leb (natAbs z) k
+within-neg k z = ap (λ (n : ℕ). leb n k) (neg-far z)
+
 pub admitted-neg : (z : ℤ) → wholeAdmitted (negℤ z) ≡ wholeAdmitted z
-admitted-neg z = ap (λ (n : ℕ). leb n 1_000_000_000) (neg-far z)
+admitted-neg z = within-neg 1_000_000_000 z
 
 pub minus-shift : (a x y : ℤ) → (a +ℤ x) -ℤ (a +ℤ y) ≡ x -ℤ y
 minus-shift a x y =
@@ -324,8 +328,7 @@ low-neg a b =
 
 pub high-neg : (a b : ℤ) → high (negℤ a) (negℤ b) ≡ negℤ (low a b)
 high-neg a b =
-    ap (λ (t : Bool). cond t (negℤ b) (negℤ a)) (neg-le a b)
-    ∙ by-ends a b (λ t u. cond u (negℤ b) (negℤ a) ≡ negℤ (cond t a b)) (λ e. ap negℤ (sym e)) refl refl
+    sym (negℤ-negℤ (high (negℤ a) (negℤ b))) ∙ ap negℤ (sym (low-neg (negℤ a) (negℤ b)) ∙ ap₂ low (negℤ-negℤ a) (negℤ-negℤ b))
 
 pub low-high : (a b : ℤ) → leZ (low a b) (high a b) ≡ true
 low-high a b = go (leZ a b) refl

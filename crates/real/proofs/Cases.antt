@@ -9,7 +9,7 @@ use lib.Signed.{leZ, ltZ}
 use lib.Ieee.{Float, nan, inf, fin, binary64, up, down, unlike, add, mul, eq, ofInt}
 use lib.Ieee.Fits.{down-pos}
 use lib.Ieee.Exact.{HasValue}
-use borrow.Author.Tests.{ltb-true, le-leb, leb-true, ne-eqb}
+use borrow.Author.Tests.{ltb-true, le-leb, ne-eqb}
 use Rattle.ranged1d.specs.declared.Limit.{Limit}
 use Rattle.ranged1d.specs.Admitted.{pixelAdmitted, limitAdmitted}
 use Rattle.ranged1d.specs.Numbers.{low, high}
@@ -92,9 +92,6 @@ module _ (w : Way) (b : ℕ) (s : Bool) (m : ℕ) (e : ℤ) (l : ℤ) (held : na
       go false h = refl
 
 -- ---- admitted limits are near 0
-pub near : (x : ℤ) → pixelAdmitted x ≡ true → natAbs x ≤ 1_000_000
-near x h = leb-true (natAbs x) 1_000_000 h
-
 pub near-limits : (limit : Limit) → limitAdmitted limit ≡ true → (natAbs (limit .0) ≤ 1_000_000) × (natAbs (limit .1) ≤ 1_000_000)
 near-limits limit h = both-near 1_000_000 (limit .0) (limit .1) h
 

@@ -130,10 +130,7 @@ placed a b v limit h ha hb hv far =
 pub whole-placed : (a b v : ℤ) (limit : Limit) → limitAdmitted limit ≡ true → wholeAdmitted a ≡ true → wholeAdmitted b ≡ true → wholeAdmitted v ≡ true
     → ((a ≡ b → ⊥) → natAbs (v -ℤ a) ≤ 11 * natAbs (b -ℤ a)) → Placed (wholePlace a b v limit)
 whole-placed a b v limit h ha hb hv far =
-    rw (whole-is-real a b v limit, ha, hb, hv) (placed a b v limit h (near a ha) (near b hb) (omega (arith, near v hv)) far)
-  where
-    near : (z : ℤ) → wholeAdmitted z ≡ true → natAbs z ≤ 1_000_000_000
-    near z t = leb-true (natAbs z) 1_000_000_000 t
+    rw (whole-is-real a b v limit, ha, hb, hv) (placed a b v limit h (leb-true _ _ ha) (leb-true _ _ hb) (omega (arith, leb-true (natAbs v) 1_000_000_000 hv)) far)
 
 -- ends that are equal: the place is half of L, whatever the value
 pub placed-level : (a b v : Float) (limit : Limit) → limitAdmitted limit ≡ true → eq a b ≡ true → realPlace a b v limit ≡ given (quotZ (limit .1 -ℤ limit .0) (pos 2))

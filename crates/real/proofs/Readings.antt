@@ -1,9 +1,7 @@
 -- The mirror of a real reading. Assumes nothing.
-use mathlib.Core.Path.{_≡_, refl, sym, ap, _∙_, subst}
+use mathlib.Core.Path.{_≡_, refl, sym, _∙_, subst}
 use mathlib.Core.Logic.{inl, inr}
 use mathlib.Core.Bool.{Bool, true, false, not, cond, _||_, true≢false, and-comm, or-comm}
-use Prim.Native.Nat.{ℕ}
-use lib.Dec.{leb}
 use lib.IntN.{ℤ, negℤ, negℤ-+ℤ, _-ℤ_}
 use lib.Signed.{ltZ, leZ}
 use lib.Ieee.{Float, nan, inf, fin, binary64, neg, add, sub, mul, ofInt, isNan}
@@ -11,7 +9,7 @@ use Rattle.ranged1d.specs.Answer.{given, none, refused, both-given, both-none, 
 use Rattle.ranged1d.specs.Admitted.{pixelAdmitted, limitAdmitted, readingAdmitted}
 use Rattle.ranged1d.specs.declared.Limit.{Limit}
 use Rattle.ranged1d.specs.Numbers.{low, high, same}
-use Rattle.ranged1d.proofs.Whole.{neg-far, neg-le, neg-lt, low-neg, high-neg, same-yes, no-difference}
+use Rattle.ranged1d.proofs.Whole.{within-neg, neg-le, neg-lt, low-neg, high-neg, same-yes, no-difference}
 use Rattle.real.specs.Reading.{outside, offset, valueAt, realReading}
 use Rattle.real.specs.Mirror.{mirrored, Same, Opposite}
 use Rattle.real.proofs.Signs.{Alike, zeros-equal, alike-on, alike-through, turns-alike, add-turns, sub-turns, mul-neg, mul-alike, div-alike, add-left, int-neg, int-alike}
@@ -19,7 +17,7 @@ use Rattle.real.proofs.Exact.{eq-self}
 
 -- ---- what is admitted
 pub pixel-neg : (x : ℤ) → pixelAdmitted (negℤ x) ≡ pixelAdmitted x
-pixel-neg x = ap (λ (n : ℕ). leb n 1_000_000) (neg-far x)
+pixel-neg x = within-neg 1_000_000 x
 
 pub limit-neg : (limit : Limit) → limitAdmitted (mirrored limit) ≡ limitAdmitted limit
 limit-neg limit = rw (pixel-neg (limit .0), pixel-neg (limit .1))

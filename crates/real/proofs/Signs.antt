@@ -100,6 +100,16 @@ pub same-through : {A : Type 0} {x y : Float} (f : Float → A) → ((s t : Bool
 same-through f z (inl e) = ap f e
 same-through f z (inr w) = ap f (w .0 .1) ∙ z (w .0 .0) (w .1 .0) ∙ sym (ap f (w .1 .1))
 
+-- the same of a function of two
+module _ {x' x y' y : Float} where
+  pub alike-both : (f : Float → Float → Float) → ((y : Float) (s t : Bool) → Alike (f (zeroOf s) y) (f (zeroOf t) y)) → ((x : Float) (s t : Bool) → Alike (f x (zeroOf s)) (f x (zeroOf t)))
+      → Alike x' x → Alike y' y → Alike (f x' y') (f x y)
+  alike-both f left right v w = alike-on (alike-through (λ (z : Float). f z y') (left y') v) (alike-through (f x) (right x) w)
+
+  pub same-both : {A : Type 0} (f : Float → Float → A) → ((y : Float) (s t : Bool) → f (zeroOf s) y ≡ f (zeroOf t) y) → ((x : Float) (s t : Bool) → f x (zeroOf s) ≡ f x (zeroOf t))
+      → Alike x' x → Alike y' y → f x' y' ≡ f x y
+  same-both f left right v w = same-through (λ (z : Float). f z y') (left y') v ∙ same-through (f x) (right x) w
+
 pub zero-one : (f : Format) (s : Bool) → round f s 0 1 ≡ zeroOf s
 unfolding round
 zero-one binary32 true = refl
@@ -234,8 +244,7 @@ mul-right (fin u m e) s t =
     let z = mul-zero (m * up e) in zeros (unlike u s) (unlike u t) _ _ (down e * 1) (mul-pos (down-pos e) (omega arith)) z z
 
 pub mul-alike : {x' x y' y : Float} → Alike x' x → Alike y' y → Alike (mul binary64 x' y') (mul binary64 x y)
-mul-alike {x} {y'} v w =
-    alike-on (alike-through (λ (z : Float). mul binary64 z y') (mul-left y') v) (alike-through (mul binary64 x) (mul-right x) w)
+mul-alike v w = alike-both (mul binary64) mul-left mul-right v w
 
 div-left : (y : Float) (s t : Bool) → Alike (div binary64 (zeroOf s) y) (div binary64 (zeroOf t) y)
 unfolding div
@@ -294,7 +303,7 @@ eq-right : (x : Float) (s t : Bool) → eq x (zeroOf s) ≡ eq x (zeroOf t)
 eq-right x s t = eq-even x (zeroOf s) ∙ eq-left x s t ∙ eq-even (zeroOf t) x
 
 pub eq-alike : {x' x y' y : Float} → Alike x' x → Alike y' y → eq x' y' ≡ eq x y
-eq-alike {x} {y'} v w = same-through (λ (z : Float). eq z y') (eq-left y') v ∙ same-through (eq x) (eq-right x) w
+eq-alike v w = same-both eq eq-left eq-right v w
 
 -- ---- whole numbers
 pub int-value : (f : Format) (z : ℤ) → natAbs z ≤ 2 ^ prec f → (s : Bool) × HasValue (ofInt f z) s (natAbs z) 1

@@ -134,17 +134,17 @@ anchored-zero m e h = (
 )
 
 -- x is finite and below C in size
-abbrev pub Below : ℕ → Float → Type 0
-Below C nan = ⊥
-Below C (inf s) = ⊥
-Below C (fin s m e) = m * up e < C * down e
+abbrev pub LessThan : ℕ → Float → Type 0
+LessThan C nan = ⊥
+LessThan C (inf s) = ⊥
+LessThan C (fin s m e) = m * up e < C * down e
 
 -- ±2 ^ k, as a fraction
 pub power : (s : Bool) (k : ℕ) → HasValue (fin s 1 (pos k)) s (2 ^ k) 1
 power s k = (refl, ap (λ (n : ℕ). n * 1) (one-mul (2 ^ k)))
 
 -- what lies between −2 ^ k and 2 ^ k
-pub below-power : (k : ℕ) (x : Float) → lt (fin true 1 (pos k)) x ≡ true → lt x (fin false 1 (pos k)) ≡ true → Below (2 ^ k) x
+pub below-power : (k : ℕ) (x : Float) → lt (fin true 1 (pos k)) x ≡ true → lt x (fin false 1 (pos k)) ≡ true → LessThan (2 ^ k) x
 unfolding lt
 below-power k nan g h = false≢true g
 below-power k (inf true) g h = false≢true g
@@ -153,7 +153,7 @@ below-power k (fin true m e) g h = over true true m e (fin true 1 (pos k)) (2 ^ 
 below-power k (fin false m e) g h = under false true m e (fin false 1 (pos k)) (2 ^ k) (power false k) h
 
 abbrev pub Small : Float → Type 0
-Small x = Below 4503599627370496 x
+Small x = LessThan 4503599627370496 x
 
 pub not-below : (m : ℕ) (e : ℤ) → lt (fin true m e) zeroF ≡ false → m * up e ≡ 0
 unfolding lt

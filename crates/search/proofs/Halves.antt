@@ -7,16 +7,10 @@ use native.Mathlib.Nat.{div-lt-self}
 use native.Mathlib.Omega.{arith}
 use native.Mathlib.Decide.{decLt}
 use lib.ListN.{length, getD}
-use Rattle.search.specs.Steps.{PlaceOf}
+use Rattle.search.specs.Steps.{Encloses, PlaceOf}
 use Rattle.search.proofs.Orders.{Order}
 use Rattle.search.proofs.Settles.{Sorted}
 use Rattle.search.proofs.Lists.{entry-any}
-
-pub record Encloses {A : Type 0} (lt : A → A → Bool) (l : List A) (d t : A) (lo hi : ℕ) : Type 0 where
-  pub order : lo ≤ hi
-  pub within : hi ≤ length l
-  pub before : (k : ℕ) → k < lo → lt (getD l k d) t ≡ true
-  pub from : (k : ℕ) → hi ≤ k → k < length l → lt (getD l k d) t ≡ false
 
 abbrev pub mid : ℕ → ℕ → ℕ
 mid lo hi = lo + (hi - lo) / 2
@@ -47,11 +41,12 @@ module _ {A : Type 0} {lt eq : A → A → Bool} (o : Order A lt eq) (l : List A
         go k h n u false q = q
 
   pub placed : (lo hi : ℕ) → Encloses lt l d t lo hi → hi ≤ lo → PlaceOf lt l d t lo
-  placed lo hi b h = record { within = omega (arith, b .order, b .within, h); before = b .before; from = λ k u m. b .from k (omega (arith, u, h)) m }
+  placed lo hi b h = subst (λ (j : ℕ). Encloses lt l d t lo j) (omega (arith, b .order, h)) b
 
 -- a place in a list does not depend on what stands for no entry
 pub place-any : {A : Type 0} (lt : A → A → Bool) (l : List A) (d d' t : A) (i : ℕ) → PlaceOf lt l d t i → PlaceOf lt l d' t i
 place-any lt l d d' t i p = record {
+  order = p .order;
   within = p .within;
   before = λ k h. subst (λ (z : _). lt z t ≡ true) (entry-any l k d d' (omega (arith, h, p .within))) (p .before k h);
   from = λ k h m. subst (λ (z : _). lt z t ≡ false) (entry-any l k d d' m) (p .from k h m);

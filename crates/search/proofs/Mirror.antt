@@ -15,7 +15,7 @@ use lib.Ieee.{Float, nan, inf, fin, binary64, up, down, below, round, neg, sum, 
 use Rattle.ranged1d.specs.Admitted.{wholeAdmitted}
 use Rattle.ranged1d.proofs.Whole.{neg-le, neg-lt, admitted-neg}
 use Rattle.rounding.proofs.Signs.{neg-neg, lt-neg}
-use Rattle.real.proofs.Signs.{Alike, zeroOf, eq-neg, eq-alike, alike-on, alike-through, same-through, add-left}
+use Rattle.real.proofs.Signs.{Alike, zeroOf, eq-neg, eq-alike, alike-through, add-left, alike-both, same-both}
 use Rattle.search.specs.Search.{wholes, reals}
 use Rattle.search.specs.Lists.{wholeSearch, realSearch}
 use Rattle.search.specs.Mirror.{turned, Mirrored, Each}
@@ -81,10 +81,11 @@ sub-opposite : (x y : Float) → sub binary64 (neg x) (neg y) ≡ sub binary64 y
 unfolding sub
 sub-opposite x y = ap (add binary64 (neg x)) (neg-neg y) ∙ add-comm-float (neg x) y
 
+add-right : (x : Float) (s t : Bool) → Alike (add binary64 x (zeroOf s)) (add binary64 x (zeroOf t))
+add-right x s t = rw (add-comm-float x (zeroOf s), add-comm-float x (zeroOf t)) (add-left x s t)
+
 pub add-alike : {x x' y y' : Float} → Alike x x' → Alike y y' → Alike (add binary64 x y) (add binary64 x' y')
-add-alike {x' = x'} {y = y} {y' = y'} v w =
-    alike-on (alike-through (λ (z : Float). add binary64 z y) (add-left y) v)
-    (alike-through (add binary64 x') (λ s t. subst (λ (z : Float). Alike z (add binary64 x' (zeroOf t))) (add-comm-float (zeroOf s) x') (subst (λ (z : Float). Alike (add binary64 (zeroOf s) x') z) (add-comm-float (zeroOf t) x') (add-left x' s t))) w)
+add-alike v w = alike-both (add binary64) add-left add-right v w
 
 neg-zeros : (s t : Bool) → Alike (neg (zeroOf s)) (neg (zeroOf t))
 unfolding neg
@@ -110,7 +111,7 @@ unfolding neg
 lt-past-zero x s t = sym (lt-neg (zeroOf s) x) ∙ lt-zero (neg x) (not s) (not t) ∙ lt-neg (zeroOf t) x
 
 pub lt-alike : {x' x y' y : Float} → Alike x' x → Alike y' y → lt x' y' ≡ lt x y
-lt-alike {x = x} {y' = y'} v w = same-through (λ (z : Float). lt z y') (lt-zero y') v ∙ same-through (lt x) (lt-past-zero x) w
+lt-alike v w = same-both lt lt-zero lt-past-zero v w
 
 sub-across : {x y : Float} (x' y' : Float) → Across x x' → Across y y' → Alike (sub binary64 x y) (sub binary64 y' x')
 unfolding sub

@@ -11,8 +11,13 @@ risesFirst lt [] = true
 risesFirst lt (x ∷ []) = true
 risesFirst lt (x ∷ (y ∷ ys)) = lt x y
 
+-- lo and hi enclose the target's place: the first lo entries come before the target, those from hi on do not
+pub record Encloses {A : Type 0} (lt : A → A → Bool) (l : List A) (d t : A) (lo hi : ℕ) : Type 0 where
+  pub order : lo ≤ hi
+  pub within : hi ≤ length l
+  pub before : (k : ℕ) → k < lo → lt (getD l k d) t ≡ true
+  pub from : (k : ℕ) → hi ≤ k → k < length l → lt (getD l k d) t ≡ false
+
 -- the first i entries come before the target, the others do not
-pub record PlaceOf {A : Type 0} (lt : A → A → Bool) (l : List A) (d t : A) (i : ℕ) : Type 0 where
-  pub within : i ≤ length l
-  pub before : (k : ℕ) → k < i → lt (getD l k d) t ≡ true
-  pub from : (k : ℕ) → i ≤ k → k < length l → lt (getD l k d) t ≡ false
+abbrev pub PlaceOf : {A : Type 0} → (A → A → Bool) → List A → A → A → ℕ → Type 0
+PlaceOf lt l d t i = Encloses lt l d t i i

@@ -3,7 +3,8 @@ use mathlib.Core.Path.{_≡_, sym, _∙_}
 use mathlib.Core.Bool.{false}
 use borrow.Author.Needs.{needs}
 use Rattle.linspace.specs.List.{whole, against}
-use Rattle.linspace.proofs.WholeRules.{count-away, count-long, count-given}
+use Rattle.linspace.proofs.Rules.{counts-against}
+use Rattle.linspace.proofs.WholeRules.{count-long, count-given}
 use Rattle.linspace.proofs.wholes.counted.Statement.{statement}
 use Rattle.linspace.proofs.wholes.counted.Tie as tie
 
@@ -17,7 +18,7 @@ leads-away-requires : tie.Need-leads-away-requires
 leads-away-requires c κs = search needs
 
 returns : tie.Need-returns
-returns c = let s = c .before .before in count-away (s .args .s .a) (s .args .s .b) (s .args .s .d) (sym (c .before .leads-away .ensures) ∙ c .if1 .taken)
+returns c = let s = c .before .before in counts-against whole (s .args .s .a) (s .args .s .b) (s .args .s .d) (sym (c .before .leads-away .ensures) ∙ c .if1 .taken)
 
 count-requires : tie.Need-count-requires
 count-requires c κs = (c .before .before .pre, onward c)

@@ -1,17 +1,17 @@
 -- `real::RangedCoordf64::unmap` meets its contract. Assumes nothing.
 use borrow.Author.Needs.{needs}
-use borrow.Author.Tests.{not-true, not-false}
+use borrow.Author.Tests.{not-true, not-false, leb-true}
 use mathlib.Core.Path.{_≡_, sym, ap, _∙_}
 use mathlib.Core.Bool.{true, false, and-false}
 use native.Mathlib.Omega.{arith}
-use lib.IntN.{ℤ, _-ℤ_}
+use lib.IntN.{ℤ, natAbs, _-ℤ_}
 use mir.Syntax.{w32}
 use mir.Val.{SFits, toZ, ofZ}
 use mir.Facts.{toZ-ofZ}
 use Rattle.ranged1d.specs.Admitted.{pixelAdmitted, limitAdmitted}
 use Rattle.ranged1d.proofs.Whole.{fits32, minus-far, length-near, same-yes, same-no}
 use Rattle.real.specs.Reading.{outside, realReading}
-use Rattle.real.proofs.Cases.{near, near-limits, inside-admitted}
+use Rattle.real.proofs.Cases.{near-limits, inside-admitted}
 use Rattle.real.proofs.RangedCoordf64.unmap.Statement.{statement}
 use Rattle.real.proofs.RangedCoordf64.unmap.Tie as tie
 
@@ -87,7 +87,7 @@ module _ (c : tie.Else2) where
 
   from-p-fits : SFits w32 (x At -ℤ p At)
   from-p-fits =
-      fits32 (x At -ℤ p At) (omega (arith, minus-far (x At) (p At), near (x At) x-allowed, near-limits (S At .args .limit) (allowed At) .0))
+      fits32 (x At -ℤ p At) (omega (arith, minus-far (x At) (p At), leb-true (natAbs (x At)) 1_000_000 x-allowed, near-limits (S At .args .limit) (allowed At) .0))
 
 returns-4 : tie.Need-returns-4
 unfolding realReading

@@ -8,10 +8,11 @@ use denote.Ref.{now}
 use lib.ListN.{length}
 use lib.Ieee.{lt, nan}
 use Rattle.search.specs.Lists.{toward}
+use Rattle.search.specs.Steps.{Encloses}
 use Rattle.search.proofs.RealOrder.{real-order}
 use Rattle.search.proofs.Orders.{way}
 use Rattle.search.proofs.Lists.{sorted}
-use Rattle.search.proofs.Halves.{Encloses, mid, mid-in, enclosed, above, beneath, placed}
+use Rattle.search.proofs.Halves.{mid, mid-in, enclosed, above, beneath, placed}
 use Rattle.search.proofs.reals.position.Statement.{statement}
 use Rattle.search.proofs.reals.position.Tie as tie
 

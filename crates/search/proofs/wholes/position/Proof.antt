@@ -12,11 +12,11 @@ use mir.Facts.{toZ-ofZ}
 use mir.Syntax.{w32}
 use mir.Val.{toZ, ofZ}
 use Rattle.search.specs.Lists.{toward}
-use Rattle.search.specs.Steps.{PlaceOf}
+use Rattle.search.specs.Steps.{Encloses, PlaceOf}
 use Rattle.search.proofs.WholeOrder.{whole-order}
 use Rattle.search.proofs.Orders.{way}
 use Rattle.search.proofs.Lists.{sorted}
-use Rattle.search.proofs.Halves.{Encloses, mid, mid-in, enclosed, above, beneath, placed}
+use Rattle.search.proofs.Halves.{mid, mid-in, enclosed, above, beneath, placed}
 use Rattle.search.proofs.wholes.position.Statement.{statement}
 use Rattle.search.proofs.wholes.position.Tie as tie
 
