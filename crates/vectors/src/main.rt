@@ -182,67 +182,32 @@ fn total(totals: &[u32], which: usize) -> u32 {
 fn report(name: &[u8], n: u32) {
     io::write_all(STDOUT_FILENO, name);
     io::print_decimal(STDOUT_FILENO, n as u64);
+    io::write_all(STDOUT_FILENO, b"\n");
 }
 
-fn report_steps(totals: &[u32]) {
-    report(b"\nstep_whole_size matched: ", total(totals, 11));
-    report(b"\nstep_whole_from_index matched: ", total(totals, 12));
-    report(b"\nstep_whole_index_of matched: ", total(totals, 13));
-    report(b"\nstep_whole_map matched: ", total(totals, 14));
-    report(b"\nstep_whole_unmap matched: ", total(totals, 15));
-    report(b"\nstep_real_size matched: ", total(totals, 16));
-    report(b"\nstep_real_from_index matched: ", total(totals, 17));
-    report(b"\nstep_real_index_of matched: ", total(totals, 18));
-    report(b"\nstep_real_map matched: ", total(totals, 19));
-    report(b"\nstep_real_unmap matched: ", total(totals, 20));
+fn report_call(name: &[u8], n: u32) {
+    io::write_all(STDOUT_FILENO, name);
+    report(b" matched: ", n);
 }
 
-fn report_segments(totals: &[u32]) {
-    report(b"\nseg_whole_size matched: ", total(totals, 21));
-    report(b"\nseg_whole_from_index matched: ", total(totals, 22));
-    report(b"\nseg_whole_index_of matched: ", total(totals, 23));
-    report(b"\nseg_whole_map matched: ", total(totals, 24));
-    report(b"\nseg_whole_unmap matched: ", total(totals, 25));
-    report(b"\nseg_step_whole_size matched: ", total(totals, 26));
-    report(b"\nseg_step_whole_from_index matched: ", total(totals, 27));
-    report(b"\nseg_step_whole_index_of matched: ", total(totals, 28));
-    report(b"\nseg_step_whole_map matched: ", total(totals, 29));
-    report(b"\nseg_step_whole_unmap matched: ", total(totals, 30));
-    report(b"\nseg_step_real_size matched: ", total(totals, 31));
-    report(b"\nseg_step_real_from_index matched: ", total(totals, 32));
-    report(b"\nseg_step_real_index_of matched: ", total(totals, 33));
-    report(b"\nseg_step_real_map matched: ", total(totals, 34));
-    report(b"\nseg_step_real_unmap matched: ", total(totals, 35));
-}
-
-fn report_lists(totals: &[u32]) {
-    report(b"\nstep_whole_values matched: ", total(totals, 36));
-    report(b"\nstep_whole_key_points matched: ", total(totals, 37));
-    report(b"\nstep_real_values matched: ", total(totals, 38));
-    report(b"\nstep_real_key_points matched: ", total(totals, 39));
-    report(b"\nseg_whole_key_points matched: ", total(totals, 40));
-    report(b"\nseg_step_whole_key_points matched: ", total(totals, 41));
-    report(b"\nseg_step_real_key_points matched: ", total(totals, 42));
+// A line for each call of the text, which has one blank between two of them, in the order of their numbers.
+fn report_calls(names: &[u8], totals: &[u32]) {
+    let mut at = 0;
+    let mut k = 0;
+    while at < names.len() {
+        let end = bytes::scan::find(names, at, names.len(), b' ');
+        report_call(&names[at..end], total(totals, k));
+        k += 1;
+        at = end + 1;
+    }
 }
 
 fn report_all(totals: &[u32]) {
-    report(b"whole_key_points matched: ", total(totals, 0));
-    report(b"\nindex_key_points matched: ", total(totals, 1));
-    report(b"\nwhole_map matched: ", total(totals, 2));
-    report(b"\nreal_map matched: ", total(totals, 3));
-    report(b"\nwhole_size matched: ", total(totals, 4));
-    report(b"\nwhole_index_of matched: ", total(totals, 5));
-    report(b"\nwhole_from_index matched: ", total(totals, 6));
-    report(b"\nwhole_unmap matched: ", total(totals, 7));
-    report(b"\nreal_unmap matched: ", total(totals, 8));
-    report(b"\nsearch_whole matched: ", total(totals, 9));
-    report(b"\nsearch_real matched: ", total(totals, 10));
-    report_steps(totals);
-    report_segments(totals);
-    report_lists(totals);
-    report(b"\nlabel matched: ", total(totals, LABEL));
-    report(b"\nlines that differ: ", total(totals, DIFFERS));
-    io::write_all(STDOUT_FILENO, b"\n");
+    report_calls(
+        b"whole_key_points index_key_points whole_map real_map whole_size whole_index_of whole_from_index whole_unmap real_unmap search_whole search_real step_whole_size step_whole_from_index step_whole_index_of step_whole_map step_whole_unmap step_real_size step_real_from_index step_real_index_of step_real_map step_real_unmap seg_whole_size seg_whole_from_index seg_whole_index_of seg_whole_map seg_whole_unmap seg_step_whole_size seg_step_whole_from_index seg_step_whole_index_of seg_step_whole_map seg_step_whole_unmap seg_step_real_size seg_step_real_from_index seg_step_real_index_of seg_step_real_map seg_step_real_unmap step_whole_values step_whole_key_points step_real_values step_real_key_points seg_whole_key_points seg_step_whole_key_points seg_step_real_key_points label",
+        totals,
+    );
+    report(b"lines that differ: ", total(totals, DIFFERS));
 }
 
 fn lend(space: &mut [u8], numbers: &mut [u64], totals: &mut [u32]) {
