@@ -1,19 +1,22 @@
 -- What a caller may rely on beyond the rule: between the limits the index k is at most n; from p on, with q above p,
--- k · (q − p) ≤ (x − p) · n < (k + 1) · (q − p); and with q below p it is the index of the mirrored pixel and limits. Assumes nothing.
+-- k · (q − p) ≤ (x − p) · n < (k + 1) · (q − p); with q below p it is the index of the mirrored pixel and limits; and it is that of the two
+-- distances without their signs, but 0 where pixel and second limit lie on different sides of the first. Assumes nothing.
 use mathlib.Core.Path.{_≡_, refl, sym, ap, _∙_, subst}
-use mathlib.Core.Bool.{Bool, true, false, cond}
+use mathlib.Core.Bool.{Bool, true, false, cond, true≢false}
 use mathlib.Core.Logic.{_⊎_, ⊎-elim}
 use Prim.Native.Nat.{ℕ, zero, suc, _+_, _*_, _/_, _≤_, _<_}
-use native.Mathlib.Nat.{div-mul-le-self, lt-div-mul-add, div-le-of-le-mul, mul-le-mul-right, suc-mul}
+use native.Mathlib.Nat.{div-mul-le-self, lt-div-mul-add, div-le-of-le-mul, mul-le-mul-right, suc-mul, zero-div, zero-mul}
 use native.Mathlib.Omega.{arith}
+use borrow.Author.Tests.{le-ltb}
 use lib.Dec.{T}
 use lib.Ieee.Bits.{is-true}
 use lib.IntN.{ℤ, pos, negsuc, negℤ, natAbs, _+ℤ_, _-ℤ_, _*ℤ_, +ℤ-idl, +ℤ-assoc, +ℤ-invl, negℤ-negℤ}
-use lib.Signed.{nonNeg, quotZ, _≤ℤ_, _<ℤ_, leZ-yes, ltZ-yes, <ℤ-irrefl}
+use lib.Signed.{nonNeg, ltZ, quotZ, _≤ℤ_, _<ℤ_, leZ-yes, ltZ-yes, <ℤ-irrefl}
 use mir.Facts.{yes-leb, yes-ltb}
+use Rattle.ranged1d.specs.Answer.{given}
 use Rattle.ranged1d.specs.Numbers.{raised}
 use Rattle.ranged1d.proofs.Whole.{turned-far, quotient-size, times-far, neg-times, ordered, lt-not, other-way, no-difference, raised-far}
-use Rattle.discrete.specs.Index.{floorDiv, isZero, indexBy}
+use Rattle.discrete.specs.Index.{floorDiv, isZero, noIndex, indexBy, indexFor}
 use Rattle.discrete.proofs.Floor.{floor-negated, cut-raised}
 
 -- ---- at most n
@@ -56,6 +59,42 @@ index-negated d (pos zero) n = refl
 index-negated d (pos (suc b)) n =
     ap raised (floor-negated (negℤ d *ℤ pos n) b ∙ ap (λ (z : ℤ). floorDiv z (pos (suc b))) (ap negℤ (neg-times d n) ∙ negℤ-negℤ (d *ℤ pos n)))
 index-negated d (negsuc b) n = ap raised (ap (λ (z : ℤ). floorDiv z (pos (suc b))) (neg-times d n) ∙ sym (floor-negated (d *ℤ pos n) b))
+
+-- ---- by the sizes of the distances, where they lead the same way
+pub index-sizes : (d w : ℤ) (n : ℕ) → ltZ d (pos 0) ≡ ltZ w (pos 0) → indexFor d w n ≡ indexFor (pos (natAbs d)) (pos (natAbs w)) n
+unfolding indexFor noIndex
+index-sizes (pos d) (pos w) n e = refl
+index-sizes (pos d) (negsuc w) n e = absurd (true≢false (sym e ∙ le-ltb d 0 (omega arith)))
+index-sizes (negsuc d) (pos w) n e = absurd (true≢false (e ∙ le-ltb w 0 (omega arith)))
+index-sizes (negsuc d) (negsuc w) n e = ap given (sym (index-negated (negsuc d) (negsuc w) n))
+
+divided : (d w n : ℕ) → 0 < w → indexFor (pos d) (pos w) n ≡ given (d * n / w)
+unfolding indexFor noIndex indexBy floorDiv
+divided d zero n h = absurd (omega (arith, h))
+divided d (suc w) n h = refl
+
+pub index-divided : (d w : ℤ) (n : ℕ) → ltZ d (pos 0) ≡ ltZ w (pos 0) → 0 < natAbs w → indexFor d w n ≡ given (natAbs d * n / natAbs w)
+index-divided d w n e h = index-sizes d w n e ∙ divided (natAbs d) (natAbs w) n h
+
+-- where they do not, and on the first limit itself
+below : (k w : ℕ) → raised (floorDiv (negℤ (pos k)) (pos w)) ≡ 0
+unfolding floorDiv
+below zero w = zero-div w
+below (suc k) w = refl
+
+pub index-before : (m w n : ℕ) → indexFor (negℤ (pos m)) (pos w) n ≡ given 0
+unfolding indexFor noIndex indexBy floorDiv
+index-before zero zero n = refl
+index-before zero (suc w) n = ap given (ap (λ (k : ℕ). k / suc w) (zero-mul n) ∙ zero-div (suc w))
+index-before (suc m) zero n = refl
+index-before (suc m) (suc w) n = ap given (below (suc m * n) (suc w))
+
+pub index-behind : (d w : ℤ) (n : ℕ) → (ltZ d (pos 0) ≡ ltZ w (pos 0) → ⊥) → indexFor d w n ≡ given 0
+unfolding indexFor noIndex
+index-behind (pos d) (pos w) n e = absurd (e (le-ltb d 0 (omega arith) ∙ sym (le-ltb w 0 (omega arith))))
+index-behind (pos d) (negsuc w) n e = ap given (sym (index-negated (pos d) (negsuc w) n)) ∙ index-before d (suc w) n
+index-behind (negsuc d) (pos w) n e = index-before (suc d) w n
+index-behind (negsuc d) (negsuc w) n e = absurd (e refl)
 
 -- ---- the exact quotient
 exact : (d w : ℤ) (n : ℕ) → T (nonNeg d) → T (nonNeg w) → (w ≡ pos 0 → ⊥) → ((pos (indexBy d w n) *ℤ w) ≤ℤ (d *ℤ pos n)) × ((d *ℤ pos n) <ℤ (pos (suc (indexBy d w n)) *ℤ w))

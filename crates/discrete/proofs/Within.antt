@@ -5,20 +5,18 @@ use Prim.Native.Nat.{ℕ, zero, suc, _≤_}
 use native.Mathlib.Omega.{arith}
 use lib.Dec.{ltb}
 use lib.Pow.{pow-pos}
-use lib.IntN.{ℤ, pos, negsuc, natAbs, _-ℤ_, _*ℤ_}
-use lib.Signed.{ltZ, quotZ}
+use lib.IntN.{ℤ, pos, negsuc, natAbs, _-ℤ_}
+use lib.Signed.{ltZ}
 use borrow.Author.Tests.{leb-true}
 use mir.Facts.{toZ-ofZ, toZ-pos}
 use mir.Syntax.{Width}
 use mir.Val.{SFits, hbits, toZ, ofZ}
 use Rattle.ranged1d.specs.Answer.{given, none}
 use Rattle.ranged1d.specs.Admitted.{pixelAdmitted, limitAdmitted, readingAdmitted}
-use Rattle.ranged1d.specs.Numbers.{raised}
 use Rattle.ranged1d.specs.declared.Limit.{Limit}
 use Rattle.ranged1d.proofs.Bools.{both-true}
-use Rattle.ranged1d.proofs.Whole.{minus-far, both-near, length-near, raised-below, raised-above}
+use Rattle.ranged1d.proofs.Whole.{minus-far, both-near, length-near}
 use Rattle.discrete.specs.Index.{isZero, noIndex, indexBy, indexFor}
-use Rattle.discrete.proofs.Floor.{cut-raised}
 
 -- ---- a test for zero, as the code makes it
 pub zero-is : (z : ℤ) → z ≡ pos 0 → isZero z ≡ true
@@ -41,19 +39,6 @@ module _ (d w : ℤ) (n : ℕ) where
   pub at-limits : isZero w ≡ true → (ltZ (pos 0) d && ltb 0 n) ≡ false → indexFor d w n ≡ given 0
   unfolding noIndex indexBy indexFor
   at-limits e h = rw (e, h)
-
-  abbrev pub quotient : ℤ
-  quotient = quotZ (d *ℤ pos n) w
-
-  divided : isZero w ≡ false → indexFor d w n ≡ given (raised quotient)
-  unfolding noIndex indexBy indexFor
-  divided e = rw (e, cut-raised (d *ℤ pos n) w)
-
-  pub below-zero : isZero w ≡ false → ltZ quotient (pos 0) ≡ true → indexFor d w n ≡ given 0
-  below-zero e h = divided e ∙ ap given (raised-below quotient h)
-
-  pub from-zero : isZero w ≡ false → ltZ quotient (pos 0) ≡ false → indexFor d w n ≡ given (natAbs quotient)
-  from-zero e h = divided e ∙ ap given (raised-above quotient h)
 
 -- ---- how far a pixel and the second limit lie from the first
 pub distances : (x : ℤ) (l : Limit) → readingAdmitted x l ≡ true → (natAbs (x -ℤ l .0) ≤ 2000000) × (natAbs (l .1 -ℤ l .0) ≤ 2000000)

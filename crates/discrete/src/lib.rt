@@ -12,8 +12,9 @@ pub enum Index {
     Refused(Refusal),
 }
 
-// The index, by how far the pixel and the second limit lie from the first. The product is at most 2,000,000 · (2^32 − 1), below
-// 2^53. A quotient below zero is read as 0, so that it may be cut toward zero, as `/` does, and not rounded down.
+// The index, by how far the pixel and the second limit lie from the first. A quotient below zero is read as 0, so that a pixel on the
+// other side of the first limit needs no division; of the others the sizes are divided. The product is at most 2,000,000 · (2^32 − 1), below
+// 2^53. Of numbers with signs the compiler would look whether 32 bits hold them, and guess wrongly on every second film that runs downward.
 // The source divides in f64 and finds the same index: the product is exact, and a quotient that is no whole number lies at least
 // 1 ÷ |w| below the next one, while rounding moves it by at most its 2^53rd part, which is less.
 fn index_within(d: i32, w: i32, n: u32) -> Index
@@ -29,11 +30,12 @@ fn index_within(d: i32, w: i32, n: u32) -> Index
         }
         return Index::At(0);
     }
-    let k = (d as i64) * (n as i64) / (w as i64);
-    if k < 0 {
+    if (d < 0) != (w < 0) {
         return Index::At(0);
     }
-    Index::At(k as u64)
+    let far = ranged1d::unsigned_abs(d) as u64;
+    let length = ranged1d::unsigned_abs(w) as u64;
+    Index::At(far * (n as u64) / length)
 }
 
 // The index of pixel x on an axis with n values. n is a u32: the largest count of an axis is 2,000,000,001, and with any u32 the

@@ -1,21 +1,19 @@
 -- The share of a list's entries that a pixel is read past: told in 2^40ths, rounded up, it names the same entry as 01's quotient, since a list is short.
 -- Assumes nothing.
 use mathlib.Core.Path.{_≡_, refl, sym, ap, _∙_}
-use mathlib.Core.Bool.{true≢false}
 use mathlib.Core.List.{List, [], _∷_}
 use Prim.Native.Nat.{ℕ, zero, suc, _+_, _-_, _*_, _/_, _%_, _≤_, _<_}
-use native.Mathlib.Nat.{mul-add, add-mul, mul-assoc, mul-comm, mul-right-comm, mul-le-mul, mul-le-mul-right, le-of-mul-le-mul-right, lt-of-mul-lt-mul-right, div-add-mod', mod-lt, div-eq-of-lt-le, le-div-iff-mul-le, div-lt-iff-lt-mul, zero-div, zero-mul, mul-zero, mul-div-cancel, one-mul}
+use native.Mathlib.Nat.{mul-add, add-mul, mul-assoc, mul-comm, mul-right-comm, mul-le-mul, mul-le-mul-right, le-of-mul-le-mul-right, lt-of-mul-lt-mul-right, div-add-mod', mod-lt, div-eq-of-lt-le, le-div-iff-mul-le, div-lt-iff-lt-mul, zero-div, mul-zero, mul-div-cancel, one-mul}
 use native.Mathlib.Omega.{arith}
-use borrow.Author.Tests.{lt-ltb, le-ltb}
-use lib.IntN.{ℤ, pos, negsuc, natAbs, negℤ}
+use borrow.Author.Tests.{lt-ltb}
+use lib.IntN.{ℤ, pos, natAbs}
 use lib.ListN.{length}
 use lib.Signed.{ltZ}
 use lib.Ieee.{Float}
 use Rattle.ranged1d.specs.Answer.{given, none}
-use Rattle.ranged1d.specs.Numbers.{raised}
 use Rattle.discrete.specs.Index.{floorDiv, noIndex, indexBy, indexFor}
 use Rattle.discrete.proofs.Within.{at-limits, past-limits}
-use Rattle.discrete.proofs.Theorems.{index-negated}
+use Rattle.discrete.proofs.Theorems.{index-sizes, index-before, index-behind}
 use Rattle.linspace.specs.Calls.{nth, nthOf}
 use Rattle.linspace.specs.RealSteps.{all, Shares}
 use Rattle.linspace.proofs.Walks.{nth-past}
@@ -64,27 +62,15 @@ module _ (far whole n : ℕ) (W : 0 < whole) (few : whole ≤ 2000000) (short : 
       omega (arith, spread, rest, little, add-mul (far * n % whole) 1 all, one-mul all, mul-comm whole all, ap (λ (x : ℕ). x * whole) (add-mul q 1 all), add-mul (q * all) (1 * all) whole, ap (λ (x : ℕ). x * whole) (one-mul all)) in
       div-eq-of-lt-le all (le-of-mul-le-mul-right low W) (lt-of-mul-lt-mul-right whole high)
 
--- ---- the share of a pixel on the first limit or behind it
-below : (k w : ℕ) → raised (floorDiv (negℤ (pos k)) (pos w)) ≡ 0
-unfolding floorDiv
-below zero w = zero-div w
-below (suc k) w = refl
-
-back : (m w n : ℕ) → indexFor (negℤ (pos m)) (pos w) n ≡ given 0
-unfolding indexFor noIndex indexBy floorDiv
-back zero zero n = refl
-back zero (suc w) n = ap given (ap (λ (k : ℕ). k / suc w) (zero-mul n) ∙ zero-div (suc w))
-back (suc m) zero n = refl
-back (suc m) (suc w) n = ap given (below (suc m * n) (suc w))
-
-share-back : (m w : ℕ) → Shares (negℤ (pos m)) (pos w) 0
-share-back m w = record { within = omega arith; read = λ l s. ap (nthOf l) (back m w (length l)) ∙ nought l }
+-- ---- the share of a pixel that is read as the first entry, as on the first limit
+share-first : (d w : ℤ) → ((n : ℕ) → indexFor d w n ≡ given 0) → Shares d w 0
+share-first d w first = record { within = omega arith; read = λ l s. ap (nthOf l) (first (length l)) ∙ nought l }
   where
     nought : (l : List Float) → nth l 0 ≡ nth l (length l * 0 / all)
     nought l = ap (nth l) (sym (ap (λ (x : ℕ). x / all) (mul-zero (length l)) ∙ zero-div all))
 
 pub share-on : (whole : ℕ) → Shares (pos 0) (pos whole) 0
-share-on = share-back 0
+share-on whole = share-first (pos 0) (pos whole) (index-before 0 whole)
 
 -- of one past the second limit; of one between both
 module _ (far : ℕ) where
@@ -119,19 +105,9 @@ module _ (far : ℕ) where
     read = λ l short. ap (nth l) (sym (share-exact far (suc w) (length l) (omega arith) few short));
   }
 
--- ---- the share of distances: the film turned round; on the same side of the first limit, that of their sizes; else as on it
-share-turned : {r : ℕ} (d : ℤ) (w : ℕ) → Shares (negℤ d) (pos (suc w)) r → Shares d (negsuc w) r
-unfolding indexFor noIndex
-share-turned d w s = record { within = s .within; read = λ l h. ap (nth l) (sym (index-negated d (negsuc w) (length l))) ∙ s .read l h }
-
+-- ---- the share of distances: on the same side of the first limit, that of their sizes; else as on it
 pub share-sizes : {r : ℕ} (d w : ℤ) → ltZ d (pos 0) ≡ ltZ w (pos 0) → Shares (pos (natAbs d)) (pos (natAbs w)) r → Shares d w r
-share-sizes (pos d) (pos w) e s = s
-share-sizes (pos d) (negsuc w) e s = absurd (true≢false (sym e ∙ le-ltb d 0 (omega arith)))
-share-sizes (negsuc d) (pos w) e s = absurd (true≢false (e ∙ le-ltb w 0 (omega arith)))
-share-sizes (negsuc d) (negsuc w) e s = share-turned (negsuc d) w s
+share-sizes d w e s = record { within = s .within; read = λ l h. ap (nthOf l) (index-sizes d w (length l) e) ∙ s .read l h }
 
 pub share-behind : (d w : ℤ) → (ltZ d (pos 0) ≡ ltZ w (pos 0) → ⊥) → Shares d w 0
-share-behind (pos d) (pos w) e = absurd (e (le-ltb d 0 (omega arith) ∙ sym (le-ltb w 0 (omega arith))))
-share-behind (pos d) (negsuc w) e = share-turned (pos d) w (share-back d (suc w))
-share-behind (negsuc d) (pos w) e = share-back (suc d) w
-share-behind (negsuc d) (negsuc w) e = absurd (e refl)
+share-behind d w e = share-first d w (λ n. index-behind d w n e)

@@ -1,6 +1,7 @@
--- What a test that is put together of two says of each, and what it is by one of them; what holds by either value of a test. Assumes nothing.
+-- What a test that is put together of two says of each, and what it is by one of them; what holds by either value of a test; whether two tests
+-- differ. Assumes nothing.
 use mathlib.Core.Path.{_≡_, refl, sym}
-use mathlib.Core.Bool.{Bool, true, false, cond, true≢false, _&&_, _||_, or-true}
+use mathlib.Core.Bool.{Bool, true, false, cond, not, Bool·beq, true≢false, _&&_, _||_, or-true}
 
 pub both-true : (x y : Bool) → (x && y) ≡ true → (x ≡ true) × (y ≡ true)
 both-true true y h = (refl, h)
@@ -22,3 +23,16 @@ chosen P false p q = q
 pub cond-same : {A : Type 0} (c : Bool) {x y : A} → x ≡ y → cond c x y ≡ y
 cond-same true e = e
 cond-same false e = refl
+
+-- a test whether two tests differ
+pub apart : (x y : Bool) → not (Bool·beq x y) ≡ true → x ≡ y → ⊥
+apart true true h e = true≢false (sym h)
+apart true false h e = true≢false e
+apart false true h e = true≢false (sym e)
+apart false false h e = true≢false (sym h)
+
+pub alike : (x y : Bool) → not (Bool·beq x y) ≡ false → x ≡ y
+alike true true h = refl
+alike true false h = absurd (true≢false h)
+alike false true h = absurd (true≢false h)
+alike false false h = refl

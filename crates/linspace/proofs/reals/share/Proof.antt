@@ -1,27 +1,14 @@
 -- `linspace::reals::share` meets its contract. Assumes nothing.
-use mathlib.Core.Path.{_≡_, refl, sym, subst}
-use mathlib.Core.Bool.{Bool, true, false, not, Bool·beq, true≢false}
+use mathlib.Core.Path.{_≡_, subst}
 use Prim.Native.Nat.{ℕ}
 use borrow.Author.Needs.{needs}
 use lib.IntN.{pos, natAbs}
 use mir.Facts.{toZ-ofZ}
+use Rattle.ranged1d.proofs.Bools.{apart, alike}
 use Rattle.linspace.specs.RealSteps.{Shares}
 use Rattle.linspace.proofs.Shares.{share-sizes, share-behind}
 use Rattle.linspace.proofs.reals.share.Statement.{statement}
 use Rattle.linspace.proofs.reals.share.Tie as tie
-
--- a test whether two tests differ
-apart : (x y : Bool) → not (Bool·beq x y) ≡ true → x ≡ y → ⊥
-apart true true h e = true≢false (sym h)
-apart true false h e = true≢false e
-apart false true h e = true≢false (sym e)
-apart false false h e = true≢false (sym h)
-
-alike : (x y : Bool) → not (Bool·beq x y) ≡ false → x ≡ y
-alike true true h = refl
-alike true false h = absurd (true≢false h)
-alike false true h = absurd (true≢false h)
-alike false false h = refl
 
 -- the sizes that `part_of` is asked of
 module _ (c : tie.After-unsigned-abs2) where
