@@ -6,9 +6,8 @@ use Prim.Native.Nat.{ℕ}
 use lib.IntN.{ℤ, pos, negℤ}
 use lib.ListN.{length}
 use lib.Ieee.{Float, neg}
-use borrow.Author.Tests.{not-false}
 use Rattle.ranged1d.specs.Answer.{Answer, given, Reason, lowest, BothLong}
-use Rattle.ranged1d.specs.Admitted.{wholeAdmitted, limitAdmitted}
+use Rattle.ranged1d.specs.Admitted.{wholeAdmitted}
 use Rattle.ranged1d.specs.declared.Limit.{Limit}
 use Rattle.real.specs.Mirror as film
 use Rattle.real.proofs.Mirror as places
@@ -43,7 +42,7 @@ module _ (a b : ℤ) (limit : Limit) (m : ℕ) where
   unfolding rulerWrite hasRuler
   ruled old e =
       let tests = accepted-tests numbers (writeReasons a b limit m old) e in
-      rw (not-false (wholeAdmitted a && wholeAdmitted b) (tests .0), not-false (limitAdmitted limit) (tests .1 .0), tests .1 .1 .0)
+      rw (tests .0, tests .1 .0, tests .1 .1 .0)
 
   bytes-written : (old : List ℕ) → verdict (rulerWrite a b limit m old .0) ≡ accepted → wrote (λ x. x .0) (rulerWrite a b limit m old) ≡ rulerBytes a b limit m
   unfolding rulerWrite

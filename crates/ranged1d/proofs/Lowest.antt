@@ -2,14 +2,17 @@
 -- than that reason's; if none does, the answer. Then what a given answer and a refusal say of the reasons, and of more of them.
 -- Assumes nothing.
 use mathlib.Core.Path.{_≡_, refl, sym, ap, _∙_, subst}
-use mathlib.Core.Bool.{Bool, true, false, cond}
+use mathlib.Core.Bool.{Bool, true, false, cond, not}
 use mathlib.Core.List.{List, [], _∷_, _++_, List·Memᴰ, List·Memᴰ·head, List·Memᴰ·tail, List·Memᴰ·cases-cons, List·Memᴰ·not-nil}
 use mathlib.Core.Logic.{_⊎_, inl, inr}
 use Prim.Native.Nat.{ℕ, _≤_, _<_}
 use native.Mathlib.Omega.{arith}
+use borrow.Author.Tests.{not-true}
 use lib.Dec.{T, ltb, ltb→lt}
 use mir.Facts.{and-yes}
 use Rattle.ranged1d.specs.Answer.{Answer, given, refused, Reason, lowest, rising, andThen}
+use Rattle.ranged1d.specs.Numbers.{every}
+use Rattle.ranged1d.proofs.Bools.{both-true}
 use Rattle.ranged1d.proofs.Answers.{not-both, one-refusal}
 
 above : (k : ℕ) (rs : List Reason) → T (rising k rs) → (r : Reason) → List·Memᴰ r rs → k < r .number
@@ -36,10 +39,14 @@ module _ {A : Type 0} (a : Answer A) where
   none-applies [] h = refl
   none-applies (x ∷ rs) h = rw (h x (List·Memᴰ·head refl)) (none-applies rs (λ r m. h r (List·Memᴰ·tail m)))
 
--- no reason of the list applies
+-- no reason of the list applies, and that as a test
 abbrev pub NoneOf : List Reason → Type 0
 NoneOf [] = Unit {0}
 NoneOf (r ∷ rs) = (r .applies ≡ false) × NoneOf rs
+
+pub none-of : (rs : List Reason) → every (λ r. not (r .applies)) rs ≡ true → NoneOf rs
+none-of [] h = tt
+none-of (r ∷ rs) h = let both = both-true (not (r .applies)) (every (λ r. not (r .applies)) rs) h in (not-true (r .applies) (both .0), none-of rs (both .1))
 
 module _ {A : Type 0} where
   -- where an answer is given no reason applies, and it is the one behind the reasons

@@ -101,7 +101,7 @@ module _ (a b : ℤ) (limit : Limit) (m : ℕ) where
 
   ruler-same : hasRuler (negℤ a) (negℤ b) −limit m ≡ hasRuler a b limit m
   unfolding hasRuler
-  ruler-same = ap₂ (λ (x y : Bool). x && y) ends-same (ap₂ (λ (x y : Bool). x && not y) (limit-neg limit) (marks.mirror a b m .same-refusal))
+  ruler-same = rw (ends-same, limit-neg limit, marks.mirror a b m .same-refusal)
 
   verdict-same : (old old′ : List ℕ) → BothLong (length (rulerBytes a b limit m)) old (length (rulerBytes (negℤ a) (negℤ b) −limit m)) old′ → verdict (rulerWrite (negℤ a) (negℤ b) −limit m old′ .0) ≡ verdict (rulerWrite a b limit m old .0)
   unfolding rulerWrite

@@ -1,15 +1,15 @@
 -- Every mark of an axis that has a ruler has a place, the one in its record, so that the writer never meets 5. Assumes nothing.
 use mathlib.Core.Path.{_≡_, refl, sym, ap, _∙_}
-use mathlib.Core.Bool.{true, false, not, _&&_}
+use mathlib.Core.Bool.{true, false, _&&_}
 use mathlib.Core.List.{List}
 use Prim.Native.Nat.{ℕ, _<_}
 use lib.IntN.{ℤ, pos}
 use lib.ListN.{length, getD}
-use borrow.Author.Tests.{not-true}
+use borrow.Author.Tests.{not-false}
 use Rattle.ranged1d.specs.Answer.{Answer, given}
 use Rattle.ranged1d.specs.Admitted.{wholeAdmitted, limitAdmitted}
 use Rattle.ranged1d.specs.declared.Limit.{Limit}
-use Rattle.ranged1d.proofs.Bools.{both-true}
+use Rattle.ranged1d.proofs.Lowest.{NoneOf, none-of}
 use Rattle.numeric.specs.Marks.{marks, noStep}
 use Rattle.numeric.specs.Calls.{wholePlan, planOf, element}
 use Rattle.numeric.proofs.Lists.{entry}
@@ -17,22 +17,21 @@ use Rattle.numeric.proofs.Plans.{planned-good}
 use Rattle.numeric.proofs.Places.{mark-placed}
 use Rattle.real.specs.Place.{wholePlace}
 use Rattle.ruler.specs.Place.{placeIn, placeOf}
-use Rattle.ruler.specs.Rule.{hasRuler}
+use Rattle.ruler.specs.Rule.{noRuler, hasRuler}
 
 module _ (a b : ℤ) (limit : Limit) (m : ℕ) (h : hasRuler a b limit m ≡ true) where
-  pub ends : (wholeAdmitted a && wholeAdmitted b) ≡ true
+  stopped-by-none : NoneOf (noRuler a b limit m)
   unfolding hasRuler
-  ends = both-true (wholeAdmitted a && wholeAdmitted b) (limitAdmitted limit && not (noStep a b m)) h .0
+  stopped-by-none = none-of (noRuler a b limit m) h
 
-  others : (limitAdmitted limit ≡ true) × (not (noStep a b m) ≡ true)
-  unfolding hasRuler
-  others = both-true (limitAdmitted limit) (not (noStep a b m)) (both-true (wholeAdmitted a && wholeAdmitted b) (limitAdmitted limit && not (noStep a b m)) h .1)
+  pub ends : (wholeAdmitted a && wholeAdmitted b) ≡ true
+  ends = not-false (wholeAdmitted a && wholeAdmitted b) (stopped-by-none .0)
 
   pub film : limitAdmitted limit ≡ true
-  film = others .0
+  film = not-false (limitAdmitted limit) (stopped-by-none .1 .0)
 
   pub served : noStep a b m ≡ false
-  served = not-true (noStep a b m) (others .1)
+  served = stopped-by-none .1 .1 .0
 
   plan : wholePlan a b m ≡ given (planOf a b m)
   unfolding wholePlan
