@@ -103,10 +103,13 @@ module _ {A : Type 0} (kind : Kind A) (a b d : A) where
   abbrev pub stepMarks : ℕ → List A
   stepMarks m = marksOf (kind .nil) (stepped kind a b d) m
 
+  abbrev pub unserved : ℕ → Bool
+  unserved m = eqb m 0 && hasEntries (stepped kind a b d)
+
   abbrev pub stepKeyPointsReasons : ℕ → List A → List Reason
   stepKeyPointsReasons m old =
       1 when not (axisAdmitted kind a b d)
-      ∷ 3 when (eqb m 0 && hasEntries (stepped kind a b d))
+      ∷ 3 when unserved m
       ∷ unlisted ++ (13 when ltb (length old) (length (stepMarks m)) ∷ [])
 
   unfoldable pub stepKeyPoints : ℕ → List A → Answer ℕ × List A

@@ -8,7 +8,7 @@ use lib.IntN.{ℤ, pos, natAbs, _+ℤ_, _*ℤ_}
 use lib.ListN.{length}
 use Rattle.ranged1d.specs.Answer.{Answer, given, none, refused, Reason, _when_, lowest, written}
 use Rattle.ranged1d.specs.Refusals.{numberOf}
-use Rattle.ranged1d.specs.Admitted.{wholeAdmitted, indexAdmitted}
+use Rattle.ranged1d.specs.Admitted.{endsAdmitted, indexAdmitted}
 use Rattle.ranged1d.specs.Numbers.{isI32}
 use Rattle.numeric.specs.declared.KeyPoints.{KeyPoints}
 use Rattle.numeric.specs.declared.Marks.{Marks}
@@ -52,7 +52,7 @@ keyPointsBy admitted step a b m new old = written (lowest (keyPointsReasons admi
 
 -- ---- RangedCoordi32
 unfoldable pub wholeKeyPoints : ℤ → ℤ → ℕ → List ℤ → Answer (ℤ × ℕ) × List ℤ
-wholeKeyPoints a b m old = keyPointsBy (wholeAdmitted a && wholeAdmitted b) (pos (stepOf a b m)) a b m (marks a b m) old
+wholeKeyPoints a b m old = keyPointsBy (endsAdmitted a b) (pos (stepOf a b m)) a b m (marks a b m) old
 
 -- `plan`: the same marks unwritten: where the first of them lies, the step to the next, and how many they are. Where there is no
 -- mark, `first` is the multiple that would be the first.
@@ -64,7 +64,7 @@ planOf a b m = record {
 }
 
 unfoldable pub wholePlan : ℤ → ℤ → ℕ → Answer KeyPoints
-wholePlan a b m = lowest (planReasons (wholeAdmitted a && wholeAdmitted b) a b m) (given (planOf a b m))
+wholePlan a b m = lowest (planReasons (endsAdmitted a b) a b m) (given (planOf a b m))
 
 -- ---- KeyPoints
 -- `get`: mark i, counted from 0; none from the count on. A value of the struct that no plan gives may lead past the range of an i32:

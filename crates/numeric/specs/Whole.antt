@@ -10,6 +10,7 @@ use lib.Signed.{ltZ}
 use Rattle.ranged1d.specs.Answer.{Answer, given, none, refused, _when_, lowest, Reason}
 use Rattle.ranged1d.specs.Refusals.{numberOf}
 use Rattle.ranged1d.specs.Admitted.{wholeAdmitted, readingAdmitted}
+pub use Rattle.ranged1d.specs.Admitted.{endsAdmitted}
 use Rattle.ranged1d.specs.declared.Limit.{Limit}
 use Rattle.discrete.specs.Index.{noIndex, indexBy}
 use Rattle.numeric.specs.declared.whole.Count.{Count}
@@ -27,9 +28,6 @@ tellValue (value-is.At v) = given v
 tellValue value-is.Nothing = none
 tellValue (value-is.Refused r) = refused (numberOf r)
 
-abbrev pub endsAdmitted : ℤ → ℤ → Bool
-endsAdmitted a b = wholeAdmitted a && wholeAdmitted b
-
 -- ---- `size`: an axis that descends has no value; any other has its two ends and all between them
 unfoldable pub countOf : ℤ → ℤ → ℕ
 countOf a b = cond (ltZ b a) 0 (natAbs (b -ℤ a) + 1)
@@ -38,8 +36,11 @@ unfoldable pub wholeSize : ℤ → ℤ → Answer ℕ
 wholeSize a b = lowest (1 when not (endsAdmitted a b) ∷ []) (given (countOf a b))
 
 -- ---- `index_of`: how far v lies past a, also where that is past b; none before a
+abbrev pub indexFrom : ℤ → ℤ → Answer ℕ
+indexFrom a v = cond (ltZ v a) none (given (natAbs (v -ℤ a)))
+
 unfoldable pub wholeIndexOf : ℤ → ℤ → ℤ → Answer ℕ
-wholeIndexOf a b v = lowest (1 when not (endsAdmitted a b && wholeAdmitted v) ∷ []) (cond (ltZ v a) none (given (natAbs (v -ℤ a))))
+wholeIndexOf a b v = lowest (1 when not (endsAdmitted a b && wholeAdmitted v) ∷ []) (indexFrom a v)
 
 -- ---- `from_index`: what lies k past a, also where that is past b. None where k is above the largest i32; 10 where k is not and what
 -- lies there is.

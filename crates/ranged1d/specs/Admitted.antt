@@ -9,6 +9,9 @@ use Rattle.ranged1d.specs.declared.Limit.{Limit}
 abbrev pub wholeAdmitted : ℤ → Bool
 wholeAdmitted z = leb (natAbs z) 1_000_000_000
 
+abbrev pub endsAdmitted : ℤ → ℤ → Bool
+endsAdmitted a b = wholeAdmitted a && wholeAdmitted b
+
 -- ends of an index axis, which has nothing below zero: the same bound
 abbrev pub indexAdmitted : ℕ → Bool
 indexAdmitted k = leb k 1_000_000_000

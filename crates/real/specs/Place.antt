@@ -8,7 +8,7 @@ use lib.Ieee as Ieee
 use lib.Ieee.{Float, inf, binary64}
 use Rattle.ranged1d.specs.Answer.{Answer, given, refused, _when_, lowest, Reason}
 use Rattle.ranged1d.specs.Refusals.{numberOf}
-use Rattle.ranged1d.specs.Admitted.{wholeAdmitted, limitAdmitted}
+use Rattle.ranged1d.specs.Admitted.{wholeAdmitted, endsAdmitted, limitAdmitted}
 use Rattle.ranged1d.specs.declared.Limit.{Limit}
 use Rattle.rounding.specs.Within.{floorWithin, ceilWithin}
 use Rattle.rounding.specs.declared.Whole.{Whole}
@@ -99,7 +99,7 @@ wholeSpot a b v limit = spot (Ieee.ofInt binary64 a) (Ieee.ofInt binary64 b) (Ie
 -- a place on a whole axis: before 2 and 5, 1 where an end or the value is not admitted
 abbrev pub wholePlaceReasons : ℤ → ℤ → ℤ → Limit → List Reason
 wholePlaceReasons a b v limit =
-    1 when not (wholeAdmitted a && wholeAdmitted b && wholeAdmitted v)
+    1 when not (endsAdmitted a b && wholeAdmitted v)
     ∷ realPlaceReasons (Ieee.ofInt binary64 a) (Ieee.ofInt binary64 b) (Ieee.ofInt binary64 v) limit
 
 unfoldable pub wholePlace : ℤ → ℤ → ℤ → Limit → Answer ℤ

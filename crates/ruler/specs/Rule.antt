@@ -9,7 +9,7 @@ use lib.ListN.{length, take, drop}
 use lib.Signed.{ltZ}
 use Rattle.ranged1d.specs.Answer.{Answer, given, refused, Reason, _when_, lowest, written}
 use Rattle.ranged1d.specs.Refusals.{numberOf}
-use Rattle.ranged1d.specs.Admitted.{wholeAdmitted, limitAdmitted}
+use Rattle.ranged1d.specs.Admitted.{endsAdmitted, limitAdmitted}
 use Rattle.ranged1d.specs.Numbers.{same, every}
 use Rattle.ranged1d.specs.declared.Limit.{Limit}
 use Rattle.numeric.specs.declared.KeyPoints.{KeyPoints}
@@ -50,7 +50,7 @@ rulerBytes a b limit m = joined (recordsOf a b limit m)
 -- 01 "Why a call stops": why there is no ruler. 1 where an end is not admitted, 2 where a limit is not, 3 where no step serves. 5 is never met:
 -- `every-placed` of proofs/Places.
 abbrev pub noRuler : ℤ → ℤ → Limit → ℕ → List Reason
-noRuler a b limit m = 1 when not (wholeAdmitted a && wholeAdmitted b) ∷ 2 when not (limitAdmitted limit) ∷ 3 when noStep a b m ∷ []
+noRuler a b limit m = 1 when not (endsAdmitted a b) ∷ 2 when not (limitAdmitted limit) ∷ 3 when noStep a b m ∷ []
 
 -- `write`: 13 where the lent bytes are too few; else the number of bytes and of marks, and the ruler at the start of the lent bytes
 abbrev pub writeReasons : ℤ → ℤ → Limit → ℕ → List ℕ → List Reason

@@ -1,22 +1,21 @@
 -- The axes that segments stand on: 01 "Whole reading, segments, real labels" for the whole axis, 01 "Mirroring, real reading, stepped axes" for
 -- the stepped ones. Assumes nothing.
 use Prim.Native.Nat.{ℕ}
-use mathlib.Core.Bool.{false, cond, _&&_}
-use lib.Dec.{ltb, eqb}
-use lib.IntN.{ℤ, pos, natAbs, _+ℤ_, _-ℤ_}
+use mathlib.Core.Bool.{false, cond}
+use lib.Dec.{ltb}
+use lib.IntN.{ℤ, pos, _+ℤ_}
 use lib.ListN.{length}
-use lib.Signed.{ltZ}
 use Rattle.ranged1d.specs.Answer.{given, none}
 use Rattle.ranged1d.specs.Admitted.{wholeAdmitted}
 use Rattle.real.specs.Place.{wholeSpot}
 use Rattle.numeric.specs.Marks.{marks, noStep}
-use Rattle.numeric.specs.Whole.{countOf, endsAdmitted}
+use Rattle.numeric.specs.Whole.{countOf, endsAdmitted, indexFrom}
 use Rattle.search.specs.Search.{search}
 use Rattle.search.specs.Lists.{nanTarget}
 use Rattle.search.specs.declared.RoundingMethod.{RoundingMethod}
 use Rattle.linspace.specs.List as list
 use Rattle.linspace.specs.List.{Kind, stepped, axisAdmitted}
-use Rattle.linspace.specs.Calls.{nth, hasEntries, stepSpot, stepMarks}
+use Rattle.linspace.specs.Calls.{nth, stepSpot, stepMarks, unserved}
 use Rattle.segmented.specs.Segments.{Axis, Finder}
 
 -- 4: as many values as an f32 counts one by one
@@ -41,7 +40,7 @@ wholeAxis a b = record {
 -- the index of v is how far it lies past a, past the end too; none before a
 abbrev pub wholeFinder : ℤ → Finder ℤ
 wholeFinder a = record {
-  index = λ v. cond (ltZ v a) none (given (natAbs (v -ℤ a)));
+  index = indexFrom a;
   unsought = λ v. false;
 }
 
@@ -57,7 +56,7 @@ steppedAxis kind a b d = record {
   tooLong = list.tooLong kind a b d;
   spot = stepSpot kind a b d;
   marks = stepMarks kind a b d;
-  noStep = λ m. eqb m 0 && hasEntries (stepped kind a b d);
+  noStep = unserved kind a b d;
 }
 
 -- a search of the list; in one with an entry none but the exact one is made for a NaN, which is what does not equal itself
