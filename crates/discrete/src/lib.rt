@@ -12,9 +12,10 @@ pub enum Index {
     Refused(Refusal),
 }
 
-// The index, by how far the pixel and the second limit lie from the first. A quotient below zero is read as 0, so that a pixel on the
-// other side of the first limit needs no division; of the others the sizes are divided. The product is at most 2,000,000 · (2^32 − 1), below
-// 2^53. Of numbers with signs the compiler would look whether 32 bits hold them, and guess wrongly on every second film that runs downward.
+// The index, by how far the pixel and the second limit lie from the first. A quotient below zero is read as 0, so that what lies on the
+// other side of the first limit needs no division; of all else the sizes are divided, the product being at most 2,000,000 · (2^32 − 1),
+// below 2^53. Before it divides by 64 bits the processor is made to look whether 32 are enough; with signs that test would go by
+// the way the film runs, and be guessed wrongly as often as this changes.
 // The source divides in f64 and finds the same index: the product is exact, and a quotient that is no whole number lies at least
 // 1 ÷ |w| below the next one, while rounding moves it by at most its 2^53rd part, which is less.
 fn index_within(d: i32, w: i32, n: u32) -> Index

@@ -1,9 +1,10 @@
--- The line reader accepts exactly the lines that 01 describes: those of `lineOf`, with numbers within their types. Assumes nothing.
+-- The line reader accepts exactly the lines that 01 describes: those of `lineOf`, with numbers within their types; none of them is longer than 63 bytes.
+-- Assumes nothing.
 use mathlib.Core.Path.{_≡_, refl, sym, ap, ap₂, _∙_, subst}
 use mathlib.Core.Bool.{Bool, true, false, cond}
 use mathlib.Core.List.{List, [], _∷_, _++_, append-assoc}
 use mathlib.Core.Logic.{_↔_}
-use Prim.Native.Nat.{ℕ, zero, suc, _+_, _%_, _≤_, _<_}
+use Prim.Native.Nat.{ℕ, zero, suc, _+_, _*_, _%_, _≤_, _<_}
 use native.Mathlib.Omega.{arith}
 use borrow.Author.Tests.{ne-eqb, eqb-true, ltb-true, lt-ltb}
 use lib.Dec.{ltb, eqb}
@@ -14,7 +15,7 @@ use Rattle.ranged1d.specs.Numbers.{isI32}
 use Rattle.ranged1d.proofs.Answers.{not-both, not-none, choice}
 use Rattle.decimal.specs.Print.{digit, digits, natural, decimal}
 use Rattle.decimal.specs.Read.{sameBytes, readI32, readU32}
-use Rattle.decimal.proofs.Digits.{digits-by}
+use Rattle.decimal.proofs.Digits.{digits-by, digits-most, decimal-most}
 use Rattle.decimal.proofs.Texts.{same-self, same-equal}
 use Rattle.decimal.proofs.Reader.{reads-i32, reads-u32, printed-i32, printed-u32}
 use Rattle.line.specs.declared.Request.{Request}
@@ -185,3 +186,15 @@ sound s r e =
 -- a line is accepted with these numbers exactly when it is their line, and they lie within their types
 pub accepts : (s : List ℕ) (r : Request) → (parseLine s ≡ given r) ↔ (Within r × (s ≡ lineOf r))
 accepts s r = (sound s r, λ w. ap parseLine (w .1) ∙ complete r (w .0))
+
+-- ---- a line that is accepted has at most 63 bytes: the word, four numbers of up to 11 with their blanks, and one of up to 10
+joined-most : (l : List ℤ) (r : List ℕ) → length (joined l r) ≤ 12 * length l + length r
+unfolding joined
+joined-most [] r = omega arith
+joined-most (z ∷ zs) r = omega (arith, length-append (decimal z) (32 ∷ joined zs r), decimal-most z, joined-most zs r)
+
+pub accepted-short : (s : List ℕ) (r : Request) → parseLine s ≡ given r → length s ≤ 63
+unfolding four
+accepted-short s r e =
+    let numbers = joined (four r) (natural (r .m)) in
+    omega (arith, ap length (sound s r e .1 ∙ line-form r), length-append keyword (32 ∷ numbers), joined-most (four r) (natural (r .m)), digits-most 9 (r .m))

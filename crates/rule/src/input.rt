@@ -1,4 +1,5 @@
-// Lines of any length: a line that a ruler can be asked with has at most 63 bytes, so that 64 are enough to tell that one is longer.
+// Lines of any length: a line that a ruler can be asked with has at most 63 bytes (`accepted-short` of line/proofs/Exact), so that 64 are
+// enough to tell that one is longer.
 ghost use Prim.Native.Nat.{_≤_};
 ghost use lib.ListN.{length};
 
