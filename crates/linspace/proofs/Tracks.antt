@@ -14,7 +14,7 @@ use Rattle.search.proofs.RealOrder.{real-order}
 use Rattle.linspace.specs.List.{real, toward}
 use Rattle.linspace.specs.RealSteps.{plusStep, after, Walked, nearest}
 use Rattle.linspace.specs.Walks.{Tracked, Stepped, headOf}
-use Rattle.linspace.specs.declared.reals.Track.{Track}
+use Rattle.linspace.specs.declared.track.Track.{Track}
 use Rattle.linspace.proofs.Walks.{walk-starts, walk-on}
 use Rattle.linspace.proofs.RealSums.{add-nought}
 

@@ -7,8 +7,8 @@ use lib.IntN.{pos}
 use Rattle.ranged1d.specs.Answer.{Answer, given, refused}
 use Rattle.ranged1d.specs.Refusals.{numberOf}
 use Rattle.linspace.specs.RealSteps.{Passed, plusStep, after, all}
-use Rattle.linspace.specs.declared.reals.Track.{Track}
-use Rattle.linspace.specs.declared.reals.Trail.{Trail}
+use Rattle.linspace.specs.declared.track.Track.{Track}
+use Rattle.linspace.specs.declared.track.Trail.{Trail}
 use Rattle.linspace.specs.declared.reals.Walk.{Walk}
 use Rattle.linspace.specs.declared.reals.Walk.the-variants as walk-is
 use lib.Ieee.{Float, fin, binary64, fits, add}

@@ -6,9 +6,9 @@ ghost use Prim.Native.Nat.{_*_, _≤_};
 ghost use lib.ListN.{length, drop};
 ghost use Rattle.numeric.specs.Marks.{listOf};
 ghost use Rattle.linspace.specs.RealSteps.{plusStep, after, Passed, fourRuns};
-use crate::reals::Kept;
-use crate::reals::Steps;
-use crate::reals::advance;
+use crate::track::Kept;
+use crate::track::Steps;
+use crate::track::advance;
 
 // The next entry of each run.
 struct Four {

@@ -1,6 +1,7 @@
 // Stepped axes, after combinators/linspace.rs: the list of an axis by a step, and what is found, placed, read and marked on it.
 mod lanes;
 mod reals;
+mod track;
 mod wholes;
 
 use numeric::RangedCoordf64;

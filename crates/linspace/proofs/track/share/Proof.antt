@@ -1,4 +1,4 @@
--- `linspace::reals::share` meets its contract. Assumes nothing.
+-- `linspace::track::share` meets its contract. Assumes nothing.
 use mathlib.Core.Path.{_≡_, subst}
 use Prim.Native.Nat.{ℕ}
 use borrow.Author.Needs.{needs}
@@ -7,8 +7,8 @@ use mir.Facts.{toZ-ofZ}
 use Rattle.ranged1d.proofs.Bools.{apart, alike}
 use Rattle.linspace.specs.RealSteps.{Shares}
 use Rattle.linspace.proofs.Shares.{share-sizes, share-behind}
-use Rattle.linspace.proofs.reals.share.Statement.{statement}
-use Rattle.linspace.proofs.reals.share.Tie as tie
+use Rattle.linspace.proofs.track.share.Statement.{statement}
+use Rattle.linspace.proofs.track.share.Tie as tie
 
 -- the sizes that `part_of` is asked of
 module _ (c : tie.After-unsigned-abs2) where

@@ -1,4 +1,4 @@
--- `linspace::reals::approach` meets its contract. Assumes nothing.
+-- `linspace::track::approach` meets its contract. Assumes nothing.
 use mathlib.Core.Path.{_≡_, sym, subst, _∙_}
 use mathlib.Core.Bool.{Bool, true, false}
 use Prim.Native.Nat.{_+_, _-_, _<_, _≤_}
@@ -11,8 +11,8 @@ use Rattle.linspace.specs.RealSteps.{plusStep, nearest, Going, Parted}
 use Rattle.linspace.specs.Walks.{Tracked, headOf}
 use Rattle.linspace.proofs.Walks.{going-starts, going-on}
 use Rattle.linspace.proofs.Tracks.{Runs, runs-from, runs-on, runs-test, head-on, track-head, before-both, not-both-before}
-use Rattle.linspace.proofs.reals.approach.Statement.{statement}
-use Rattle.linspace.proofs.reals.approach.Tie as tie
+use Rattle.linspace.proofs.track.approach.Statement.{statement}
+use Rattle.linspace.proofs.track.approach.Tie as tie
 
 abbrev Inv-loop : tie.InvT-loop
 Inv-loop rises t n₀ left₀ y₀ n left y =

@@ -1,4 +1,4 @@
--- `linspace::reals::walk_both` meets its contract. Assumes nothing.
+-- `linspace::track::walk_both` meets its contract. Assumes nothing.
 use mathlib.Core.Path.{_≡_, refl, sym, ap, _∙_}
 use mathlib.Core.Bool.{Bool}
 use Prim.Native.Nat.{ℕ, _+_, _-_, _*_, _/_, _≤_}
@@ -14,8 +14,8 @@ use Rattle.linspace.specs.RealSteps.{plusStep, after, all, Walked, Behin
 use Rattle.linspace.specs.Walks.{headOf}
 use Rattle.linspace.proofs.Walks.{total-ends, total-full, after-on}
 use Rattle.linspace.proofs.Tracks.{Along, along-starts, along-on, Runs, runs-test}
-use Rattle.linspace.proofs.reals.walk_both.Statement.{statement}
-use Rattle.linspace.proofs.reals.walk_both.Tie as tie
+use Rattle.linspace.proofs.track.walk_both.Statement.{statement}
+use Rattle.linspace.proofs.track.walk_both.Tie as tie
 
 abbrev Inv-loop : tie.InvT-loop
 Inv-loop rises share d n₀ t₀ y₀ n t y =

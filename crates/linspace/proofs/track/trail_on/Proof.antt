@@ -1,4 +1,4 @@
--- `linspace::reals::trail_on` meets its contract. Assumes nothing.
+-- `linspace::track::trail_on` meets its contract. Assumes nothing.
 use mathlib.Core.Path.{refl, sym, subst}
 use Prim.Native.Nat.{_+_, _-_, _/_, _≤_}
 use native.Mathlib.Omega.{arith}
@@ -6,8 +6,8 @@ use lib.Dec.{T}
 use lib.Ieee.{neg, ofBits}
 use borrow.Author.Needs.{needs}
 use Rattle.linspace.proofs.Tracks.{trail-sum}
-use Rattle.linspace.proofs.reals.trail_on.Statement.{statement}
-use Rattle.linspace.proofs.reals.trail_on.Tie as tie
+use Rattle.linspace.proofs.track.trail_on.Statement.{statement}
+use Rattle.linspace.proofs.track.trail_on.Tie as tie
 
 add-gone : tie.Need-add-gone
 add-gone c = search needs

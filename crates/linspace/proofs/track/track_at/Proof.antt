@@ -1,9 +1,9 @@
--- `linspace::reals::track_at` meets its contract. Assumes nothing.
+-- `linspace::track::track_at` meets its contract. Assumes nothing.
 use mathlib.Core.Path.{refl, sym, subst}
 use lib.Dec.{T}
 use lib.Ieee.{binary64, fits, neg, ofBits}
-use Rattle.linspace.proofs.reals.track_at.Statement.{statement}
-use Rattle.linspace.proofs.reals.track_at.Tie as tie
+use Rattle.linspace.proofs.track.track_at.Statement.{statement}
+use Rattle.linspace.proofs.track.track_at.Tie as tie
 
 end-fits : (c : tie.Start) → T (fits binary64 (c .args .s .b))
 end-fits c = subst T (sym (c .good .1 .0 .1 .1 .1 .0 .1)) tt

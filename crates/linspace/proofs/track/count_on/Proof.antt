@@ -1,4 +1,4 @@
--- `linspace::reals::count_on` meets its contract: what is passed and what is left of the list stay as many. Assumes nothing.
+-- `linspace::track::count_on` meets its contract: what is passed and what is left of the list stay as many. Assumes nothing.
 use mathlib.Core.Path.{_≡_, sym, ap, _∙_}
 use Prim.Native.Nat.{_≤_, _+_, _-_}
 use native.Mathlib.Omega.{arith}
@@ -11,8 +11,8 @@ use Rattle.linspace.specs.RealSteps.{plusStep}
 use Rattle.linspace.specs.Walks.{Tracked, headOf}
 use Rattle.linspace.proofs.Walks.{total-on, total-ends, total-full}
 use Rattle.linspace.proofs.Tracks.{Runs, runs-from, runs-on, runs-test, head-on, track-head}
-use Rattle.linspace.proofs.reals.count_on.Statement.{statement}
-use Rattle.linspace.proofs.reals.count_on.Tie as tie
+use Rattle.linspace.proofs.track.count_on.Statement.{statement}
+use Rattle.linspace.proofs.track.count_on.Tie as tie
 
 abbrev Inv-loop : tie.InvT-loop
 Inv-loop rises x k n₀ t₀ n t =

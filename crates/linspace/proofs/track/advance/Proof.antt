@@ -1,11 +1,11 @@
--- `linspace::reals::advance` meets its contract. Assumes nothing.
+-- `linspace::track::advance` meets its contract. Assumes nothing.
 use mathlib.Core.Path.{_≡_, refl, ap, _∙_}
 use Prim.Native.Nat.{ℕ, _≤_, _-_}
 use native.Mathlib.Omega.{arith}
 use Rattle.linspace.specs.RealSteps.{plusStep, after}
 use Rattle.linspace.proofs.Walks.{after-step}
-use Rattle.linspace.proofs.reals.advance.Statement.{statement}
-use Rattle.linspace.proofs.reals.advance.Tie as tie
+use Rattle.linspace.proofs.track.advance.Statement.{statement}
+use Rattle.linspace.proofs.track.advance.Tie as tie
 
 abbrev Inv-loop : tie.InvT-loop
 Inv-loop x d k y₀ i₀ y i = (i ≤ k) × (y ≡ after (plusStep d) i x)

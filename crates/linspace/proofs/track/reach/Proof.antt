@@ -1,4 +1,4 @@
--- `linspace::reals::reach` meets its contract. Assumes nothing.
+-- `linspace::track::reach` meets its contract. Assumes nothing.
 use mathlib.Core.Path.{_≡_, sym, subst, _∙_}
 use mathlib.Core.Bool.{Bool, false}
 use Prim.Native.Nat.{_≤_, _<_, _-_}
@@ -10,8 +10,8 @@ use Rattle.linspace.specs.List.{real, toward}
 use Rattle.linspace.specs.RealSteps.{plusStep, Walked, Reached}
 use Rattle.linspace.specs.Walks.{headOf}
 use Rattle.linspace.proofs.Tracks.{Along, along-starts, along-on, Runs, runs-test}
-use Rattle.linspace.proofs.reals.reach.Statement.{statement}
-use Rattle.linspace.proofs.reals.reach.Tie as tie
+use Rattle.linspace.proofs.track.reach.Statement.{statement}
+use Rattle.linspace.proofs.track.reach.Tie as tie
 
 abbrev Inv-loop : tie.InvT-loop
 Inv-loop rises k n₀ t₀ n t = (n ≤ 65537) × (n ≤ k) × Along rises t₀ n t

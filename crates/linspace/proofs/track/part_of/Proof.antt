@@ -1,4 +1,4 @@
--- `linspace::reals::part_of` meets its contract. Assumes nothing.
+-- `linspace::track::part_of` meets its contract. Assumes nothing.
 use mathlib.Core.Path.{subst, sym}
 use Prim.Native.Nat.{ℕ}
 use native.Mathlib.Omega.{arith}
@@ -6,8 +6,8 @@ use borrow.Author.Needs.{needs}
 use lib.IntN.{pos}
 use Rattle.linspace.specs.RealSteps.{Shares}
 use Rattle.linspace.proofs.Shares.{share-on, share-past, share-between}
-use Rattle.linspace.proofs.reals.part_of.Statement.{statement}
-use Rattle.linspace.proofs.reals.part_of.Tie as tie
+use Rattle.linspace.proofs.track.part_of.Statement.{statement}
+use Rattle.linspace.proofs.track.part_of.Tie as tie
 
 returns : tie.Need-returns
 returns c = let s = c .before .args in subst (λ (far : ℕ). Shares (pos far) (pos (s .whole)) 0) (sym (c .if1 .taken)) (share-on (s .whole))

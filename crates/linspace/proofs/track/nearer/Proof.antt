@@ -1,8 +1,8 @@
--- `linspace::reals::nearer` meets its contract. Assumes nothing.
+-- `linspace::track::nearer` meets its contract. Assumes nothing.
 use mathlib.Core.Path.{refl, sym, _∙_}
 use borrow.Author.Needs.{needs}
-use Rattle.linspace.proofs.reals.nearer.Statement.{statement}
-use Rattle.linspace.proofs.reals.nearer.Tie as tie
+use Rattle.linspace.proofs.track.nearer.Statement.{statement}
+use Rattle.linspace.proofs.track.nearer.Tie as tie
 
 precedes-requires : tie.Need-precedes-requires
 precedes-requires c κs = search needs
