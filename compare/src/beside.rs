@@ -26,6 +26,30 @@ pub trait Library: Call<Number: Fill> {
     unsafe fn function(self, out: *mut Self::Number) -> i32;
 }
 
+/// A call whose C function takes the parts of its input: what it gives, its name, the C function,
+/// and the safe call with the parts.
+macro_rules! library {
+    (
+        $input:ident $(<$kind:ident>)? { $($part:ident),* } -> $number:ident,
+        $name:literal, $function:ident, $safe:expr
+    ) => {
+        impl $crate::beside::Library for $input $(<$kind>)? {
+            const CALL: &'static str = $name;
+
+            fn safe(self) -> Result<Option<$number>, culvraod::Refusal> {
+                let $input { $($part),* } = self;
+                $safe
+            }
+
+            unsafe fn function(self, out: *mut $number) -> i32 {
+                let $input { $($part),* } = self;
+                $function($($part),*, out)
+            }
+        }
+    };
+}
+pub(crate) use library;
+
 pub fn told<N: Into<Number>>(safe: Result<Option<N>, Refusal>) -> Told {
     let answer: Answer<N> = safe.map_err(Refusal::number);
     answer.into()
@@ -75,7 +99,7 @@ pub fn size<C: Call>(call: C) -> u128 {
 fn inputs<C: Cases>(drawn: usize) -> impl Iterator<Item = C> {
     let mut random = Random::new();
     let worked = C::WORKED.iter().copied();
-    let picked = all(|pick| C::corner(pick)).chain(all(|pick| C::small(pick)));
+    let picked = all(|pick| C::picked(pick));
     let drawn = (0..drawn).map(move |_| C::drawn(&mut random));
     worked.chain(picked).chain(drawn)
 }
@@ -87,24 +111,39 @@ pub fn compare<C: Library + Cases>() -> bool {
     tally.close()
 }
 
+/// A part of an input, which the mirrored input has negated.
+pub trait Negated: Copy {
+    /// All its numbers negated, if their types can hold that.
+    fn negated(self) -> Option<Self>;
+}
+
+impl Negated for i32 {
+    fn negated(self) -> Option<i32> {
+        self.checked_neg()
+    }
+}
+
+impl Negated for f64 {
+    fn negated(self) -> Option<f64> {
+        Some(-self)
+    }
+}
+
 /// A call that the mirror theorem covers.
 pub trait Mirrored: Library + Cases {
     /// How many random inputs are compared with their mirror.
     const MIRRORED: usize = 30_000_000;
+    /// Whether both give the same number, and not one that is the other negated.
+    const SAME: bool = false;
 
     /// The mirrored input, if the type can hold it.
     fn mirror(self) -> Option<Self>;
-
-    /// Whether an input and its mirror may give these.
-    fn agree(one: Number, other: Number) -> bool {
-        one.mirrors(other)
-    }
 }
 
 fn check_mirror<C: Mirrored>(call: C, mirror: C) -> Result<(), String> {
     let (one, other) = (told(call.safe()), told(mirror.safe()));
     let holds = match (one, other) {
-        (Told::Given(one), Told::Given(other)) => C::agree(one, other),
+        (Told::Given(one), Told::Given(other)) if !C::SAME => one.mirrors(other),
         _ => one == other,
     };
     ensure(holds, || format!("{one}, mirror {other}"))

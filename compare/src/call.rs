@@ -35,6 +35,39 @@ pub trait Call: Copy {
     }
 }
 
+/// A call: its input with the parts that are its fields, what it gives, its word, the rule, what
+/// plotters makes of the parts, and what plotters may give besides a panic, if anything.
+macro_rules! call {
+    (
+        $input:ident $(<$kind:ident>)? { $($part:ident),* } -> $number:ident,
+        $keyword:literal, $rule:path, $plotters:expr $(, may give $may:path)?
+    ) => {
+        impl $crate::call::Call for $input $(<$kind>)? {
+            type Number = $number;
+            const KEYWORD: &'static str = $keyword;
+
+            fn fields(self) -> impl Iterator<Item = (&'static str, $crate::number::Number)> {
+                let $input { $($part),* } = self;
+                [$((stringify!($part), $part.into())),*].into_iter()
+            }
+
+            fn rule(self) -> $crate::call::Answer<$number> {
+                $rule(self)
+            }
+
+            fn plotters(self) -> Option<$number> {
+                let $input { $($part),* } = self;
+                $plotters
+            }
+
+            $(fn may_give(self, plotters: Option<Option<$number>>) -> bool {
+                $may(self, plotters)
+            })?
+        }
+    };
+}
+pub(crate) use call;
+
 /// What a call gives, whatever the kind of its numbers.
 #[derive(Clone, Copy, PartialEq)]
 pub enum Told {

@@ -12,11 +12,7 @@ pub trait Cases: Call + 'static {
     /// is not admitted.
     const LINES: [usize; 2] = [340, 60];
 
-    /// Of numbers at the edges of what is held and admitted.
-    fn corner(pick: &mut impl Pick) -> Self;
-    /// Of small numbers.
-    #[cfg(feature = "library")]
-    fn small(pick: &mut impl Pick) -> Self;
+    fn picked(pick: &mut impl Pick) -> Self;
     fn drawn(random: &mut Random) -> Self;
     /// As an ordinary caller would have it, and never refused.
     #[cfg(feature = "library")]
@@ -24,36 +20,45 @@ pub trait Cases: Call + 'static {
 }
 
 pub trait Pick {
-    fn pick<T: Copy>(&mut self, list: &[T]) -> T;
+    /// From a list of numbers at the edges of what is held and admitted, or from one of small ones.
+    fn pick<T: Copy>(&mut self, lists: [&[T]; 2]) -> T;
 }
 
+/// Always at the edges.
 impl Pick for Random {
-    fn pick<T: Copy>(&mut self, list: &[T]) -> T {
-        Random::pick(self, list)
+    fn pick<T: Copy>(&mut self, [edges, _]: [&[T]; 2]) -> T {
+        Random::pick(self, edges)
     }
 }
 
 /// Picks by the digits of a number, the base being the length of each list.
 #[cfg(feature = "library")]
-pub struct Digits(u64);
+pub struct Digits {
+    number: u64,
+    /// From which of two lists.
+    which: usize,
+}
 
 #[cfg(feature = "library")]
 impl Pick for Digits {
-    fn pick<T: Copy>(&mut self, list: &[T]) -> T {
+    fn pick<T: Copy>(&mut self, lists: [&[T]; 2]) -> T {
+        let list = lists[self.which];
         let base = list.len() as u64;
-        let digit = self.0 % base;
-        self.0 /= base;
+        let digit = self.number % base;
+        self.number /= base;
         list[digit as usize]
     }
 }
 
-/// Everything that can be made by picking.
+/// Everything that can be made by picking: all at the edges, then all of small numbers.
 #[cfg(feature = "library")]
-pub fn all<T>(make: impl Fn(&mut Digits) -> T) -> impl Iterator<Item = T> {
-    (0..).map_while(move |number| {
-        let mut digits = Digits(number);
-        let made = make(&mut digits);
-        (digits.0 == 0).then_some(made)
+pub fn all<T>(make: impl Fn(&mut Digits) -> T + Copy) -> impl Iterator<Item = T> {
+    (0..2).flat_map(move |which| {
+        (0..).map_while(move |number| {
+            let mut digits = Digits { number, which };
+            let made = make(&mut digits);
+            (digits.number == 0).then_some(made)
+        })
     })
 }
 
@@ -80,10 +85,8 @@ pub const REALS: [f64; 27] = [
     49.0, -1e3, 1e9, -1e9, 1_000_000_000.999, -1_000_000_000.999,
 ];
 
-#[cfg(feature = "library")]
 pub const SMALL: [i32; 13] = [-6, -5, -4, -3, -2, -1, 0, 1, 2, 3, 4, 5, 6];
 
-#[cfg(feature = "library")]
 pub const SMALL_REALS: [f64; 13] = [
     -2.0, -1.5, -1.0, -0.5, -0.1, -0.0, 0.0, 0.1, 0.25, 0.5, 1.0, 1.5, 3.0,
 ];

@@ -1,6 +1,8 @@
 //! The two kinds of numbers that lists and stepped axes are made of.
 
-use std::ops::{Add, Sub};
+use plotters::coord::ranged1d::Ranged;
+use plotters::coord::{RangedCoordf64, RangedCoordi32};
+use std::ops::{Add, Range, Sub};
 
 use crate::admitted;
 use crate::number::Number;
@@ -8,6 +10,8 @@ use crate::number::Number;
 pub trait Entry:
     Copy + Default + PartialOrd + Add<Output = Self> + Sub<Output = Self> + Into<Number> + 'static
 {
+    /// plotters' axis without a step.
+    type Axis: Ranged<ValueType = Self> + From<Range<Self>> + 'static;
     const ZERO: Self;
 
     /// Refuses numbers that are not admitted; of reals all are.
@@ -22,6 +26,7 @@ pub trait Entry:
 }
 
 impl Entry for i32 {
+    type Axis = RangedCoordi32;
     const ZERO: i32 = 0;
 
     fn admitted(numbers: &[i32]) -> Result<(), i32> {
@@ -34,6 +39,7 @@ impl Entry for i32 {
 }
 
 impl Entry for f64 {
+    type Axis = RangedCoordf64;
     const ZERO: f64 = 0.0;
 
     fn admitted(_: &[f64]) -> Result<(), i32> {

@@ -38,7 +38,7 @@ fn line<C: Call>(call: C) -> Line {
 
 fn any<C: Cases>(random: &mut Random) -> C {
     if random.below(3) == 0 {
-        C::corner(random)
+        C::picked(random)
     } else {
         C::drawn(random)
     }

@@ -1,11 +1,11 @@
 //! Inputs of counts and indices.
 
 use super::{FromIndex, IndexOf, Size};
-use crate::cases::{whole, whole_ends, Cases, Pick, WHOLES};
+use crate::cases::{whole, whole_ends, Cases, Pick, SMALL, WHOLES};
 use crate::random::Random;
 
 #[cfg(feature = "library")]
-use crate::cases::{ordinary, SMALL};
+use crate::cases::ordinary;
 
 const LAST: u64 = i32::MAX as u64;
 
@@ -19,14 +19,8 @@ const INDICES: [u64; 18] = [
 impl Cases for Size {
     const WORKED: &'static [Self] = &[];
 
-    fn corner(pick: &mut impl Pick) -> Self {
-        let [a, b] = [(); 2].map(|()| pick.pick(&WHOLES));
-        Size { a, b }
-    }
-
-    #[cfg(feature = "library")]
-    fn small(pick: &mut impl Pick) -> Self {
-        let [a, b] = [(); 2].map(|()| pick.pick(&SMALL));
+    fn picked(pick: &mut impl Pick) -> Self {
+        let [a, b] = [(); 2].map(|()| pick.pick([&WHOLES, &SMALL]));
         Size { a, b }
     }
 
@@ -45,14 +39,8 @@ impl Cases for Size {
 impl Cases for IndexOf {
     const WORKED: &'static [Self] = &[];
 
-    fn corner(pick: &mut impl Pick) -> Self {
-        let [a, b, v] = [(); 3].map(|()| pick.pick(&WHOLES));
-        IndexOf { a, b, v }
-    }
-
-    #[cfg(feature = "library")]
-    fn small(pick: &mut impl Pick) -> Self {
-        let [a, b, v] = [(); 3].map(|()| pick.pick(&SMALL));
+    fn picked(pick: &mut impl Pick) -> Self {
+        let [a, b, v] = [(); 3].map(|()| pick.pick([&WHOLES, &SMALL]));
         IndexOf { a, b, v }
     }
 
@@ -92,20 +80,10 @@ fn index(random: &mut Random, a: i32, b: i32) -> u64 {
 impl Cases for FromIndex {
     const WORKED: &'static [Self] = &[];
 
-    fn corner(pick: &mut impl Pick) -> Self {
-        let [a, b] = [(); 2].map(|()| pick.pick(&WHOLES));
-        let k = pick.pick(&INDICES);
+    fn picked(pick: &mut impl Pick) -> Self {
+        let [a, b] = [(); 2].map(|()| pick.pick([&WHOLES, &SMALL]));
+        let k = pick.pick([&INDICES, &[0, 1, 2, 3, 4, 5, 6, 7, 8, 9, 10, 11, 12]]);
         FromIndex { a, b, k }
-    }
-
-    #[cfg(feature = "library")]
-    fn small(pick: &mut impl Pick) -> Self {
-        let [a, b, k] = [(); 3].map(|()| pick.pick(&SMALL));
-        FromIndex {
-            a,
-            b,
-            k: (k + 6) as u64,
-        }
     }
 
     fn drawn(random: &mut Random) -> Self {

@@ -1,48 +1,25 @@
 //! Counts and indices of culvraod.
 
 use culvraod::counts::{culv_whole_from_index, culv_whole_index_of, culv_whole_size};
-use culvraod::{RangedCoordi32, Refusal};
+use culvraod::RangedCoordi32;
 use std::hint::black_box;
 
 use super::{FromIndex, IndexOf, Size};
-use crate::beside::{self, Library};
+use crate::beside::{self, library};
 use crate::timing;
 
-impl Library for Size {
-    const CALL: &'static str = "whole_size";
-
-    fn safe(self) -> Result<Option<u64>, Refusal> {
-        RangedCoordi32(self.a, self.b).size().map(Some)
-    }
-
-    unsafe fn function(self, out: *mut u64) -> i32 {
-        culv_whole_size(self.a, self.b, out)
-    }
-}
-
-impl Library for IndexOf {
-    const CALL: &'static str = "whole_index_of";
-
-    fn safe(self) -> Result<Option<u64>, Refusal> {
-        RangedCoordi32(self.a, self.b).index_of(self.v)
-    }
-
-    unsafe fn function(self, out: *mut u64) -> i32 {
-        culv_whole_index_of(self.a, self.b, self.v, out)
-    }
-}
-
-impl Library for FromIndex {
-    const CALL: &'static str = "whole_from_index";
-
-    fn safe(self) -> Result<Option<i32>, Refusal> {
-        RangedCoordi32(self.a, self.b).from_index(self.k)
-    }
-
-    unsafe fn function(self, out: *mut i32) -> i32 {
-        culv_whole_from_index(self.a, self.b, self.k, out)
-    }
-}
+library!(
+    Size { a, b } -> u64, "whole_size", culv_whole_size,
+    RangedCoordi32(a, b).size().map(Some)
+);
+library!(
+    IndexOf { a, b, v } -> u64, "whole_index_of", culv_whole_index_of,
+    RangedCoordi32(a, b).index_of(v)
+);
+library!(
+    FromIndex { a, b, k } -> i32, "whole_from_index", culv_whole_from_index,
+    RangedCoordi32(a, b).from_index(k)
+);
 
 pub fn compare() -> bool {
     beside::compare::<Size>() & beside::compare::<IndexOf>() & beside::compare::<FromIndex>()

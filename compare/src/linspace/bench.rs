@@ -36,13 +36,13 @@ fn time<N: Library, T>(
 /// is asked.
 fn time_list<N: Library>(list: Listing<N>) {
     let held = &mut vec![N::ZERO; rule::count(list.axis).unwrap_or(0)];
-    time(N::NAMES.values, ", all read", list, |list| {
+    time(N::VALUES, ", all read", list, |list| {
         for (place, value) in held.iter_mut().zip(N::plotters(list.axis).values()) {
             *place = value;
         }
         black_box(&held);
     });
-    time(N::NAMES.values, ", made and not read", list, |list| {
+    time(N::VALUES, ", made and not read", list, |list| {
         let axis = N::plotters(list.axis);
         axis.from_index(axis.size() - 1)
     });

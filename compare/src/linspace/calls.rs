@@ -74,7 +74,7 @@ impl<N: Kind> Call for Size<N> {
 
 impl<N: Kind> Call for FromIndex<N> {
     type Number = N;
-    const KEYWORD: &'static str = N::WORDS.at;
+    const KEYWORD: &'static str = N::WORDS.from_index;
 
     fn fields(self) -> impl Iterator<Item = (&'static str, Number)> {
         self.axis.named().into_iter().chain([("k", self.k.into())])
@@ -95,7 +95,7 @@ impl<N: Kind> Call for FromIndex<N> {
 
 impl<N: Kind> Call for IndexOf<N> {
     type Number = u64;
-    const KEYWORD: &'static str = N::WORDS.index;
+    const KEYWORD: &'static str = N::WORDS.index_of;
 
     fn fields(self) -> impl Iterator<Item = (&'static str, Number)> {
         let method = u64::from(self.method).into();

@@ -4,15 +4,15 @@ use super::calls::{FromIndex, IndexOf, Map, Size, Unmap};
 use super::kind::Kind;
 use super::Steps;
 use crate::admitted::FILM;
-use crate::cases::{film, held, real, real_ends, whole_ends, Cases, Pick};
+use crate::cases::{film, held, real, real_ends, whole_ends, Cases, Pick, SMALL, SMALL_REALS};
 use crate::places::Place;
 use crate::random::Random;
-use crate::readings::cases::{any_pixel, pixel_at};
+use crate::readings::cases::part_or_any;
 use crate::search::cases::{method, Lists};
 use crate::search::rule::NEAREST;
 
 #[cfg(feature = "library")]
-use crate::cases::{ordinary, SMALL, SMALL_REALS};
+use crate::cases::ordinary;
 
 /// Numbers of a kind that stepped axes are made of.
 pub trait Numbers: Kind + Lists {
@@ -23,9 +23,8 @@ pub trait Numbers: Kind + Lists {
     const INDICES: &'static [IndexOf<Self>];
     /// How many lines the calls have that take neither a value nor limits.
     const LINES: [usize; 2];
-    const CORNERS: &'static [Self];
-    #[cfg(feature = "library")]
-    const PICKED: &'static [Self];
+    /// What is picked from.
+    const PICKED: [&'static [Self]; 2];
 
     fn ends(random: &mut Random) -> (Self, Self);
     /// A first end and a step.
@@ -47,6 +46,17 @@ const fn nearest<N: Copy>(axis: Steps<N>, v: N) -> IndexOf<N> {
 }
 
 const WHOLE: i32 = 1_000_000_000;
+
+#[rustfmt::skip]
+const WHOLES: [i32; 13] = [
+    i32::MIN, -WHOLE - 1, -WHOLE, -15_258, -1, 0, 1, 2, 9, WHOLE - 1, WHOLE, WHOLE + 1, i32::MAX,
+];
+
+#[rustfmt::skip]
+const REALS: [f64; 10] = [
+    0.0, -0.0, f64::NAN, f64::INFINITY, f64::NEG_INFINITY, 1.0, -1.0, 5e-324, f64::MAX,
+    1.0 - f64::EPSILON / 2.0,
+];
 
 impl Numbers for i32 {
     const SIZES: &'static [Size<i32>] = &[Size(steps(0, 10, 5)), Size(steps(0, 10, 10))];
@@ -78,13 +88,7 @@ impl Numbers for i32 {
     const INDICES: &'static [IndexOf<i32>] =
         &[nearest(steps(0, 10, 4), 2), nearest(steps(8, -1, -4), 2)];
     const LINES: [usize; 2] = [85, 15];
-    #[rustfmt::skip]
-    const CORNERS: &'static [i32] = &[
-        i32::MIN, -WHOLE - 1, -WHOLE, -15_258, -1, 0, 1, 2, 9, WHOLE - 1, WHOLE, WHOLE + 1,
-        i32::MAX,
-    ];
-    #[cfg(feature = "library")]
-    const PICKED: &'static [i32] = &SMALL;
+    const PICKED: [&'static [i32]; 2] = [&WHOLES, &SMALL];
 
     fn ends(random: &mut Random) -> (i32, i32) {
         whole_ends(random)
@@ -145,13 +149,7 @@ impl Numbers for f64 {
         nearest(steps(8.0, -1.0, -4.0), 2.0),
     ];
     const LINES: [usize; 2] = [100, 0];
-    #[rustfmt::skip]
-    const CORNERS: &'static [f64] = &[
-        0.0, -0.0, f64::NAN, f64::INFINITY, f64::NEG_INFINITY, 1.0, -1.0, 5e-324, f64::MAX,
-        1.0 - f64::EPSILON / 2.0,
-    ];
-    #[cfg(feature = "library")]
-    const PICKED: &'static [f64] = &SMALL_REALS;
+    const PICKED: [&'static [f64]; 2] = [&REALS, &SMALL_REALS];
 
     fn ends(random: &mut Random) -> (f64, f64) {
         real_ends(random)
@@ -258,14 +256,15 @@ pub fn mark_limit(random: &mut Random, n: u64) -> u32 {
 
 const LIMITS: [i32; 4] = [FILM as i32 + 1, -(FILM as i32), 0, 1_000];
 const INDICES: [u64; 9] = [0, 1, 2, 9, 65_535, 65_536, 1 << 32, 1 << 63, u64::MAX];
+const SMALL_INDICES: [u64; 14] = [0, 1, 2, 3, 4, 5, 6, 7, 8, 9, 10, 11, 12, 13];
 const METHODS: [u32; 6] = [0, 1, 2, 3, 4, u32::MAX];
 
-#[cfg(feature = "library")]
 pub const SMALL_LIMITS: [i32; 4] = [-3, 0, 1, 5];
+pub const SMALL_PIXELS: [i32; 6] = [-3, -1, 0, 1, 2, 5];
 
 /// An axis made of picked numbers.
-pub fn picked<N: Copy>(pick: &mut impl Pick, numbers: &[N]) -> Steps<N> {
-    let [a, b, d] = [(); 3].map(|()| pick.pick(numbers));
+pub fn picked<N: Numbers>(pick: &mut impl Pick) -> Steps<N> {
+    let [a, b, d] = [(); 3].map(|()| pick.pick(N::PICKED));
     steps(a, b, d)
 }
 
@@ -290,13 +289,8 @@ impl<N: Numbers> Cases for Size<N> {
     const WORKED: &'static [Self] = N::SIZES;
     const LINES: [usize; 2] = N::LINES;
 
-    fn corner(pick: &mut impl Pick) -> Self {
-        Size(picked(pick, N::CORNERS))
-    }
-
-    #[cfg(feature = "library")]
-    fn small(pick: &mut impl Pick) -> Self {
-        Size(picked(pick, N::PICKED))
+    fn picked(pick: &mut impl Pick) -> Self {
+        Size(picked(pick))
     }
 
     fn drawn(random: &mut Random) -> Self {
@@ -313,16 +307,9 @@ impl<N: Numbers> Cases for FromIndex<N> {
     const WORKED: &'static [Self] = &[];
     const LINES: [usize; 2] = N::LINES;
 
-    fn corner(pick: &mut impl Pick) -> Self {
-        let k = pick.pick(&INDICES);
-        let axis = picked(pick, N::CORNERS);
-        FromIndex { axis, k }
-    }
-
-    #[cfg(feature = "library")]
-    fn small(pick: &mut impl Pick) -> Self {
-        let k = pick.pick(&[0, 1, 2, 3, 4, 5, 6, 7, 8, 9, 10, 11, 12, 13]);
-        let axis = picked(pick, N::PICKED);
+    fn picked(pick: &mut impl Pick) -> Self {
+        let k = pick.pick([&INDICES, &SMALL_INDICES]);
+        let axis = picked(pick);
         FromIndex { axis, k }
     }
 
@@ -348,16 +335,9 @@ impl<N: Numbers> Cases for IndexOf<N> {
     const WORKED: &'static [Self] = N::INDICES;
     const LINES: [usize; 2] = [85, 15];
 
-    fn corner(pick: &mut impl Pick) -> Self {
-        let (method, v) = (pick.pick(&METHODS), pick.pick(N::CORNERS));
-        let axis = picked(pick, N::CORNERS);
-        IndexOf { axis, v, method }
-    }
-
-    #[cfg(feature = "library")]
-    fn small(pick: &mut impl Pick) -> Self {
-        let (method, v) = (pick.pick(&METHODS), pick.pick(N::PICKED));
-        let axis = picked(pick, N::PICKED);
+    fn picked(pick: &mut impl Pick) -> Self {
+        let (method, v) = (pick.pick([&METHODS; 2]), pick.pick(N::PICKED));
+        let axis = picked(pick);
         IndexOf { axis, v, method }
     }
 
@@ -388,23 +368,14 @@ fn map<N: Copy>(axis: Steps<N>, v: N, (p, q): (i32, i32)) -> Map<N> {
     Map { axis, place }
 }
 
-fn picked_map<N: Copy>(pick: &mut impl Pick, numbers: &[N], limits: &[i32]) -> Map<N> {
-    let film = (pick.pick(limits), pick.pick(limits));
-    let v = pick.pick(numbers);
-    map(picked(pick, numbers), v, film)
-}
-
 impl<N: Numbers> Cases for Map<N> {
     const WORKED: &'static [Self] = &[];
     const LINES: [usize; 2] = [85, 15];
 
-    fn corner(pick: &mut impl Pick) -> Self {
-        picked_map(pick, N::CORNERS, &LIMITS)
-    }
-
-    #[cfg(feature = "library")]
-    fn small(pick: &mut impl Pick) -> Self {
-        picked_map(pick, N::PICKED, &SMALL_LIMITS)
+    fn picked(pick: &mut impl Pick) -> Self {
+        let [p, q] = [(); 2].map(|()| pick.pick([&LIMITS, &SMALL_LIMITS]));
+        let v = pick.pick(N::PICKED);
+        map(picked(pick), v, (p, q))
     }
 
     fn drawn(random: &mut Random) -> Self {
@@ -420,34 +391,19 @@ impl<N: Numbers> Cases for Map<N> {
     }
 }
 
-fn picked_unmap<N: Copy>(pick: &mut impl Pick, numbers: &[N], pixels: &[i32]) -> Unmap<N> {
-    let [x, p, q] = [(); 3].map(|()| pick.pick(pixels));
-    let axis = picked(pick, numbers);
-    Unmap { axis, x, p, q }
-}
-
 impl<N: Numbers> Cases for Unmap<N> {
     const WORKED: &'static [Self] = &[];
     const LINES: [usize; 2] = [85, 15];
 
-    fn corner(pick: &mut impl Pick) -> Self {
-        picked_unmap(pick, N::CORNERS, &LIMITS)
-    }
-
-    #[cfg(feature = "library")]
-    fn small(pick: &mut impl Pick) -> Self {
-        picked_unmap(pick, N::PICKED, &[-3, -1, 0, 1, 2, 5])
+    fn picked(pick: &mut impl Pick) -> Self {
+        let [x, p, q] = [(); 3].map(|()| pick.pick([&LIMITS, &SMALL_PIXELS]));
+        let axis = picked(pick);
+        Unmap { axis, x, p, q }
     }
 
     fn drawn(random: &mut Random) -> Self {
         let (Drawn { axis, n }, (p, q)) = (drawn(random), film(random));
-        let x = match random.below(2) {
-            0 => any_pixel(random, (p, q)),
-            _ => {
-                let part = random.below(n + 2) as f64 / n.max(1) as f64;
-                pixel_at(random, part, (p, q))
-            }
-        };
+        let x = part_or_any(random, n, (p, q));
         Unmap { axis, x, p, q }
     }
 

@@ -2,14 +2,13 @@
 
 use culvraod::linspace::*;
 use culvraod::{Limit, RangedCoordf64, RangedCoordi32, Refusal, RoundingMethod};
-use std::ops::Neg;
 
 use super::calls::{FromIndex, IndexOf, Map, Size, Unmap};
 use super::cases::Numbers;
+use super::kind::Words;
 use super::Steps;
-use crate::beside::{self, Mirrored};
+use crate::beside::{self, Mirrored, Negated};
 use crate::lent::Fill;
-use crate::number::Number;
 use crate::places::Place;
 use crate::search::{chosen, exchanged};
 
@@ -20,16 +19,20 @@ const MIRRORED: usize = 2_000_000;
 /// How many calls are timed.
 const BATCH: usize = 50_000;
 
-/// The names of the calls on one kind of axis.
-pub struct Names {
-    pub values: &'static str,
-    size: &'static str,
-    from_index: &'static str,
-    index_of: &'static str,
-    map: &'static str,
-    unmap: &'static str,
-    pub key_points: &'static str,
+/// The names of the calls on one sort of axis, which begin alike.
+macro_rules! names {
+    ($start:literal) => {
+        $crate::linspace::kind::Words {
+            size: concat!($start, "size"),
+            from_index: concat!($start, "from_index"),
+            index_of: concat!($start, "index_of"),
+            map: concat!($start, "map"),
+            unmap: concat!($start, "unmap"),
+            key_points: concat!($start, "key_points"),
+        }
+    };
 }
+pub(crate) use names;
 
 /// The C functions for one kind of axis.
 pub struct Functions<N> {
@@ -54,103 +57,58 @@ pub struct Safe<A, N> {
 }
 
 /// A kind of stepped axes as culvraod has it.
-pub trait Library: Numbers + Fill + Neg<Output = Self> {
+pub trait Library: Numbers + Fill + Negated {
     type Stepped;
-    const NAMES: Names;
+    const NAMES: Words;
+    /// The name of the call that writes all entries, which segments have not.
+    const VALUES: &'static str;
     const C: Functions<Self>;
     const SAFE: Safe<Self::Stepped, Self>;
 
     fn stepped(axis: Steps<Self>) -> Self::Stepped;
-
-    /// The number negated, if the type can hold it.
-    fn negated(self) -> Option<Self>;
 }
 
-impl Library for i32 {
-    type Stepped = Linspacei32;
-    const NAMES: Names = Names {
-        values: "step_whole_values",
-        size: "step_whole_size",
-        from_index: "step_whole_from_index",
-        index_of: "step_whole_index_of",
-        map: "step_whole_map",
-        unmap: "step_whole_unmap",
-        key_points: "step_whole_key_points",
-    };
-    const C: Functions<i32> = Functions {
-        values: culv_step_whole_values,
-        size: culv_step_whole_size,
-        from_index: culv_step_whole_from_index,
-        index_of: culv_step_whole_index_of,
-        map: culv_step_whole_map,
-        unmap: culv_step_whole_unmap,
-        key_points: culv_step_whole_key_points,
-    };
-    const SAFE: Safe<Linspacei32, i32> = Safe {
-        values: Linspacei32::values,
-        size: Linspacei32::size,
-        from_index: Linspacei32::from_index,
-        index_of: Linspacei32::index_of,
-        map: Linspacei32::map,
-        unmap: Linspacei32::unmap,
-        key_points: Linspacei32::key_points,
-    };
+/// A kind: its numbers, its axis with and without a step, how the names of its calls begin, and
+/// the C function of each call.
+macro_rules! kind {
+    (
+        $number:ident, $axis:ident, $ends:ident, $start:literal, $($call:ident: $function:ident),*
+    ) => {
+        impl Library for $number {
+            type Stepped = $axis;
+            const NAMES: Words = names!($start);
+            const VALUES: &'static str = concat!($start, "values");
+            const C: Functions<$number> = Functions { $($call: $function),* };
+            const SAFE: Safe<$axis, $number> = Safe { $($call: $axis::$call),* };
 
-    fn stepped(Steps { a, b, d }: Steps<i32>) -> Linspacei32 {
-        RangedCoordi32(a, b).step(d)
-    }
-
-    fn negated(self) -> Option<i32> {
-        self.checked_neg()
-    }
+            fn stepped(Steps { a, b, d }: Steps<$number>) -> $axis {
+                $ends(a, b).step(d)
+            }
+        }
+    };
 }
 
-impl Library for f64 {
-    type Stepped = Linspacef64;
-    const NAMES: Names = Names {
-        values: "step_real_values",
-        size: "step_real_size",
-        from_index: "step_real_from_index",
-        index_of: "step_real_index_of",
-        map: "step_real_map",
-        unmap: "step_real_unmap",
-        key_points: "step_real_key_points",
-    };
-    const C: Functions<f64> = Functions {
-        values: culv_step_real_values,
-        size: culv_step_real_size,
-        from_index: culv_step_real_from_index,
-        index_of: culv_step_real_index_of,
-        map: culv_step_real_map,
-        unmap: culv_step_real_unmap,
-        key_points: culv_step_real_key_points,
-    };
-    const SAFE: Safe<Linspacef64, f64> = Safe {
-        values: Linspacef64::values,
-        size: Linspacef64::size,
-        from_index: Linspacef64::from_index,
-        index_of: Linspacef64::index_of,
-        map: Linspacef64::map,
-        unmap: Linspacef64::unmap,
-        key_points: Linspacef64::key_points,
-    };
+kind!(
+    i32, Linspacei32, RangedCoordi32, "step_whole_",
+    values: culv_step_whole_values, size: culv_step_whole_size,
+    from_index: culv_step_whole_from_index, index_of: culv_step_whole_index_of,
+    map: culv_step_whole_map, unmap: culv_step_whole_unmap, key_points: culv_step_whole_key_points
+);
+kind!(
+    f64, Linspacef64, RangedCoordf64, "step_real_",
+    values: culv_step_real_values, size: culv_step_real_size,
+    from_index: culv_step_real_from_index, index_of: culv_step_real_index_of,
+    map: culv_step_real_map, unmap: culv_step_real_unmap, key_points: culv_step_real_key_points
+);
 
-    fn stepped(Steps { a, b, d }: Steps<f64>) -> Linspacef64 {
-        RangedCoordf64(a, b).step(d)
+impl<N: Negated> Negated for Steps<N> {
+    fn negated(self) -> Option<Steps<N>> {
+        Some(Steps {
+            a: self.a.negated()?,
+            b: self.b.negated()?,
+            d: self.d.negated()?,
+        })
     }
-
-    fn negated(self) -> Option<f64> {
-        Some(-self)
-    }
-}
-
-/// The mirrored axis, if the type can hold it.
-pub fn mirror<N: Library>(Steps { a, b, d }: Steps<N>) -> Option<Steps<N>> {
-    Some(Steps {
-        a: a.negated()?,
-        b: b.negated()?,
-        d: d.negated()?,
-    })
 }
 
 impl<N: Library> beside::Library for Size<N> {
@@ -170,13 +128,10 @@ impl<N: Library> beside::Library for Size<N> {
 
 impl<N: Library> Mirrored for Size<N> {
     const MIRRORED: usize = MIRRORED;
+    const SAME: bool = true;
 
     fn mirror(self) -> Option<Self> {
-        mirror(self.0).map(Size)
-    }
-
-    fn agree(one: Number, other: Number) -> bool {
-        one == other
+        self.0.negated().map(Size)
     }
 }
 
@@ -199,7 +154,7 @@ impl<N: Library> Mirrored for FromIndex<N> {
     const MIRRORED: usize = MIRRORED;
 
     fn mirror(self) -> Option<Self> {
-        let axis = mirror(self.axis)?;
+        let axis = self.axis.negated()?;
         Some(FromIndex { axis, ..self })
     }
 }
@@ -222,17 +177,14 @@ impl<N: Library> beside::Library for IndexOf<N> {
 
 impl<N: Library> Mirrored for IndexOf<N> {
     const MIRRORED: usize = MIRRORED;
+    const SAME: bool = true;
 
     fn mirror(self) -> Option<Self> {
         Some(IndexOf {
-            axis: mirror(self.axis)?,
+            axis: self.axis.negated()?,
             v: self.v.negated()?,
             method: exchanged(self.method),
         })
-    }
-
-    fn agree(one: Number, other: Number) -> bool {
-        one == other
     }
 }
 
@@ -256,14 +208,7 @@ impl<N: Library> Mirrored for Map<N> {
     const MIRRORED: usize = MIRRORED;
 
     fn mirror(self) -> Option<Self> {
-        let axis = mirror(self.axis)?;
-        let place = Place {
-            a: axis.a,
-            b: axis.b,
-            v: self.place.v.negated()?,
-            p: self.place.p.checked_neg()?,
-            q: self.place.q.checked_neg()?,
-        };
+        let (axis, place) = (self.axis.negated()?, self.place.negated()?);
         Some(Map { axis, place })
     }
 }

@@ -40,7 +40,7 @@ impl<N: Kind> Writes for Listing<N> {
     fn keyword(self) -> &'static str {
         match self.m {
             None => N::LIST,
-            Some(_) => N::WORDS.marks,
+            Some(_) => N::WORDS.key_points,
         }
     }
 
@@ -83,7 +83,7 @@ pub const LIMITS: [u32; 6] = [0, 1, 2, 5, 10, u32::MAX];
 /// A random axis, of numbers at the edges at times, and a mark limit.
 fn any<N: Numbers>(random: &mut Random) -> (Steps<N>, u32) {
     if random.below(3) == 0 {
-        return (picked(random, N::CORNERS), random.pick(&LIMITS));
+        return (picked(random), random.pick(&LIMITS));
     }
     let Drawn { axis, n } = drawn(random);
     (axis, mark_limit(random, n))

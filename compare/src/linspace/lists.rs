@@ -3,9 +3,10 @@
 use culvraod::Refusal;
 
 use super::cases::{drawn, mark_limit, picked, Drawn};
-use super::library::{mirror, Library};
+use super::library::Library;
 use super::listing::Listing;
 use super::Steps;
+use crate::beside::Negated;
 use crate::cases::all;
 use crate::lends::{self, Lends};
 use crate::random::Random;
@@ -18,7 +19,7 @@ const LIMITS: [u32; 6] = [0, 1, 2, 3, 10, u32::MAX];
 
 impl<N: Library> Listing<N> {
     fn mirror(self) -> Option<Listing<N>> {
-        let axis = mirror(self.axis)?;
+        let axis = self.axis.negated()?;
         Some(Listing { axis, ..self })
     }
 }
@@ -62,7 +63,7 @@ impl Call {
             axis,
             m: marks.then_some(m),
         };
-        let axes = all(|pick| picked(pick, N::CORNERS)).chain(all(|pick| picked(pick, N::PICKED)));
+        let axes = all(|pick| picked(pick));
         let picked = axes.flat_map(move |axis| limits.iter().map(move |&m| listing(axis, m)));
         let mut random = Random::new();
         let drawn = (0..count).map(move |_| {
@@ -81,7 +82,7 @@ impl Call {
 
 pub fn compare<N: Library>() -> bool {
     let values = Call {
-        name: N::NAMES.values,
+        name: N::VALUES,
         marks: false,
     };
     let key_points = Call {

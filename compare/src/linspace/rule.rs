@@ -3,11 +3,11 @@
 use std::iter::successors;
 
 use super::calls::{FromIndex, IndexOf, Map, Unmap};
-use super::kind::Kind;
 use super::Steps;
 use crate::admitted;
 use crate::call::Answer;
 use crate::entry::Entry;
+use crate::places::rule as places;
 use crate::readings::rule::index;
 use crate::search::rule as search;
 
@@ -65,9 +65,9 @@ pub fn index_of<N: Entry>(IndexOf { axis, v, method }: IndexOf<N>) -> Answer<u64
     search::index(&list(axis)?, v, method)
 }
 
-pub fn map<N: Kind>(Map { axis, place }: Map<N>) -> Answer<i32> {
+pub fn map<N: Entry>(Map { axis, place }: Map<N>) -> Answer<i32> {
     admitted(axis)?;
-    let place = N::place(place)?;
+    let place = places::place(place)?;
     count(axis).map(|_| place)
 }
 

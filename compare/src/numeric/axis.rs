@@ -117,48 +117,37 @@ mod library {
         ) -> i32;
     }
 
-    impl Library for Whole {
-        const CALL: &'static str = "whole_key_points";
+    /// An axis, its numbers, culvraod's axis, the call, and its C function, which has the numbers
+    /// as `$c`, of the same size.
+    macro_rules! library {
+        ($axis:ident, $number:ident, $safe:ident, $call:literal, $function:ident of $c:ident) => {
+            impl Library for $axis {
+                const CALL: &'static str = $call;
 
-        fn key_points(a: i32, b: i32, m: u32, out: &mut [i32]) -> Result<KeyPoints<i32>, Refusal> {
-            RangedCoordi32(a, b).key_points(m, out)
-        }
+                fn key_points(
+                    a: $number,
+                    b: $number,
+                    m: u32,
+                    out: &mut [$number],
+                ) -> Result<KeyPoints<$number>, Refusal> {
+                    $safe(a, b).key_points(m, out)
+                }
 
-        unsafe fn function(
-            a: i32,
-            b: i32,
-            m: u32,
-            out: *mut i32,
-            len: usize,
-            step: *mut i32,
-            count: *mut usize,
-        ) -> i32 {
-            culv_whole_key_points(a, b, m, out, len, step, count)
-        }
+                unsafe fn function(
+                    a: $number,
+                    b: $number,
+                    m: u32,
+                    out: *mut $number,
+                    len: usize,
+                    step: *mut $number,
+                    count: *mut usize,
+                ) -> i32 {
+                    $function(a as $c, b as $c, m, out.cast(), len, step.cast(), count)
+                }
+            }
+        };
     }
 
-    impl Library for Index {
-        const CALL: &'static str = "index_key_points";
-
-        fn key_points(
-            a: usize,
-            b: usize,
-            m: u32,
-            out: &mut [usize],
-        ) -> Result<KeyPoints<usize>, Refusal> {
-            RangedCoordusize(a, b).key_points(m, out)
-        }
-
-        unsafe fn function(
-            a: usize,
-            b: usize,
-            m: u32,
-            out: *mut usize,
-            len: usize,
-            step: *mut usize,
-            count: *mut usize,
-        ) -> i32 {
-            culv_index_key_points(a as u64, b as u64, m, out.cast(), len, step.cast(), count)
-        }
-    }
+    library!(Whole, i32, RangedCoordi32, "whole_key_points", culv_whole_key_points of i32);
+    library!(Index, usize, RangedCoordusize, "index_key_points", culv_index_key_points of u64);
 }

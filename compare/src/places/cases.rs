@@ -3,20 +3,20 @@
 use super::Place;
 use crate::admitted::BOUND;
 use crate::cases::{film, held, nudged, real, real_ends, whole, whole_ends};
-use crate::cases::{Cases, Pick, PIXELS, REALS, WHOLES};
+use crate::cases::{Cases, Pick, PIXELS, REALS, SMALL, SMALL_REALS, WHOLES};
 use crate::random::Random;
 
 #[cfg(feature = "library")]
-use crate::cases::{ordinary, SMALL, SMALL_REALS};
+use crate::cases::ordinary;
 
 const fn place<N: Copy>(a: N, b: N, v: N, p: i32, q: i32) -> Place<N> {
     Place { a, b, v, p, q }
 }
 
 /// A place made of picked numbers.
-fn picked<N: Copy>(pick: &mut impl Pick, values: &[N], limits: &[i32]) -> Place<N> {
+fn picked<N: Copy>(pick: &mut impl Pick, values: [&[N]; 2]) -> Place<N> {
     let [a, b, v] = [(); 3].map(|()| pick.pick(values));
-    let [p, q] = [(); 2].map(|()| pick.pick(limits));
+    let [p, q] = [(); 2].map(|()| pick.pick([&PIXELS, &SMALL]));
     place(a, b, v, p, q)
 }
 
@@ -40,13 +40,8 @@ fn value_at(distance: f64, length: f64, a: f64, b: f64) -> f64 {
 impl Cases for Place<i32> {
     const WORKED: &'static [Self] = &[place(7, 7, 7, 100, 300)];
 
-    fn corner(pick: &mut impl Pick) -> Self {
-        picked(pick, &WHOLES, &PIXELS)
-    }
-
-    #[cfg(feature = "library")]
-    fn small(pick: &mut impl Pick) -> Self {
-        picked(pick, &SMALL, &SMALL)
+    fn picked(pick: &mut impl Pick) -> Self {
+        picked(pick, [&WHOLES, &SMALL])
     }
 
     fn drawn(random: &mut Random) -> Self {
@@ -75,13 +70,8 @@ impl Cases for Place<i32> {
 impl Cases for Place<f64> {
     const WORKED: &'static [Self] = &[place(7.0, 7.0, 7.0, 100, 300)];
 
-    fn corner(pick: &mut impl Pick) -> Self {
-        picked(pick, &REALS, &PIXELS)
-    }
-
-    #[cfg(feature = "library")]
-    fn small(pick: &mut impl Pick) -> Self {
-        picked(pick, &SMALL_REALS, &SMALL)
+    fn picked(pick: &mut impl Pick) -> Self {
+        picked(pick, [&REALS, &SMALL_REALS])
     }
 
     fn drawn(random: &mut Random) -> Self {

@@ -1,60 +1,39 @@
 //! Places of culvraod.
 
 use culvraod::places::{culv_real_map, culv_whole_map};
-use culvraod::{Limit, RangedCoordf64, RangedCoordi32, Refusal};
+use culvraod::{Limit, RangedCoordf64, RangedCoordi32};
 
 use super::Place;
-use crate::beside::{self, Library, Mirrored};
+use crate::beside::{self, library, Library, Mirrored, Negated};
+use crate::cases::Cases;
 
-impl Library for Place<i32> {
-    const CALL: &'static str = "whole_map";
+library!(
+    Place<i32> { a, b, v, p, q } -> i32, "whole_map", culv_whole_map,
+    RangedCoordi32(a, b).map(v, Limit(p, q)).map(Some)
+);
+library!(
+    Place<f64> { a, b, v, p, q } -> i32, "real_map", culv_real_map,
+    RangedCoordf64(a, b).map(v, Limit(p, q)).map(Some)
+);
 
-    fn safe(self) -> Result<Option<i32>, Refusal> {
-        let Place { a, b, v, p, q } = self;
-        RangedCoordi32(a, b).map(v, Limit(p, q)).map(Some)
-    }
-
-    unsafe fn function(self, out: *mut i32) -> i32 {
-        let Place { a, b, v, p, q } = self;
-        culv_whole_map(a, b, v, p, q, out)
-    }
-}
-
-impl Library for Place<f64> {
-    const CALL: &'static str = "real_map";
-
-    fn safe(self) -> Result<Option<i32>, Refusal> {
-        let Place { a, b, v, p, q } = self;
-        RangedCoordf64(a, b).map(v, Limit(p, q)).map(Some)
-    }
-
-    unsafe fn function(self, out: *mut i32) -> i32 {
-        let Place { a, b, v, p, q } = self;
-        culv_real_map(a, b, v, p, q, out)
-    }
-}
-
-impl Mirrored for Place<i32> {
-    fn mirror(self) -> Option<Self> {
+impl<N: Negated> Negated for Place<N> {
+    fn negated(self) -> Option<Self> {
         Some(Place {
-            a: self.a.checked_neg()?,
-            b: self.b.checked_neg()?,
-            v: self.v.checked_neg()?,
-            p: self.p.checked_neg()?,
-            q: self.q.checked_neg()?,
+            a: self.a.negated()?,
+            b: self.b.negated()?,
+            v: self.v.negated()?,
+            p: self.p.negated()?,
+            q: self.q.negated()?,
         })
     }
 }
 
-impl Mirrored for Place<f64> {
+impl<N: Negated> Mirrored for Place<N>
+where
+    Place<N>: Library + Cases,
+{
     fn mirror(self) -> Option<Self> {
-        Some(Place {
-            a: -self.a,
-            b: -self.b,
-            v: -self.v,
-            p: self.p.checked_neg()?,
-            q: self.q.checked_neg()?,
-        })
+        self.negated()
     }
 }
 

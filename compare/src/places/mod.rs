@@ -10,9 +10,8 @@ use plotters::coord::ranged1d::Ranged;
 use plotters::coord::{RangedCoordf64, RangedCoordi32};
 
 use crate::admitted::BOUND;
-use crate::call::{Answer, Call};
+use crate::call::call;
 use crate::lines;
-use crate::number::Number;
 
 #[cfg(feature = "library")]
 pub use library::{bench, compare};
@@ -27,19 +26,7 @@ pub struct Place<N> {
     pub q: i32,
 }
 
-impl<N: Into<Number>> Place<N> {
-    fn named(self) -> [(&'static str, Number); 5] {
-        let Place { a, b, v, p, q } = self;
-        let (a, b, v) = (a.into(), b.into(), v.into());
-        [
-            ("a", a),
-            ("b", b),
-            ("v", v),
-            ("p", p.into()),
-            ("q", q.into()),
-        ]
-    }
-
+impl<N> Place<N> {
     /// Whether plotters panics, or gives a pixel further from p than the rule allows.
     pub fn goes_too_far(self, plotters: Option<Option<i32>>) -> bool {
         let distance = |pixel: i32| (i64::from(pixel) - i64::from(self.p)).abs();
@@ -49,47 +36,14 @@ impl<N: Into<Number>> Place<N> {
     }
 }
 
-impl Call for Place<i32> {
-    type Number = i32;
-    const KEYWORD: &'static str = "wmap";
-
-    fn fields(self) -> impl Iterator<Item = (&'static str, Number)> {
-        self.named().into_iter()
-    }
-
-    fn rule(self) -> Answer<i32> {
-        rule::whole(self)
-    }
-
-    fn plotters(self) -> Option<i32> {
-        Some(RangedCoordi32::from(self.a..self.b).map(&self.v, (self.p, self.q)))
-    }
-
-    fn may_give(self, plotters: Option<Option<i32>>) -> bool {
-        self.goes_too_far(plotters)
-    }
-}
-
-impl Call for Place<f64> {
-    type Number = i32;
-    const KEYWORD: &'static str = "rmap";
-
-    fn fields(self) -> impl Iterator<Item = (&'static str, Number)> {
-        self.named().into_iter()
-    }
-
-    fn rule(self) -> Answer<i32> {
-        rule::real(self)
-    }
-
-    fn plotters(self) -> Option<i32> {
-        Some(RangedCoordf64::from(self.a..self.b).map(&self.v, (self.p, self.q)))
-    }
-
-    fn may_give(self, plotters: Option<Option<i32>>) -> bool {
-        self.goes_too_far(plotters)
-    }
-}
+call!(
+    Place<i32> { a, b, v, p, q } -> i32, "wmap", rule::place,
+    Some(RangedCoordi32::from(a..b).map(&v, (p, q))), may give Place::goes_too_far
+);
+call!(
+    Place<f64> { a, b, v, p, q } -> i32, "rmap", rule::place,
+    Some(RangedCoordf64::from(a..b).map(&v, (p, q))), may give Place::goes_too_far
+);
 
 pub fn vectors() {
     lines::print::<Place<i32>>(3);

@@ -3,6 +3,7 @@
 use super::Place;
 use crate::admitted::{self, BOUND};
 use crate::call::Answer;
+use crate::entry::Entry;
 
 /// The greatest whole number that is not above it; far out, any number far out.
 fn floor(x: f64) -> i128 {
@@ -18,9 +19,11 @@ fn ceil(x: f64) -> i128 {
     -floor(-x)
 }
 
-fn place(equal_ends: bool, t: f64, p: i32, q: i32) -> Answer<i32> {
-    let length = q - p;
-    if equal_ends {
+pub fn place<N: Entry>(Place { a, b, v, p, q }: Place<N>) -> Answer<i32> {
+    N::admitted(&[a, b, v])?;
+    admitted::film([p, q])?;
+    let (length, t) = (q - p, v.above(a) / b.above(a));
+    if a == b {
         return Ok(Some(length / 2));
     }
     if length == 0 || t == f64::INFINITY {
@@ -39,17 +42,4 @@ fn place(equal_ends: bool, t: f64, p: i32, q: i32) -> Answer<i32> {
         return Err(5);
     }
     Ok(Some(p + added as i32))
-}
-
-pub fn whole(input: Place<i32>) -> Answer<i32> {
-    let Place { a, b, v, p, q } = input;
-    admitted::whole([a, b, v])?;
-    admitted::film([p, q])?;
-    place(a == b, f64::from(v - a) / f64::from(b - a), p, q)
-}
-
-pub fn real(input: Place<f64>) -> Answer<i32> {
-    let Place { a, b, v, p, q } = input;
-    admitted::film([p, q])?;
-    place(a == b, (v - a) / (b - a), p, q)
 }

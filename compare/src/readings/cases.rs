@@ -2,30 +2,30 @@
 
 use super::Reading;
 use crate::cases::{film, held, pixel, real_ends, whole, whole_ends};
-use crate::cases::{Cases, Pick, PIXELS, REALS, WHOLES};
+use crate::cases::{Cases, Pick, PIXELS, REALS, SMALL, SMALL_REALS, WHOLES};
 use crate::random::Random;
 
 #[cfg(feature = "library")]
-use crate::cases::{ordinary, SMALL, SMALL_REALS};
+use crate::cases::ordinary;
 
 const fn reading<N: Copy>(a: N, b: N, x: i32, p: i32, q: i32) -> Reading<N> {
     Reading { a, b, x, p, q }
 }
 
 /// A reading made of picked numbers.
-fn picked<N: Copy>(pick: &mut impl Pick, ends: &[N], pixels: &[i32]) -> Reading<N> {
+fn picked<N: Copy>(pick: &mut impl Pick, ends: [&[N]; 2]) -> Reading<N> {
     let [a, b] = [(); 2].map(|()| pick.pick(ends));
-    let [x, p, q] = [(); 3].map(|()| pick.pick(pixels));
+    let [x, p, q] = [(); 3].map(|()| pick.pick([&PIXELS, &SMALL]));
     reading(a, b, x, p, q)
 }
 
 /// A pixel at such a part of the way from p to q, or beside it.
-pub fn pixel_at(random: &mut Random, part: f64, (p, q): (i32, i32)) -> i32 {
+fn pixel_at(random: &mut Random, part: f64, (p, q): (i32, i32)) -> i32 {
     let at = f64::from(p) + part * (f64::from(q) - f64::from(p));
     (at.round() as i32).saturating_add(random.pick(&[0, 0, 1, -1]))
 }
 
-pub fn any_pixel(random: &mut Random, limits: (i32, i32)) -> i32 {
+fn any_pixel(random: &mut Random, limits: (i32, i32)) -> i32 {
     let part = match random.below(8) {
         0 => return pixel(random),
         1 => 0.0,
@@ -33,6 +33,15 @@ pub fn any_pixel(random: &mut Random, limits: (i32, i32)) -> i32 {
         3 => 4.0 * random.unit() - 1.5,
         _ => random.unit(),
     };
+    pixel_at(random, part, limits)
+}
+
+/// A pixel where one of n parts of the film begins, or any.
+pub fn part_or_any(random: &mut Random, n: u64, limits: (i32, i32)) -> i32 {
+    if random.below(2) == 0 {
+        return any_pixel(random, limits);
+    }
+    let part = random.below(n + 2) as f64 / n.max(1) as f64;
     pixel_at(random, part, limits)
 }
 
@@ -63,13 +72,8 @@ impl Cases for Reading<i32> {
         reading(9, 0, 50, 0, 100),
     ];
 
-    fn corner(pick: &mut impl Pick) -> Self {
-        picked(pick, &WHOLES, &PIXELS)
-    }
-
-    #[cfg(feature = "library")]
-    fn small(pick: &mut impl Pick) -> Self {
-        picked(pick, &SMALL, &SMALL)
+    fn picked(pick: &mut impl Pick) -> Self {
+        picked(pick, [&WHOLES, &SMALL])
     }
 
     fn drawn(random: &mut Random) -> Self {
@@ -94,13 +98,8 @@ impl Cases for Reading<i32> {
 impl Cases for Reading<f64> {
     const WORKED: &'static [Self] = &[reading(0.0, 49.0, 1, 0, 49)];
 
-    fn corner(pick: &mut impl Pick) -> Self {
-        picked(pick, &REALS, &PIXELS)
-    }
-
-    #[cfg(feature = "library")]
-    fn small(pick: &mut impl Pick) -> Self {
-        picked(pick, &SMALL_REALS, &SMALL)
+    fn picked(pick: &mut impl Pick) -> Self {
+        picked(pick, [&REALS, &SMALL_REALS])
     }
 
     fn drawn(random: &mut Random) -> Self {

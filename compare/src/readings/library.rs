@@ -1,38 +1,19 @@
 //! Readings of culvraod.
 
 use culvraod::readings::{culv_real_unmap, culv_whole_unmap};
-use culvraod::{Limit, RangedCoordf64, RangedCoordi32, Refusal};
+use culvraod::{Limit, RangedCoordf64, RangedCoordi32};
 
 use super::Reading;
-use crate::beside::{self, Library, Mirrored};
+use crate::beside::{self, library, Mirrored};
 
-impl Library for Reading<i32> {
-    const CALL: &'static str = "whole_unmap";
-
-    fn safe(self) -> Result<Option<i32>, Refusal> {
-        let Reading { a, b, x, p, q } = self;
-        RangedCoordi32(a, b).unmap(x, Limit(p, q))
-    }
-
-    unsafe fn function(self, out: *mut i32) -> i32 {
-        let Reading { a, b, x, p, q } = self;
-        culv_whole_unmap(a, b, x, p, q, out)
-    }
-}
-
-impl Library for Reading<f64> {
-    const CALL: &'static str = "real_unmap";
-
-    fn safe(self) -> Result<Option<f64>, Refusal> {
-        let Reading { a, b, x, p, q } = self;
-        RangedCoordf64(a, b).unmap(x, Limit(p, q))
-    }
-
-    unsafe fn function(self, out: *mut f64) -> i32 {
-        let Reading { a, b, x, p, q } = self;
-        culv_real_unmap(a, b, x, p, q, out)
-    }
-}
+library!(
+    Reading<i32> { a, b, x, p, q } -> i32, "whole_unmap", culv_whole_unmap,
+    RangedCoordi32(a, b).unmap(x, Limit(p, q))
+);
+library!(
+    Reading<f64> { a, b, x, p, q } -> f64, "real_unmap", culv_real_unmap,
+    RangedCoordf64(a, b).unmap(x, Limit(p, q))
+);
 
 impl Mirrored for Reading<f64> {
     fn mirror(self) -> Option<Self> {

@@ -9,9 +9,8 @@ mod library;
 use plotters::coord::ranged1d::ReversibleRanged;
 use plotters::coord::{RangedCoordf64, RangedCoordi32};
 
-use crate::call::{Answer, Call};
+use crate::call::call;
 use crate::lines;
-use crate::number::Number;
 
 #[cfg(feature = "library")]
 pub use library::{bench, compare};
@@ -26,53 +25,14 @@ pub struct Reading<N> {
     q: i32,
 }
 
-impl<N: Into<Number>> Reading<N> {
-    fn named(self) -> [(&'static str, Number); 5] {
-        let Reading { a, b, x, p, q } = self;
-        let (x, p, q) = (x.into(), p.into(), q.into());
-        [
-            ("a", a.into()),
-            ("b", b.into()),
-            ("x", x),
-            ("p", p),
-            ("q", q),
-        ]
-    }
-}
-
-impl Call for Reading<i32> {
-    type Number = i32;
-    const KEYWORD: &'static str = "unmap";
-
-    fn fields(self) -> impl Iterator<Item = (&'static str, Number)> {
-        self.named().into_iter()
-    }
-
-    fn rule(self) -> Answer<i32> {
-        rule::whole(self)
-    }
-
-    fn plotters(self) -> Option<i32> {
-        RangedCoordi32::from(self.a..self.b).unmap(self.x, (self.p, self.q))
-    }
-}
-
-impl Call for Reading<f64> {
-    type Number = f64;
-    const KEYWORD: &'static str = "runmap";
-
-    fn fields(self) -> impl Iterator<Item = (&'static str, Number)> {
-        self.named().into_iter()
-    }
-
-    fn rule(self) -> Answer<f64> {
-        rule::real(self)
-    }
-
-    fn plotters(self) -> Option<f64> {
-        RangedCoordf64::from(self.a..self.b).unmap(self.x, (self.p, self.q))
-    }
-}
+call!(
+    Reading<i32> { a, b, x, p, q } -> i32, "unmap", rule::whole,
+    RangedCoordi32::from(a..b).unmap(x, (p, q))
+);
+call!(
+    Reading<f64> { a, b, x, p, q } -> f64, "runmap", rule::real,
+    RangedCoordf64::from(a..b).unmap(x, (p, q))
+);
 
 pub fn vectors() {
     lines::print::<Reading<i32>>(8);

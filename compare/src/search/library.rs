@@ -3,12 +3,11 @@
 use culvraod::search::{culv_search_real, culv_search_whole};
 use culvraod::{search_real, search_whole, Refusal, RoundingMethod};
 use std::hint::black_box;
-use std::ops::Neg;
 
 use super::cases::{self, Lists};
 use super::rule::{DOWN, EXACT, NEAREST, UP};
 use super::Search;
-use crate::beside::{self, check, size, timed, told, Library as _};
+use crate::beside::{self, check, size, timed, told, Library as _, Negated};
 use crate::call::{Call, Shown};
 use crate::lent::{Fill, Lent};
 use crate::random::Random;
@@ -22,37 +21,26 @@ const TARGETS: usize = 2;
 /// Every method, and some numbers that are none.
 const METHODS: [u32; 6] = [EXACT, UP, DOWN, NEAREST, NEAREST + 1, u32::MAX];
 
-/// The searches of a kind of list: the safe one, and the C function itself.
-trait Library: Lists + Fill + Neg<Output = Self> {
-    const CALL: &'static str;
-    #[allow(clippy::type_complexity)]
-    const SAFE: fn(&[Self], Self, RoundingMethod) -> Result<Option<u64>, Refusal>;
-    const FUNCTION: unsafe extern "C" fn(*const Self, usize, Self, u32, *mut u64) -> i32;
+type Safe<N> = fn(&[N], N, RoundingMethod) -> Result<Option<u64>, Refusal>;
+type Function<N> = unsafe extern "C" fn(*const N, usize, N, u32, *mut u64) -> i32;
 
-    /// Whether the type can hold the negated number.
-    fn negatable(self) -> bool;
+/// The searches of a kind of list: the safe one, and the C function itself.
+trait Library: Lists + Fill + Negated {
+    const CALL: &'static str;
+    const SAFE: Safe<Self>;
+    const FUNCTION: Function<Self>;
 }
 
 impl Library for i32 {
     const CALL: &'static str = "search_whole";
-    const SAFE: fn(&[i32], i32, RoundingMethod) -> Result<Option<u64>, Refusal> = search_whole;
-    const FUNCTION: unsafe extern "C" fn(*const i32, usize, i32, u32, *mut u64) -> i32 =
-        culv_search_whole;
-
-    fn negatable(self) -> bool {
-        self != i32::MIN
-    }
+    const SAFE: Safe<i32> = search_whole;
+    const FUNCTION: Function<i32> = culv_search_whole;
 }
 
 impl Library for f64 {
     const CALL: &'static str = "search_real";
-    const SAFE: fn(&[f64], f64, RoundingMethod) -> Result<Option<u64>, Refusal> = search_real;
-    const FUNCTION: unsafe extern "C" fn(*const f64, usize, f64, u32, *mut u64) -> i32 =
-        culv_search_real;
-
-    fn negatable(self) -> bool {
-        true
-    }
+    const SAFE: Safe<f64> = search_real;
+    const FUNCTION: Function<f64> = culv_search_real;
 }
 
 /// The method with this number; where there is none, what C refuses it with.
@@ -89,10 +77,10 @@ impl<N: Library> beside::Library for Search<'_, N> {
 }
 
 /// The same search of the mirrored list for the mirrored target.
-fn check_mirror<N: Library>(search: Search<N>, mirror: &[N]) -> Result<(), String> {
+fn check_mirror<N: Library>(search: Search<N>, list: &[N], target: N) -> Result<(), String> {
     let mirror = Search {
-        list: mirror,
-        target: -search.target,
+        list,
+        target,
         method: exchanged(search.method),
     };
     let (one, other) = (told(search.safe()), told(mirror.safe()));
@@ -120,9 +108,7 @@ impl<N: Library> Run<N> {
     fn list(&mut self, list: &[N], targets: &[N]) {
         self.lent.refill(list.len());
         self.lent.list().copy_from_slice(list);
-        let negatable = |numbers: &[N]| numbers.iter().all(|&n| n.negatable());
-        let mirror: Option<Vec<N>> =
-            negatable(list).then(|| list.iter().map(|&entry| -entry).collect());
+        let mirror: Option<Vec<N>> = list.iter().map(|entry| entry.negated()).collect();
         for (&target, method) in targets.iter().flat_map(|t| METHODS.map(|m| (t, m))) {
             let search = Search {
                 list: self.lent.entries(),
@@ -132,8 +118,8 @@ impl<N: Library> Run<N> {
             let found = check(search, &mut self.index)
                 .and_then(|()| ensure(self.lent.holds(list), || "the list was written to".into()));
             self.tally.count(size(search), Shown(search), found);
-            if let (Some(mirror), true) = (&mirror, target.negatable()) {
-                let found = check_mirror(search, mirror);
+            if let (Some(mirror), Some(target)) = (&mirror, target.negated()) {
+                let found = check_mirror(search, mirror, target);
                 self.mirrored.count(size(search), Shown(search), found);
             }
         }

@@ -9,7 +9,7 @@ use crate::admitted;
 use crate::call::Answer;
 use crate::counts::rule as counts;
 use crate::entry::Entry;
-use crate::linspace::kind::{Kind, Words};
+use crate::linspace::kind::{words, Kind, Words};
 use crate::linspace::{rule as stepped, Steps};
 use crate::number::Number;
 use crate::places::{rule as places, Place};
@@ -67,14 +67,7 @@ impl Axis for Whole {
     type Number = i32;
     type Method = ();
     type Segments = SegmentedCoord<RangedCoordi32>;
-    const WORDS: Words = Words {
-        size: "segsize",
-        at: "segat",
-        index: "segidx",
-        map: "segmap",
-        unmap: "segread",
-        marks: "segmarks",
-    };
+    const WORDS: Words = words!("seg");
     const MOST: u64 = 16_777_216;
 
     fn named(self) -> Vec<(&'static str, Number)> {
@@ -96,7 +89,7 @@ impl Axis for Whole {
 
     fn place(self, v: i32, (p, q): (i32, i32)) -> Answer<i32> {
         let Whole { a, b } = self;
-        places::whole(Place { a, b, v, p, q })
+        places::place(Place { a, b, v, p, q })
     }
 
     fn method_named(_: ()) -> Option<(&'static str, Number)> {
@@ -133,30 +126,16 @@ impl Axis for Whole {
 }
 
 /// The words by which the list of answers knows segments over stepped axes.
-pub trait Worded: Kind<Axis: 'static> {
+pub trait Worded: Kind {
     const SEGMENT_WORDS: Words;
 }
 
 impl Worded for i32 {
-    const SEGMENT_WORDS: Words = Words {
-        size: "wsegsize",
-        at: "wsegat",
-        index: "wsegidx",
-        map: "wsegmap",
-        unmap: "wsegread",
-        marks: "wsegmarks",
-    };
+    const SEGMENT_WORDS: Words = words!("wseg");
 }
 
 impl Worded for f64 {
-    const SEGMENT_WORDS: Words = Words {
-        size: "rsegsize",
-        at: "rsegat",
-        index: "rsegidx",
-        map: "rsegmap",
-        unmap: "rsegread",
-        marks: "rsegmarks",
-    };
+    const SEGMENT_WORDS: Words = words!("rseg");
 }
 
 impl<N: Worded> Axis for Steps<N> {
@@ -184,7 +163,7 @@ impl<N: Worded> Axis for Steps<N> {
 
     fn place(self, v: N, (p, q): (i32, i32)) -> Answer<i32> {
         let Steps { a, b, .. } = self;
-        N::place(Place { a, b, v, p, q })
+        places::place(Place { a, b, v, p, q })
     }
 
     fn method_named(method: u32) -> Option<(&'static str, Number)> {

@@ -26,12 +26,10 @@ pub struct IndexOf<A: Axis> {
     pub value: Value<A::Number>,
 }
 
-/// A value, and the limits of the film.
+/// A value that is searched for, and the limits of the film.
 #[derive(Clone, Copy)]
 pub struct Map<A: Axis> {
-    pub axis: A,
-    pub method: A::Method,
-    pub value: Value<A::Number>,
+    pub search: IndexOf<A>,
     pub p: i32,
     pub q: i32,
 }
@@ -49,21 +47,6 @@ pub struct Unmap<A> {
 /// no end. On more values than are admitted its margin is not that of their number.
 fn ends<N>(rule: Answer<N>) -> bool {
     !matches!(rule, Err(1 | 2 | 4 | 6 | 7))
-}
-
-/// Whether a value and a method are among those that plotters has.
-fn has<A: Axis>(method: A::Method, value: Value<A::Number>) -> bool {
-    A::known(method).is_ok() && value.kind <= LAST
-}
-
-/// The axis, the method where there is one, and the value.
-fn fields<A: Axis>(
-    axis: A,
-    method: A::Method,
-    value: Value<A::Number>,
-) -> impl Iterator<Item = (&'static str, Number)> {
-    let by = A::method_named(method);
-    axis.named().into_iter().chain(by).chain(value.named())
 }
 
 impl<A: Axis> Call for Size<A> {
@@ -89,7 +72,7 @@ impl<A: Axis> Call for Size<A> {
 
 impl<A: Axis> Call for FromIndex<A> {
     type Number = Value<A::Number>;
-    const KEYWORD: &'static str = A::WORDS.at;
+    const KEYWORD: &'static str = A::WORDS.from_index;
 
     fn fields(self) -> impl Iterator<Item = (&'static str, Number)> {
         self.axis.named().into_iter().chain([("k", self.k.into())])
@@ -123,18 +106,21 @@ impl<A: Axis> Ask<A::Number> for IndexOf<A> {
 
 impl<A: Axis> Call for IndexOf<A> {
     type Number = u64;
-    const KEYWORD: &'static str = A::WORDS.index;
+    const KEYWORD: &'static str = A::WORDS.index_of;
 
     fn fields(self) -> impl Iterator<Item = (&'static str, Number)> {
-        fields(self.axis, self.method, self.value)
+        let by = A::method_named(self.method);
+        let axis = self.axis.named().into_iter();
+        axis.chain(by).chain(self.value.named())
     }
 
     fn rule(self) -> Answer<u64> {
         rule::index_of(self)
     }
 
+    /// If plotters has such a method and such a value.
     fn listed(self) -> bool {
-        has::<A>(self.method, self.value)
+        A::known(self.method).is_ok() && self.value.kind <= LAST
     }
 
     fn asks_plotters(self, rule: Answer<u64>) -> bool {
@@ -150,7 +136,7 @@ impl<A: Axis> Map<A> {
     /// Whether plotters panics, or gives a pixel that shows how far out the value's place is; the
     /// middle between that and a successor's is half as far.
     fn goes_too_far(self, plotters: Option<Option<i32>>) -> bool {
-        let least = match self.value.kind {
+        let least = match self.search.value.kind {
             EXACT => BOUND,
             _ => BOUND / 2 - 2 * FILM,
         };
@@ -168,7 +154,7 @@ impl<A: Axis> Ask<A::Number> for Map<A> {
     where
         D: DiscreteRanged + Ranged<ValueType = SegmentValue<A::Number>>,
     {
-        axis.map(&self.value.plotters(), (self.p, self.q))
+        axis.map(&self.search.value.plotters(), (self.p, self.q))
     }
 }
 
@@ -178,7 +164,7 @@ impl<A: Axis> Call for Map<A> {
 
     fn fields(self) -> impl Iterator<Item = (&'static str, Number)> {
         let limits = [("p", self.p.into()), ("q", self.q.into())];
-        fields(self.axis, self.method, self.value).chain(limits)
+        self.search.fields().chain(limits)
     }
 
     fn rule(self) -> Answer<i32> {
@@ -186,7 +172,7 @@ impl<A: Axis> Call for Map<A> {
     }
 
     fn listed(self) -> bool {
-        has::<A>(self.method, self.value)
+        self.search.listed()
     }
 
     fn asks_plotters(self, rule: Answer<i32>) -> bool {
@@ -194,12 +180,12 @@ impl<A: Axis> Call for Map<A> {
     }
 
     fn plotters(self) -> Option<i32> {
-        Some(self.axis.ask(self.method, self))
+        Some(self.search.axis.ask(self.search.method, self))
     }
 
     /// A number that cannot be searched for has a place, so that 5 is not met for it.
     fn may_give(self, plotters: Option<Option<i32>>) -> bool {
-        if self.value.v.is_nan() {
+        if self.search.value.v.is_nan() {
             plotters.is_none()
         } else {
             self.goes_too_far(plotters)

@@ -4,19 +4,19 @@ use super::axis::{Axis, Whole, Worded};
 use super::calls::{FromIndex, IndexOf, Map, Size, Unmap};
 use super::value::{Value, CENTER_OF, EXACT, LAST};
 use crate::admitted::FILM;
-use crate::cases::{self, held, whole, whole_ends, Cases, Pick};
+use crate::cases::{self, held, whole, whole_ends, Cases, Pick, SMALL};
 use crate::counts::rule::count;
-use crate::linspace::cases::{self as stepped, Drawn, Numbers};
+use crate::linspace::cases::{self as stepped, Drawn, Numbers, SMALL_LIMITS, SMALL_PIXELS};
 use crate::linspace::Steps;
 use crate::random::Random;
-use crate::readings::cases::{any_pixel, pixel_at};
+use crate::readings::cases::part_or_any;
 use crate::search::cases::method;
 use crate::search::rule::{self as search, DOWN, NEAREST, UP};
 
 #[cfg(feature = "library")]
-use crate::cases::{ordinary, SMALL};
+use crate::cases::ordinary;
 #[cfg(feature = "library")]
-use crate::linspace::cases::{ordinary_axis, ordinary_value, SMALL_LIMITS};
+use crate::linspace::cases::{ordinary_axis, ordinary_value};
 
 /// Axes of a sort that segments stand on.
 pub trait Axes: Axis {
@@ -26,12 +26,11 @@ pub trait Axes: Axis {
     const LINES: [usize; 2];
     /// Axes whose marks show what marks can be.
     const LISTS: &'static [Self];
-    const CORNERS: &'static [Self::Number];
-    #[cfg(feature = "library")]
-    const PICKED: &'static [Self::Number];
+    /// What is picked from.
+    const PICKED: [&'static [Self::Number]; 2];
 
     /// An axis made of picked numbers.
-    fn picked(pick: &mut impl Pick, numbers: &[Self::Number]) -> Self;
+    fn picked(pick: &mut impl Pick) -> Self;
     fn drawn(random: &mut Random) -> Drawn<Self>;
     /// A number at an entry, close to one or between two, as a rule.
     fn number(random: &mut Random, drawn: Drawn<Self>) -> Self::Number;
@@ -70,6 +69,12 @@ fn drawn_ends(random: &mut Random) -> (i32, i32) {
     (a, held(i64::from(a) + values - 1))
 }
 
+#[rustfmt::skip]
+const WHOLES: [i32; 15] = [
+    i32::MIN, -WHOLE - 1, -WHOLE, -16_777_216, -1, 0, 1, 2, 9, 16_777_215, 16_777_216, WHOLE - 1,
+    WHOLE, WHOLE + 1, i32::MAX,
+];
+
 impl Axes for Whole {
     const CHOICES: &'static [((), u32)] = &[
         ((), EXACT),
@@ -97,16 +102,10 @@ impl Axes for Whole {
         ends(-WHOLE, WHOLE),
         ends(0, 16_777_216),
     ];
-    #[rustfmt::skip]
-    const CORNERS: &'static [i32] = &[
-        i32::MIN, -WHOLE - 1, -WHOLE, -16_777_216, -1, 0, 1, 2, 9, 16_777_215, 16_777_216,
-        WHOLE - 1, WHOLE, WHOLE + 1, i32::MAX,
-    ];
-    #[cfg(feature = "library")]
-    const PICKED: &'static [i32] = &SMALL;
+    const PICKED: [&'static [i32]; 2] = [&WHOLES, &SMALL];
 
-    fn picked(pick: &mut impl Pick, numbers: &[i32]) -> Whole {
-        let [a, b] = [(); 2].map(|()| pick.pick(numbers));
+    fn picked(pick: &mut impl Pick) -> Whole {
+        let [a, b] = [(); 2].map(|()| pick.pick(Self::PICKED));
         Whole { a, b }
     }
 
@@ -166,12 +165,10 @@ impl<N: Worded + Numbers> Axes for Steps<N> {
     ];
     const LINES: [usize; 2] = N::LINES;
     const LISTS: &'static [Steps<N>] = N::LISTS;
-    const CORNERS: &'static [N] = N::CORNERS;
-    #[cfg(feature = "library")]
-    const PICKED: &'static [N] = N::PICKED;
+    const PICKED: [&'static [N]; 2] = N::PICKED;
 
-    fn picked(pick: &mut impl Pick, numbers: &[N]) -> Steps<N> {
-        stepped::picked(pick, numbers)
+    fn picked(pick: &mut impl Pick) -> Steps<N> {
+        stepped::picked(pick)
     }
 
     fn drawn(random: &mut Random) -> Drawn<Steps<N>> {
@@ -211,9 +208,14 @@ fn kind(random: &mut Random) -> u32 {
     }
 }
 
-fn value<A: Axes>(random: &mut Random, drawn: Drawn<A>) -> Value<A::Number> {
+fn drawn_search<A: Axes>(random: &mut Random, drawn: Drawn<A>) -> IndexOf<A> {
+    let method = A::method(random);
     let (v, kind) = (A::number(random, drawn), kind(random));
-    Value { v, kind }
+    IndexOf {
+        axis: drawn.axis,
+        method,
+        value: Value { v, kind },
+    }
 }
 
 /// Limits an odd number of halves of n apart, if n has a half and the film holds it.
@@ -240,13 +242,8 @@ impl<A: Axes> Cases for Size<A> {
     const WORKED: &'static [Self] = &[];
     const LINES: [usize; 2] = A::LINES;
 
-    fn corner(pick: &mut impl Pick) -> Self {
-        Size(A::picked(pick, A::CORNERS))
-    }
-
-    #[cfg(feature = "library")]
-    fn small(pick: &mut impl Pick) -> Self {
-        Size(A::picked(pick, A::PICKED))
+    fn picked(pick: &mut impl Pick) -> Self {
+        Size(A::picked(pick))
     }
 
     fn drawn(random: &mut Random) -> Self {
@@ -263,21 +260,15 @@ impl<A: Axes> Cases for Size<A> {
 const INDICES: [u64; 12] = [
     0, 1, 2, 9, 10, 65_536, 16_777_215, 16_777_216, 16_777_217, 1 << 32, 1 << 63, u64::MAX,
 ];
+const SMALL_INDICES: [u64; 15] = [0, 1, 2, 3, 4, 5, 6, 7, 8, 9, 10, 11, 12, 13, 14];
 
 impl<A: Axes> Cases for FromIndex<A> {
     const WORKED: &'static [Self] = &[];
     const LINES: [usize; 2] = A::LINES;
 
-    fn corner(pick: &mut impl Pick) -> Self {
-        let k = pick.pick(&INDICES);
-        let axis = A::picked(pick, A::CORNERS);
-        FromIndex { axis, k }
-    }
-
-    #[cfg(feature = "library")]
-    fn small(pick: &mut impl Pick) -> Self {
-        let k = pick.pick(&[0, 1, 2, 3, 4, 5, 6, 7, 8, 9, 10, 11, 12, 13, 14]);
-        let axis = A::picked(pick, A::PICKED);
+    fn picked(pick: &mut impl Pick) -> Self {
+        let k = pick.pick([&INDICES, &SMALL_INDICES]);
+        let axis = A::picked(pick);
         FromIndex { axis, k }
     }
 
@@ -299,36 +290,23 @@ impl<A: Axes> Cases for FromIndex<A> {
     }
 }
 
-fn picked_index<A: Axes>(pick: &mut impl Pick, numbers: &[A::Number]) -> IndexOf<A> {
-    let (method, kind) = pick.pick(A::CHOICES);
-    let v = pick.pick(numbers);
-    IndexOf {
-        axis: A::picked(pick, numbers),
-        method,
-        value: Value { v, kind },
-    }
-}
-
 impl<A: Axes> Cases for IndexOf<A> {
     const WORKED: &'static [Self] = &[];
     const LINES: [usize; 2] = [85, 15];
 
-    fn corner(pick: &mut impl Pick) -> Self {
-        picked_index(pick, A::CORNERS)
-    }
-
-    #[cfg(feature = "library")]
-    fn small(pick: &mut impl Pick) -> Self {
-        picked_index(pick, A::PICKED)
+    fn picked(pick: &mut impl Pick) -> Self {
+        let (method, kind) = pick.pick([A::CHOICES; 2]);
+        let v = pick.pick(A::PICKED);
+        IndexOf {
+            axis: A::picked(pick),
+            method,
+            value: Value { v, kind },
+        }
     }
 
     fn drawn(random: &mut Random) -> Self {
         let drawn = A::drawn(random);
-        IndexOf {
-            axis: drawn.axis,
-            method: A::method(random),
-            value: value(random, drawn),
-        }
+        drawn_search(random, drawn)
     }
 
     #[cfg(feature = "library")]
@@ -343,45 +321,21 @@ impl<A: Axes> Cases for IndexOf<A> {
     }
 }
 
-fn picked_map<A: Axes>(pick: &mut impl Pick, numbers: &[A::Number], limits: &[i32]) -> Map<A> {
-    let [p, q] = [(); 2].map(|()| pick.pick(limits));
-    let IndexOf {
-        axis,
-        method,
-        value,
-    } = picked_index(pick, numbers);
-    Map {
-        axis,
-        method,
-        value,
-        p,
-        q,
-    }
-}
-
 impl<A: Axes> Cases for Map<A> {
     const WORKED: &'static [Self] = &[];
     const LINES: [usize; 2] = [170, 30];
 
-    fn corner(pick: &mut impl Pick) -> Self {
-        picked_map(pick, A::CORNERS, &LIMITS)
-    }
-
-    #[cfg(feature = "library")]
-    fn small(pick: &mut impl Pick) -> Self {
-        picked_map(pick, A::PICKED, &SMALL_LIMITS)
+    fn picked(pick: &mut impl Pick) -> Self {
+        let [p, q] = [(); 2].map(|()| pick.pick([&LIMITS, &SMALL_LIMITS]));
+        let search = IndexOf::picked(pick);
+        Map { search, p, q }
     }
 
     fn drawn(random: &mut Random) -> Self {
         let drawn = A::drawn(random);
         let (p, q) = film(random, drawn.n);
-        Map {
-            axis: drawn.axis,
-            method: A::method(random),
-            value: value(random, drawn),
-            p,
-            q,
-        }
+        let search = drawn_search(random, drawn);
+        Map { search, p, q }
     }
 
     #[cfg(feature = "library")]
@@ -390,44 +344,28 @@ impl<A: Axes> Cases for Map<A> {
         let (p, q) = ordinary::film(random);
         let v = A::ordinary_number(random, drawn);
         let kind = random.pick(&[EXACT, CENTER_OF]);
-        Map {
+        let search = IndexOf {
             axis: drawn.axis,
             method: A::ordinary_method(random),
             value: Value { v, kind },
-            p,
-            q,
-        }
+        };
+        Map { search, p, q }
     }
-}
-
-fn picked_unmap<A: Axes>(pick: &mut impl Pick, numbers: &[A::Number], pixels: &[i32]) -> Unmap<A> {
-    let [x, p, q] = [(); 3].map(|()| pick.pick(pixels));
-    let axis = A::picked(pick, numbers);
-    Unmap { axis, x, p, q }
 }
 
 impl<A: Axes> Cases for Unmap<A> {
     const WORKED: &'static [Self] = &[];
     const LINES: [usize; 2] = [85, 15];
 
-    fn corner(pick: &mut impl Pick) -> Self {
-        picked_unmap(pick, A::CORNERS, &LIMITS)
-    }
-
-    #[cfg(feature = "library")]
-    fn small(pick: &mut impl Pick) -> Self {
-        picked_unmap(pick, A::PICKED, &[-3, -1, 0, 1, 2, 5])
+    fn picked(pick: &mut impl Pick) -> Self {
+        let [x, p, q] = [(); 3].map(|()| pick.pick([&LIMITS, &SMALL_PIXELS]));
+        let axis = A::picked(pick);
+        Unmap { axis, x, p, q }
     }
 
     fn drawn(random: &mut Random) -> Self {
         let (Drawn { axis, n }, (p, q)) = (A::drawn(random), cases::film(random));
-        let x = match random.below(2) {
-            0 => any_pixel(random, (p, q)),
-            _ => {
-                let part = random.below(n + 3) as f64 / (n + 1) as f64;
-                pixel_at(random, part, (p, q))
-            }
-        };
+        let x = part_or_any(random, n + 1, (p, q));
         Unmap { axis, x, p, q }
     }
 

@@ -11,25 +11,16 @@ use super::value::{Value, CENTER_OF, EXACT, LAST};
 use crate::beside;
 use crate::entry::Entry;
 use crate::lent::Fill;
-use crate::linspace::library as stepped;
+use crate::linspace::kind::Words;
+use crate::linspace::library::{self as stepped, names};
 use crate::linspace::Steps;
 use crate::search::chosen;
-
-/// The names of the calls on one sort of axis.
-pub struct Names {
-    size: &'static str,
-    from_index: &'static str,
-    index_of: &'static str,
-    map: &'static str,
-    unmap: &'static str,
-    pub key_points: &'static str,
-}
 
 type Answered<T> = Result<Option<T>, Refusal>;
 
 /// Segments over a sort of axis as culvraod has them: the safe calls, and the C functions.
 pub trait Library: Axes<Number: Fill> {
-    const NAMES: Names;
+    const NAMES: Words;
     /// How many random inputs of a call are compared.
     const DRAWN: usize;
     /// How many calls are timed.
@@ -89,14 +80,7 @@ impl Whole {
 }
 
 impl Library for Whole {
-    const NAMES: Names = Names {
-        size: "seg_whole_size",
-        from_index: "seg_whole_from_index",
-        index_of: "seg_whole_index_of",
-        map: "seg_whole_map",
-        unmap: "seg_whole_unmap",
-        key_points: "seg_whole_key_points",
-    };
+    const NAMES: Words = names!("seg_whole_");
     const DRAWN: usize = 20_000_000;
     const BATCH: usize = 1_000_000;
 
@@ -184,71 +168,42 @@ pub struct Safe<A, N> {
 
 /// A kind of stepped axes with segments on them.
 pub trait Stepped: Worded + stepped::Library {
-    const SEGMENT_NAMES: Names;
+    const SEGMENT_NAMES: Words;
     const SEGMENT_C: Functions<Self>;
     const SEGMENT_SAFE: Safe<SegmentedCoord<Self::Stepped>, Self>;
 }
 
-impl Stepped for i32 {
-    const SEGMENT_NAMES: Names = Names {
-        size: "seg_step_whole_size",
-        from_index: "seg_step_whole_from_index",
-        index_of: "seg_step_whole_index_of",
-        map: "seg_step_whole_map",
-        unmap: "seg_step_whole_unmap",
-        key_points: "seg_step_whole_key_points",
-    };
-    const SEGMENT_C: Functions<i32> = Functions {
-        size: culv_seg_step_whole_size,
-        from_index: culv_seg_step_whole_from_index,
-        index_of: culv_seg_step_whole_index_of,
-        map: culv_seg_step_whole_map,
-        unmap: culv_seg_step_whole_unmap,
-        key_points: culv_seg_step_whole_key_points,
-    };
-    const SEGMENT_SAFE: Safe<SegmentedCoord<Linspacei32>, i32> = Safe {
-        size: SegmentedCoord::<Linspacei32>::size,
-        from_index: SegmentedCoord::<Linspacei32>::from_index,
-        index_of: SegmentedCoord::<Linspacei32>::index_of,
-        map: SegmentedCoord::<Linspacei32>::map,
-        unmap: SegmentedCoord::<Linspacei32>::unmap,
-        key_points: SegmentedCoord::<Linspacei32>::key_points,
+/// A kind: its numbers, its axis, how the names of the calls begin, and the C function of each.
+macro_rules! kind {
+    ($number:ident, $axis:ident, $start:literal, $($call:ident: $function:ident),*) => {
+        impl Stepped for $number {
+            const SEGMENT_NAMES: Words = names!($start);
+            const SEGMENT_C: Functions<$number> = Functions { $($call: $function),* };
+            const SEGMENT_SAFE: Safe<SegmentedCoord<$axis>, $number> =
+                Safe { $($call: SegmentedCoord::<$axis>::$call),* };
+        }
     };
 }
 
-impl Stepped for f64 {
-    const SEGMENT_NAMES: Names = Names {
-        size: "seg_step_real_size",
-        from_index: "seg_step_real_from_index",
-        index_of: "seg_step_real_index_of",
-        map: "seg_step_real_map",
-        unmap: "seg_step_real_unmap",
-        key_points: "seg_step_real_key_points",
-    };
-    const SEGMENT_C: Functions<f64> = Functions {
-        size: culv_seg_step_real_size,
-        from_index: culv_seg_step_real_from_index,
-        index_of: culv_seg_step_real_index_of,
-        map: culv_seg_step_real_map,
-        unmap: culv_seg_step_real_unmap,
-        key_points: culv_seg_step_real_key_points,
-    };
-    const SEGMENT_SAFE: Safe<SegmentedCoord<Linspacef64>, f64> = Safe {
-        size: SegmentedCoord::<Linspacef64>::size,
-        from_index: SegmentedCoord::<Linspacef64>::from_index,
-        index_of: SegmentedCoord::<Linspacef64>::index_of,
-        map: SegmentedCoord::<Linspacef64>::map,
-        unmap: SegmentedCoord::<Linspacef64>::unmap,
-        key_points: SegmentedCoord::<Linspacef64>::key_points,
-    };
-}
+kind!(
+    i32, Linspacei32, "seg_step_whole_",
+    size: culv_seg_step_whole_size, from_index: culv_seg_step_whole_from_index,
+    index_of: culv_seg_step_whole_index_of, map: culv_seg_step_whole_map,
+    unmap: culv_seg_step_whole_unmap, key_points: culv_seg_step_whole_key_points
+);
+kind!(
+    f64, Linspacef64, "seg_step_real_",
+    size: culv_seg_step_real_size, from_index: culv_seg_step_real_from_index,
+    index_of: culv_seg_step_real_index_of, map: culv_seg_step_real_map,
+    unmap: culv_seg_step_real_unmap, key_points: culv_seg_step_real_key_points
+);
 
 fn safe<N: Stepped>(axis: Steps<N>) -> SegmentedCoord<N::Stepped> {
     SegmentedCoord(N::stepped(axis))
 }
 
 impl<N: Stepped> Library for Steps<N> {
-    const NAMES: Names = N::SEGMENT_NAMES;
+    const NAMES: Words = N::SEGMENT_NAMES;
     const DRAWN: usize = 5_000_000;
     const BATCH: usize = 50_000;
 
@@ -399,13 +354,14 @@ impl<A: Library> beside::Library for Map<A> {
     const BATCH: usize = A::BATCH;
 
     fn safe(self) -> Result<Option<i32>, Refusal> {
-        let (value, limit) = (of_kind(self.value)?, Limit(self.p, self.q));
-        self.axis.map(self.method, value, limit).map(Some)
+        let IndexOf { axis, method, .. } = self.search;
+        let (value, limit) = (of_kind(self.search.value)?, Limit(self.p, self.q));
+        axis.map(method, value, limit).map(Some)
     }
 
     unsafe fn function(self, out: *mut i32) -> i32 {
-        let limits = (self.p, self.q);
-        self.axis.c_map(self.method, self.value, limits, out)
+        let (search, limits) = (self.search, (self.p, self.q));
+        search.axis.c_map(search.method, search.value, limits, out)
     }
 }
 

@@ -39,7 +39,7 @@ impl<A: Axis> Writes for Marking<A> {
     type Number = A::Number;
 
     fn keyword(self) -> &'static str {
-        A::WORDS.marks
+        A::WORDS.key_points
     }
 
     fn fields(self) -> Vec<(&'static str, Number)> {
@@ -80,7 +80,7 @@ pub fn drawn<A: Axes>(random: &mut Random) -> Marking<A> {
 /// A random input, of numbers at the edges at times.
 fn any<A: Axes>(random: &mut Random) -> Marking<A> {
     if random.below(3) == 0 {
-        let (axis, m) = (A::picked(random, A::CORNERS), random.below(50) as u32);
+        let (axis, m) = (A::picked(random), random.below(50) as u32);
         return Marking { axis, m };
     }
     drawn(random)

@@ -4,9 +4,9 @@ use culvraod::Refusal;
 
 use super::library::{Library, Stepped};
 use super::marking::{drawn, Marking};
+use crate::beside::Negated;
 use crate::cases::all;
 use crate::lends::{self, Lends};
-use crate::linspace::library::mirror;
 use crate::linspace::Steps;
 use crate::random::Random;
 
@@ -35,8 +35,7 @@ impl<A: Library> Lends for Marking<A> {
 
 /// All corners and small inputs, and so many at random.
 fn inputs<A: Library>(count: usize) -> impl Iterator<Item = Marking<A>> {
-    let axes =
-        all(|pick| A::picked(pick, A::CORNERS)).chain(all(|pick| A::picked(pick, A::PICKED)));
+    let axes = all(|pick| A::picked(pick));
     let picked = axes.flat_map(|axis| LIMITS.iter().map(move |&m| Marking { axis, m }));
     let mut random = Random::new();
     let drawn = (0..count).map(move |_| drawn(&mut random));
@@ -50,7 +49,7 @@ pub fn compare<A: Library>() -> bool {
 pub fn compare_mirror<N: Stepped>() -> bool {
     let mirrored = inputs::<Steps<N>>(MIRRORED);
     let pairs = mirrored.filter_map(|marking| {
-        let axis = mirror(marking.axis)?;
+        let axis = marking.axis.negated()?;
         Some([marking, Marking { axis, ..marking }])
     });
     lends::compare_mirror(<Steps<N> as Library>::NAMES.key_points, pairs)

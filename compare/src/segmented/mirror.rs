@@ -3,10 +3,8 @@
 use super::calls::{FromIndex, IndexOf, Map, Size};
 use super::library::Stepped;
 use super::value::Value;
-use crate::beside::{self, Mirrored};
-use crate::linspace::library::mirror;
+use crate::beside::{self, Mirrored, Negated};
 use crate::linspace::Steps;
-use crate::number::Number;
 use crate::search::exchanged;
 
 /// How many random inputs of a call are compared beside their mirror.
@@ -14,13 +12,10 @@ const MIRRORED: usize = 2_000_000;
 
 impl<N: Stepped> Mirrored for Size<Steps<N>> {
     const MIRRORED: usize = MIRRORED;
+    const SAME: bool = true;
 
     fn mirror(self) -> Option<Self> {
-        mirror(self.0).map(Size)
-    }
-
-    fn agree(one: Number, other: Number) -> bool {
-        one == other
+        self.0.negated().map(Size)
     }
 }
 
@@ -28,29 +23,28 @@ impl<N: Stepped> Mirrored for FromIndex<Steps<N>> {
     const MIRRORED: usize = MIRRORED;
 
     fn mirror(self) -> Option<Self> {
-        let axis = mirror(self.axis)?;
+        let axis = self.axis.negated()?;
         Some(FromIndex { axis, ..self })
     }
 }
 
-/// The mirror of a value, if the type can hold it.
-fn across<N: Stepped>(Value { v, kind }: Value<N>) -> Option<Value<N>> {
-    v.negated().map(|v| Value { v, kind })
+impl<N: Negated> Negated for Value<N> {
+    fn negated(self) -> Option<Value<N>> {
+        let v = self.v.negated()?;
+        Some(Value { v, ..self })
+    }
 }
 
 impl<N: Stepped> Mirrored for IndexOf<Steps<N>> {
     const MIRRORED: usize = MIRRORED;
+    const SAME: bool = true;
 
     fn mirror(self) -> Option<Self> {
         Some(IndexOf {
-            axis: mirror(self.axis)?,
+            axis: self.axis.negated()?,
             method: exchanged(self.method),
-            value: across(self.value)?,
+            value: self.value.negated()?,
         })
-    }
-
-    fn agree(one: Number, other: Number) -> bool {
-        one == other
     }
 }
 
@@ -59,11 +53,9 @@ impl<N: Stepped> Mirrored for Map<Steps<N>> {
 
     fn mirror(self) -> Option<Self> {
         Some(Map {
-            axis: mirror(self.axis)?,
-            method: exchanged(self.method),
-            value: across(self.value)?,
-            p: self.p.checked_neg()?,
-            q: self.q.checked_neg()?,
+            search: self.search.mirror()?,
+            p: self.p.negated()?,
+            q: self.q.negated()?,
         })
     }
 }

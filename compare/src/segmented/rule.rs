@@ -43,18 +43,17 @@ pub fn size<A: Axis>(axis: A) -> Answer<u64> {
     Ok(Some(entries(axis)? + 1))
 }
 
-pub fn map<A: Axis>(input: Map<A>) -> Answer<i32> {
-    let (axis, method, value) = (input.axis, input.method, input.value);
+pub fn map<A: Axis>(Map { search, p, q }: Map<A>) -> Answer<i32> {
+    let (axis, method, value) = (search.axis, search.method, search.value);
     A::known(method)?;
     meant(value)?;
     axis.admitted()?;
-    admitted::film([input.p, input.q])?;
+    admitted::film([p, q])?;
     let n = entries(axis)?;
-    let margin = margin(n, (input.p, input.q));
-    let narrowed = (input.p, input.q - margin);
-    let place = |v| axis.place(v, narrowed).map(Option::unwrap);
+    let margin = margin(n, (p, q));
+    let place = |v| axis.place(v, (p, q - margin)).map(Option::unwrap);
     if value.kind == LAST {
-        return Ok(Some(input.q));
+        return Ok(Some(q));
     }
     let start = place(value.v)?;
     if value.kind == EXACT {
