@@ -15,7 +15,10 @@ void counted(int32_t code, const void *out, size_t size, const size_t *count, ui
     may_write(out, size * *count);
 }
 
-static void whole_key_points(void)
+typedef int32_t whole_marks(int32_t a, int32_t b, uint32_t m, int32_t *out, size_t len, int32_t *step, size_t *count);
+
+/* Marks of a whole axis, or of segments over it. */
+static void marks_of(whole_marks *call, bool segments)
 {
     int32_t a, b;
     draw_whole_ends(&a, &b);
@@ -23,9 +26,17 @@ static void whole_key_points(void)
     struct marks marks = model_marks(a, b, m);
     size_t len = draw_length(marks.count, LONGEST), *count = RESULT(size_t);
     int32_t *out = LIST(int32_t, len), *step = RESULT(int32_t);
-    int32_t code = CALLED(culv_whole_key_points(a, b, m, out, len, step, count));
+    int32_t code = CALLED(call(a, b, m, out, len, step, count));
+    int32_t wanted = lower(WHOLES(a, b), marks.refused);
+    if (segments)
+        wanted = lower(wanted, segments_refused(model_count(a, b)));
     counted(code, out, sizeof *out, count, marks.count);
-    settle(code, lower(WHOLES(a, b), model_fit(marks, len)));
+    settle(code, lower(wanted, model_fit(marks, len)));
+}
+
+static void whole_key_points(void)
+{
+    marks_of(culv_whole_key_points, false);
 }
 
 static void index_key_points(void)
@@ -191,17 +202,7 @@ static void seg_whole_unmap(void)
 
 static void seg_whole_key_points(void)
 {
-    int32_t a, b;
-    draw_whole_ends(&a, &b);
-    uint32_t m = draw_limit_of_marks();
-    struct marks marks = model_marks(a, b, m);
-    size_t len = draw_length(marks.count, LONGEST), *count = RESULT(size_t);
-    int32_t *out = LIST(int32_t, len), *step = RESULT(int32_t);
-    int32_t code = CALLED(culv_seg_whole_key_points(a, b, m, out, len, step, count));
-    int32_t wanted = lower(WHOLES(a, b), marks.refused);
-    wanted = lower(wanted, segments_refused(model_count(a, b)));
-    counted(code, out, sizeof *out, count, marks.count);
-    settle(code, lower(wanted, model_fit(marks, len)));
+    marks_of(culv_seg_whole_key_points, true);
 }
 
 #define CALL(name) {"culv_" #name, name}

@@ -10,37 +10,31 @@
 #include "model.h"
 #include "trial.h"
 
-static void search_whole(void)
-{
-    int32_t drawn[LONGEST_LIST], refused = 0;
-    double entries[LONGEST_LIST];
-    size_t len = draw_whole_list(drawn);
-    int32_t target = len > 0 && below(2) ? drawn[below(len)] : draw_whole("or target");
-    note_whole("target", target);
-    uint32_t method = draw_method();
-    const int32_t *list = lend_copy("list", drawn, len, sizeof *drawn);
-    uint64_t *k = RESULT(uint64_t);
-    int32_t code = CALLED(culv_search_whole(list, len, target, method, k));
-    for (size_t at = 0; at < len; at++) {
-        entries[at] = drawn[at];
-        refused = lower(refused, WHOLES(drawn[at]));
+/* The search of a list of one kind of numbers; ADMITTED(..) is the refusal of those that are not admitted. */
+#define SEARCH(kind, number, ADMITTED) \
+    static void search_##kind(void) \
+    { \
+        number drawn[LONGEST_LIST]; \
+        double entries[LONGEST_LIST]; \
+        size_t len = draw_##kind##_list(drawn); \
+        number target = len > 0 && below(2) ? drawn[below(len)] : draw_##kind("or target"); \
+        note_##kind("target", target); \
+        uint32_t method = draw_method(); \
+        const number *list = lend_copy("list", drawn, len, sizeof *drawn); \
+        uint64_t *k = RESULT(uint64_t); \
+        int32_t code = CALLED(culv_search_##kind(list, len, target, method, k)); \
+        int32_t wanted = lower(ADMITTED(target), method_refused(method)); \
+        for (size_t at = 0; at < len; at++) { \
+            entries[at] = drawn[at]; \
+            wanted = lower(wanted, ADMITTED(drawn[at])); \
+        } \
+        settle(code, wanted != 0 ? wanted : model_search(entries, len, target, method)); \
     }
-    refused = lower(lower(refused, WHOLES(target)), method_refused(method));
-    settle(code, refused != 0 ? refused : model_search(entries, len, target, method));
-}
 
-static void search_real(void)
-{
-    double drawn[LONGEST_LIST];
-    size_t len = draw_real_list(drawn);
-    double target = len > 0 && below(2) ? drawn[below(len)] : draw_real("or target");
-    note_real("target", target);
-    uint32_t method = draw_method();
-    const double *list = lend_copy("list", drawn, len, sizeof *drawn);
-    uint64_t *k = RESULT(uint64_t);
-    int32_t code = CALLED(culv_search_real(list, len, target, method, k));
-    settle(code, method_refused(method) != 0 ? 1 : model_search(drawn, len, target, method));
-}
+#define ALL_REALS(...) 0
+
+SEARCH(whole, int32_t, WHOLES)
+SEARCH(real, double, ALL_REALS)
 
 /* ---- Rulers ---- */
 
