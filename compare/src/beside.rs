@@ -172,7 +172,8 @@ pub fn timed<C: Library>(call: &C) -> i32 {
     let mut out = C::Number::fill(0);
     // SAFETY: the pointer is that of a local number.
     let code = black_box(unsafe { call.function(&mut out) });
-    black_box(out);
+    // By reference: a copy of two numbers as one would wait for both stores.
+    black_box(&out);
     code
 }
 

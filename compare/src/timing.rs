@@ -65,8 +65,9 @@ pub fn written<N, T: Default>(
     call: impl FnOnce(&mut [N], &mut T) -> i32,
 ) -> (i32, T) {
     let mut told = T::default();
-    let code = call(black_box(out), &mut told);
-    black_box((code, told))
+    let code = black_box(call(black_box(out), &mut told));
+    black_box(&told);
+    (code, told)
 }
 
 /// Prints the times of a C function that writes to a lent list of so many entries, beside plotters
