@@ -15,16 +15,33 @@ pub struct Words {
     pub key_points: &'static str,
 }
 
-/// The words by which the list of answers knows the calls, which begin alike.
+/// Words that begin alike: those by which the list of answers knows the calls, or their names.
 macro_rules! words {
-    ($start:literal) => {
+    (list, $start:literal) => {
+        words!($start, "size", "at", "idx", "map", "read", "marks")
+    };
+    (names, $start:literal) => {
+        words!(
+            $start,
+            "size",
+            "from_index",
+            "index_of",
+            "map",
+            "unmap",
+            "key_points"
+        )
+    };
+    (
+        $start:literal, $size:literal, $from_index:literal, $index_of:literal, $map:literal,
+        $unmap:literal, $key_points:literal
+    ) => {
         $crate::linspace::kind::Words {
-            size: concat!($start, "size"),
-            from_index: concat!($start, "at"),
-            index_of: concat!($start, "idx"),
-            map: concat!($start, "map"),
-            unmap: concat!($start, "read"),
-            key_points: concat!($start, "marks"),
+            size: concat!($start, $size),
+            from_index: concat!($start, $from_index),
+            index_of: concat!($start, $index_of),
+            map: concat!($start, $map),
+            unmap: concat!($start, $unmap),
+            key_points: concat!($start, $key_points),
         }
     };
 }
@@ -42,11 +59,11 @@ pub trait Kind: Entry {
 }
 
 impl Kind for i32 {
-    const WORDS: Words = words!("wstep");
+    const WORDS: Words = words!(list, "wstep");
     const LIST: &'static str = "wsteplist";
 }
 
 impl Kind for f64 {
-    const WORDS: Words = words!("rstep");
+    const WORDS: Words = words!(list, "rstep");
     const LIST: &'static str = "rsteplist";
 }

@@ -5,7 +5,7 @@ use culvraod::{Limit, RangedCoordf64, RangedCoordi32, Refusal, RoundingMethod};
 
 use super::calls::{FromIndex, IndexOf, Map, Size, Unmap};
 use super::cases::Numbers;
-use super::kind::Words;
+use super::kind::{words, Words};
 use super::Steps;
 use crate::beside::{self, Mirrored, Negated};
 use crate::lent::Fill;
@@ -18,21 +18,6 @@ const MIRRORED: usize = 2_000_000;
 
 /// How many calls are timed.
 const BATCH: usize = 50_000;
-
-/// The names of the calls on one sort of axis, which begin alike.
-macro_rules! names {
-    ($start:literal) => {
-        $crate::linspace::kind::Words {
-            size: concat!($start, "size"),
-            from_index: concat!($start, "from_index"),
-            index_of: concat!($start, "index_of"),
-            map: concat!($start, "map"),
-            unmap: concat!($start, "unmap"),
-            key_points: concat!($start, "key_points"),
-        }
-    };
-}
-pub(crate) use names;
 
 /// The C functions for one kind of axis.
 pub struct Functions<N> {
@@ -76,7 +61,7 @@ macro_rules! kind {
     ) => {
         impl Library for $number {
             type Stepped = $axis;
-            const NAMES: Words = names!($start);
+            const NAMES: Words = words!(names, $start);
             const VALUES: &'static str = concat!($start, "values");
             const C: Functions<$number> = Functions { $($call: $function),* };
             const SAFE: Safe<$axis, $number> = Safe { $($call: $axis::$call),* };

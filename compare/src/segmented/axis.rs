@@ -67,7 +67,7 @@ impl Axis for Whole {
     type Number = i32;
     type Method = ();
     type Segments = SegmentedCoord<RangedCoordi32>;
-    const WORDS: Words = words!("seg");
+    const WORDS: Words = words!(list, "seg");
     const MOST: u64 = 16_777_216;
 
     fn named(self) -> Vec<(&'static str, Number)> {
@@ -131,11 +131,11 @@ pub trait Worded: Kind {
 }
 
 impl Worded for i32 {
-    const SEGMENT_WORDS: Words = words!("wseg");
+    const SEGMENT_WORDS: Words = words!(list, "wseg");
 }
 
 impl Worded for f64 {
-    const SEGMENT_WORDS: Words = words!("rseg");
+    const SEGMENT_WORDS: Words = words!(list, "rseg");
 }
 
 impl<N: Worded> Axis for Steps<N> {

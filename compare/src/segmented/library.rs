@@ -11,8 +11,8 @@ use super::value::{Value, CENTER_OF, EXACT, LAST};
 use crate::beside;
 use crate::entry::Entry;
 use crate::lent::Fill;
-use crate::linspace::kind::Words;
-use crate::linspace::library::{self as stepped, names};
+use crate::linspace::kind::{words, Words};
+use crate::linspace::library as stepped;
 use crate::linspace::Steps;
 use crate::search::chosen;
 
@@ -80,7 +80,7 @@ impl Whole {
 }
 
 impl Library for Whole {
-    const NAMES: Words = names!("seg_whole_");
+    const NAMES: Words = words!(names, "seg_whole_");
     const DRAWN: usize = 20_000_000;
     const BATCH: usize = 1_000_000;
 
@@ -177,7 +177,7 @@ pub trait Stepped: Worded + stepped::Library {
 macro_rules! kind {
     ($number:ident, $axis:ident, $start:literal, $($call:ident: $function:ident),*) => {
         impl Stepped for $number {
-            const SEGMENT_NAMES: Words = names!($start);
+            const SEGMENT_NAMES: Words = words!(names, $start);
             const SEGMENT_C: Functions<$number> = Functions { $($call: $function),* };
             const SEGMENT_SAFE: Safe<SegmentedCoord<$axis>, $number> =
                 Safe { $($call: SegmentedCoord::<$axis>::$call),* };

@@ -1,11 +1,11 @@
 -- The rules of the calls, return by return, for both kinds of numbers. Assumes nothing.
 use mathlib.Core.Path.{_≡_, refl, sym, ap, _∙_}
-use mathlib.Core.Bool.{Bool, true, false, cond, not, _&&_, _||_}
+use mathlib.Core.Bool.{Bool, true, false, cond, not, _||_}
 use mathlib.Core.List.{List, [], _∷_, _++_}
 use Prim.Native.Nat.{ℕ, _≤_, _<_}
 use native.Mathlib.Omega.{arith}
 use borrow.Author.Tests.{lt-ltb, le-ltb, ltb-false}
-use lib.Dec.{ltb, eqb}
+use lib.Dec.{ltb}
 use lib.IntN.{ℤ}
 use lib.ListN.{length, drop}
 use Rattle.ranged1d.specs.Answer.{Answer, given, refused, Reason, _when_, lowest, written, andThen, listWritten}
@@ -18,7 +18,7 @@ use Rattle.real.specs.Place.{number, realPlaceReasons}
 use Rattle.search.specs.declared.RoundingMethod.{RoundingMethod}
 use Rattle.search.specs.Search as rule
 use Rattle.linspace.specs.List.{Kind, most, stepped, against, tooLong, axisAdmitted}
-use Rattle.linspace.specs.Calls.{nth, hasEntries, nthOf, unlisted, stepValues, stepSize, stepFromIndex, stepIndexOf, stepSpot, stepPlace, stepReading, stepMarks, stepKeyPoints}
+use Rattle.linspace.specs.Calls.{nth, nthOf, unlisted, stepValues, stepSize, stepFromIndex, stepIndexOf, stepSpot, stepPlace, stepReading, stepMarks, stepKeyPoints, unserved}
 
 -- an answer once the entries are counted
 abbrev pub onceListed : {B : Type 0} → Answer ℕ → Answer B → Answer B
@@ -117,7 +117,7 @@ module _ {A : Type 0} (kind : Kind A) (a b d : A) where
     unfolding stepReading
     reading-outside x limit u = rw (h, u) refl
 
-    pub points-none : (m : ℕ) (old : List A) → (eqb m 0 && hasEntries (stepped kind a b d)) ≡ true → _≡_ {A = Answer ℕ × List A} (refused 3, old) (stepKeyPoints kind a b d m old)
+    pub points-none : (m : ℕ) (old : List A) → unserved kind a b d m ≡ true → _≡_ {A = Answer ℕ × List A} (refused 3, old) (stepKeyPoints kind a b d m old)
     unfolding stepKeyPoints
     points-none m old e = rw (h, e) refl
 
@@ -152,7 +152,7 @@ module _ {A : Type 0} (kind : Kind A) (a b d : A) where
           let whole = given (length (stepped kind a b d)) in
           rw h (ap (λ (r : Answer ℕ). written r (stepped kind a b d) old) (ap (cond (against kind a b d) (refused 6)) (seven (tooLong kind a b d) short whole) ∙ once-listed e (lowest (7 when short ∷ []) whole)))
 
-      points-by : (m : ℕ) (old : List A) → (eqb m 0 && hasEntries (stepped kind a b d)) ≡ false
+      points-by : (m : ℕ) (old : List A) → unserved kind a b d m ≡ false
           → stepKeyPoints kind a b d m old ≡ written (onceListed s (lowest (13 when ltb (length old) (length (stepMarks kind a b d m)) ∷ []) (given (length (stepMarks kind a b d m))))) (stepMarks kind a b d m) old
       unfolding stepKeyPoints
       points-by m old some = rw (h, some) (ap (λ (r : Answer ℕ). written r (stepMarks kind a b d m) old) (once-listed e _))
@@ -167,7 +167,7 @@ module _ {A : Type 0} (kind : Kind A) (a b d : A) where
       pub values-written : {n : ℕ} → counts ≡ given n → n ≤ length old → (given n, stepped kind a b d ++ drop n old) ≡ stepValues kind a b d old
       values-written {n} e l = sym (values-by e old ∙ rw (← counted e .all, le-ltb (length old) n l, ← counted e .all) refl)
 
-    module _ (m : ℕ) (old : List A) (some : (eqb m 0 && hasEntries (stepped kind a b d)) ≡ false) where
+    module _ (m : ℕ) (old : List A) (some : unserved kind a b d m ≡ false) where
       pub points-stopped : {n : ℕ} → counts ≡ refused n → (refused n, old) ≡ stepKeyPoints kind a b d m old
       points-stopped e = sym (points-by e m old some)
 

@@ -1,7 +1,7 @@
 // Stepped axes of real numbers. An entry is the sum before it and the step, rounded, so that the list is walked.
 ghost use mathlib.Core.Path.{_≡_};
-ghost use mathlib.Core.Bool.{true, false, cond, _&&_};
-ghost use lib.Dec.{eqb, ltb};
+ghost use mathlib.Core.Bool.{true, false, cond};
+ghost use lib.Dec.{ltb};
 ghost use Prim.Native.Nat.{_≤_};
 ghost use lib.ListN.{length};
 ghost use lib.Ieee.{nan};
@@ -12,7 +12,7 @@ ghost use Rattle.numeric.specs.Whole.{tellCount};
 ghost use Rattle.real.specs.Place.{tellPlace};
 ghost use Rattle.real.specs.Reading.{tellReading};
 ghost use Rattle.linspace.specs.List.{real, stepped, against};
-ghost use Rattle.linspace.specs.Calls.{tellListed, hasEntries, stepValues, stepSize, stepFromIndex, stepIndexOf, stepPlace, stepReading, stepKeyPoints};
+ghost use Rattle.linspace.specs.Calls.{tellListed, hasEntries, unserved, stepValues, stepSize, stepFromIndex, stepIndexOf, stepPlace, stepReading, stepKeyPoints};
 ghost use Rattle.linspace.specs.RealSteps.{plusStep, after, Passed};
 ghost use Rattle.linspace.specs.Walks.{tellWalk, PassedBy};
 use crate::Linspacef64;
@@ -189,7 +189,7 @@ fn index_along(s: Steps, v: f64, method: RoundingMethod) -> Index
 
 // Whether there are entries to mark, and no mark is allowed.
 fn no_step(s: Steps, m: u32) -> bool
-    ensures { λ r. ⌜ r ≡ (eqb m 0 && hasEntries (stepped real (s .a) (s .b) (s .d))) ⌝ }
+    ensures { λ r. ⌜ r ≡ unserved real (s .a) (s .b) (s .d) m ⌝ }
 {
     if m == 0 {
         return has_entries(s);
@@ -220,7 +220,7 @@ fn put_marks(s: Steps, w: Kept, h: usize, m: u32, out: &mut [f64]) -> Listed
     requires { ⌜ against real (s .a) (s .b) (s .d) ≡ false ⌝ }
     requires { ⌜ w .n ≡ length (stepped real (s .a) (s .b) (s .d)) ⌝ }
     requires { ⌜ w .n ≤ 65536 ⌝ }
-    requires { ⌜ (eqb m 0 && hasEntries (stepped real (s .a) (s .b) (s .d))) ≡ false ⌝ }
+    requires { ⌜ unserved real (s .a) (s .b) (s .d) m ≡ false ⌝ }
     ensures { λ r. ⌜ (tellListed r, now (out .exit)) ≡ stepKeyPoints real (s .a) (s .b) (s .d) m (now (out .entry)) ⌝ }
 {
     let n = w.n;

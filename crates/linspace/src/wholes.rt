@@ -1,9 +1,8 @@
 // Stepped axes of whole numbers. Entry k is a + k · d, so that nothing but the writing of a list takes longer for a longer one.
 ghost use mathlib.Core.Path.{_≡_};
-ghost use mathlib.Core.Bool.{true, false, _&&_};
+ghost use mathlib.Core.Bool.{true, false};
 ghost use mathlib.Core.List.{[], _∷_, _++_};
 ghost use Prim.Native.Nat.{ℕ, suc, _+_, _*_, _<_, _≤_};
-ghost use lib.Dec.{eqb};
 ghost use lib.IntN.{pos, natAbs};
 ghost use lib.ListN.{length, drop, getD};
 ghost use Rattle.ranged1d.specs.Admitted.{wholeAdmitted};
@@ -15,7 +14,7 @@ ghost use Rattle.numeric.specs.Whole.{tellCount, tellValue};
 ghost use Rattle.real.specs.Place.{tellPlace};
 ghost use Rattle.search.specs.Search.{search, wholes};
 ghost use Rattle.linspace.specs.List.{whole, stepped, against, tooLong, axisAdmitted};
-ghost use Rattle.linspace.specs.Calls.{tellListed, nth, hasEntries, marksOf, stepValues, stepSize, stepFromIndex, stepIndexOf, stepPlace, stepReading, stepKeyPoints};
+ghost use Rattle.linspace.specs.Calls.{tellListed, nth, hasEntries, marksOf, stepValues, stepSize, stepFromIndex, stepIndexOf, stepPlace, stepReading, stepKeyPoints, unserved};
 ghost use Rattle.linspace.specs.WholeSteps.{wholeCount, past, wholePosition, Lies, Known};
 use crate::Linspacei32;
 use crate::Listed;
@@ -72,7 +71,7 @@ fn has_entries(s: Steps) -> bool
 // Whether m leaves no mark for a list that has entries.
 fn lacks_step(s: Steps, m: u32) -> bool
     requires { ⌜ axisAdmitted whole (s .a) (s .b) (s .d) ≡ true ⌝ }
-    ensures { λ r. ⌜ r ≡ (eqb m 0 && hasEntries (stepped whole (s .a) (s .b) (s .d))) ⌝ }
+    ensures { λ r. ⌜ r ≡ unserved whole (s .a) (s .b) (s .d) m ⌝ }
 {
     if m == 0 {
         return has_entries(s);

@@ -1,13 +1,13 @@
 -- Demand 3, whole: every clause of specs/Mirror, from the mirror theorems of the crates below. Assumes nothing.
 use mathlib.Core.Path.{_≡_, refl, sym, ap, _∙_}
-use mathlib.Core.Bool.{true, false, _&&_}
+use mathlib.Core.Bool.{true, false}
 use mathlib.Core.List.{List, [], map}
 use Prim.Native.Nat.{ℕ}
 use lib.IntN.{ℤ, pos, negℤ}
 use lib.ListN.{length}
 use lib.Ieee.{Float, neg}
 use Rattle.ranged1d.specs.Answer.{Answer, given, Reason, lowest, BothLong}
-use Rattle.ranged1d.specs.Admitted.{wholeAdmitted}
+use Rattle.ranged1d.specs.Admitted.{endsAdmitted}
 use Rattle.ranged1d.specs.declared.Limit.{Limit}
 use Rattle.real.specs.Mirror as film
 use Rattle.real.proofs.Mirror as places
@@ -75,7 +75,7 @@ module _ (a b : ℤ) (m : ℕ) where
   told = (pos (stepOf a b m), length (marks a b m))
 
   abbrev reasons : List ℤ → List Reason
-  reasons old = keyPointsReasons (wholeAdmitted a && wholeAdmitted b) a b m (marks a b m) old
+  reasons old = keyPointsReasons (endsAdmitted a b) a b m (marks a b m) old
 
   served : (old : List ℤ) → verdict (wholeKeyPoints a b m old .0) ≡ accepted → noStep a b m ≡ false
   unfolding wholeKeyPoints

@@ -13,7 +13,7 @@ use lib.IntN.{ℤ, pos, negsuc, negℤ, natAbs, _+ℤ_, _*ℤ_, +ℤ-comm, neg�
 use lib.ListN.{length, length-append, length-map, length-reverse}
 use lib.Signed.{leZ, ltZ, quotZ, _<ℤ_}
 use Rattle.ranged1d.specs.Answer.{given, BothLong}
-use Rattle.ranged1d.specs.Admitted.{wholeAdmitted}
+use Rattle.ranged1d.specs.Admitted.{wholeAdmitted, endsAdmitted}
 use Rattle.ranged1d.proofs.Lowest.{lowest-then}
 use Rattle.ranged1d.proofs.Whole.{admitted-neg, low-neg, high-neg, low-high, neg-far, less-not-above, yes-le, yes-lt, lt-yes, neg-below, below-all, neg-le, neg-lt, neg-times, quot-neg}
 use Rattle.numeric.specs.Marks.{low, high, distance, stepAt, chosen, ceilDiv, firstIndex, lastIndex, multiple, multiples, noStepFor, stepFor, marksFor, noStep, stepOf, marks}
@@ -172,7 +172,7 @@ module _ (a b : ℤ) (m : ℕ) where
   verdict old old′ e =
       lowest-then (keyPointsReasons (wholeAdmitted (negℤ a) && wholeAdmitted (negℤ b)) (negℤ a) (negℤ b) m (marks (negℤ a) (negℤ b) m) old′) _ (λ x. given (x .0))
       ∙ rw (admitted-neg a, admitted-neg b, no-step-neg, step-neg, ← e) refl
-      ∙ sym (lowest-then (keyPointsReasons (wholeAdmitted a && wholeAdmitted b) a b m (marks a b m) old) _ (λ x. given (x .0)))
+      ∙ sym (lowest-then (keyPointsReasons (endsAdmitted a b) a b m (marks a b m) old) _ (λ x. given (x .0)))
 
   -- where a step serves
   module _ (served : noStep a b m ≡ false) where

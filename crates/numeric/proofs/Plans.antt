@@ -1,6 +1,6 @@
 -- A plan of an axis: the list that `key_points` writes is read off it, and every number on the way fits. Assumes nothing.
 use mathlib.Core.Path.{_≡_, refl, sym, ap, _∙_, subst}
-use mathlib.Core.Bool.{Bool, cond, _&&_}
+use mathlib.Core.Bool.{Bool, cond}
 use mathlib.Core.List.{List, [], _∷_, _++_, map}
 use Prim.Native.Nat.{ℕ, suc, _+_, _*_, _≤_, _<_}
 use native.Mathlib.Omega.{arith}
@@ -10,7 +10,7 @@ use lib.ListN.{length, drop, length-map}
 use lib.Signed.{leZ, nonNeg}
 use borrow.Author.Tests.{leb-false, lt-ltb, le-ltb, not-false}
 use Rattle.ranged1d.specs.Answer.{Answer, given, refused, _when_, lowest, written, andThen}
-use Rattle.ranged1d.specs.Admitted.{wholeAdmitted}
+use Rattle.ranged1d.specs.Admitted.{endsAdmitted}
 use Rattle.ranged1d.proofs.Answers.{given-is}
 use Rattle.ranged1d.proofs.Bools as tests
 use Rattle.ranged1d.proofs.Lowest.{given-tests, lowest-then}
@@ -62,15 +62,15 @@ module _ (a b : ℤ) (m : ℕ) where
   pub planned-good : {p : KeyPoints} → wholePlan a b m ≡ given p → Good a b m p
   unfolding wholePlan noStepFor
   planned-good e =
-      let told = given-tests (planReasons (wholeAdmitted a && wholeAdmitted b) a b m) (given (planOf a b m)) e in
-      let near = both-near 1_000_000_000 a b (not-false (wholeAdmitted a && wholeAdmitted b) (told .0 .0)) in
+      let told = given-tests (planReasons (endsAdmitted a b) a b m) (given (planOf a b m)) e in
+      let near = both-near 1_000_000_000 a b (not-false (endsAdmitted a b) (told .0 .0)) in
       subst (Good a b m) (given-is (told .1)) (good-plan (near .0) (near .1) (leb-false _ _ (told .0 .1 .0)))
 
 -- What `key_points` does, by the plan: one law for every element type A, with f from whole numbers to A and `new` the marks as A has
 -- them. The rules of specs/Calls are `ruleBy` at f = λ z. z and at f = natAbs.
 module _ {A : Type 0} (f : ℤ → A) (a b : ℤ) (m : ℕ) (new old : List A) (same : length new ≡ length (marks a b m)) where
   abbrev pub ruleBy : Answer (A × ℕ) × List A
-  ruleBy = keyPointsBy (wholeAdmitted a && wholeAdmitted b) (f (pos (stepOf a b m))) a b m new old
+  ruleBy = keyPointsBy (endsAdmitted a b) (f (pos (stepOf a b m))) a b m new old
 
   -- the plan's count and step, put behind its own reasons
   byPlan : Answer KeyPoints → Answer (A × ℕ) × List A
@@ -79,7 +79,7 @@ module _ {A : Type 0} (f : ℤ → A) (a b : ℤ) (m : ℕ) (new old : List A) (
   by-plan : ruleBy ≡ byPlan (wholePlan a b m)
   unfolding wholePlan byPlan
   by-plan = rw same (ap (λ (r : Answer (A × ℕ)). written r new old)
-      (sym (lowest-then (planReasons (wholeAdmitted a && wholeAdmitted b) a b m) (given (planOf a b m)) (λ p. lowest (13 when ltb (length old) (p .count) ∷ []) (given (f (p .step), p .count))))))
+      (sym (lowest-then (planReasons (endsAdmitted a b) a b m) (given (planOf a b m)) (λ p. lowest (13 when ltb (length old) (p .count) ∷ []) (given (f (p .step), p .count))))))
 
   pub plan-refused : {n : ℕ} → wholePlan a b m ≡ refused n → ruleBy ≡ (refused n, old)
   unfolding byPlan

@@ -9,6 +9,7 @@ use Rattle.ranged1d.specs.declared.Limit.{Limit}
 abbrev pub wholeAdmitted : ℤ → Bool
 wholeAdmitted z = leb (natAbs z) 1_000_000_000
 
+-- both ends of a whole axis
 abbrev pub endsAdmitted : ℤ → ℤ → Bool
 endsAdmitted a b = wholeAdmitted a && wholeAdmitted b
 

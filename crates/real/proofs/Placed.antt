@@ -12,7 +12,7 @@ use lib.Ieee.{Float, inf, binary64, neg, add, sub, eq, ofInt, ofBits}
 use lib.Ieee.Back.{round-whole}
 use borrow.Author.Tests.{leb-true}
 use Rattle.ranged1d.specs.Answer.{Answer, given, _when_, lowest}
-use Rattle.ranged1d.specs.Admitted.{wholeAdmitted, limitAdmitted}
+use Rattle.ranged1d.specs.Admitted.{wholeAdmitted, limitAdmitted, endsAdmitted}
 use Rattle.ranged1d.specs.declared.Limit.{Limit}
 use Rattle.ranged1d.proofs.Whole.{add-far, minus-far, quotient-far, length-near, some-size, no-difference}
 use Rattle.rounding.specs.Within.{AtMost}
@@ -72,7 +72,7 @@ spot-near a b v limit h =
 
 -- ---- a whole place is the real place of the three numbers as floats
 pub whole-is-real : (a b v : ℤ) (limit : Limit)
-    → wholePlace a b v limit ≡ lowest (1 when not (wholeAdmitted a && wholeAdmitted b && wholeAdmitted v) ∷ []) (realPlace (ofInt binary64 a) (ofInt binary64 b) (ofInt binary64 v) limit)
+    → wholePlace a b v limit ≡ lowest (1 when not (endsAdmitted a b && wholeAdmitted v) ∷ []) (realPlace (ofInt binary64 a) (ofInt binary64 b) (ofInt binary64 v) limit)
 unfolding wholePlace realPlace
 whole-is-real a b v limit = refl
 

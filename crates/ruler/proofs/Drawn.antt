@@ -1,6 +1,6 @@
 -- What a plan says of the ruler: its records are those of the plan's marks, and every one of them can be made. Assumes nothing.
 use mathlib.Core.Path.{_≡_, refl, sym, ap, ap₂, _∙_, subst}
-use mathlib.Core.Bool.{Bool, true, false, not, _&&_}
+use mathlib.Core.Bool.{Bool, true, false, not}
 use mathlib.Core.List.{List, [], _∷_, _++_, map}
 use Prim.Native.Nat.{ℕ, _+_, _*_, _≤_, _<_}
 use native.Mathlib.Omega.{arith}
@@ -12,7 +12,7 @@ use borrow.Author.Tests.{lt-ltb, le-ltb}
 use Rattle.ruler.proofs.Places.{ends, film, served}
 use Rattle.ranged1d.specs.Answer.{Answer, given, none, refused, _when_, lowest, written, andThen}
 use Rattle.ranged1d.proofs.Lowest.{lowest-then}
-use Rattle.ranged1d.specs.Admitted.{wholeAdmitted, limitAdmitted}
+use Rattle.ranged1d.specs.Admitted.{limitAdmitted, endsAdmitted}
 use Rattle.ranged1d.specs.declared.Limit.{Limit}
 use Rattle.numeric.specs.declared.KeyPoints.{KeyPoints}
 use Rattle.numeric.specs.Marks.{noStep, marks}
@@ -50,9 +50,9 @@ module _ (a b : ℤ) (limit : Limit) (m : ℕ) where
 
   all-drawn : DrawnBy (rulerPlan a b limit m)
   unfolding DrawnBy rulerPlan wholePlan hasRuler
-  all-drawn = go (wholeAdmitted a && wholeAdmitted b) refl (limitAdmitted limit) refl (noStep a b m) refl
+  all-drawn = go (endsAdmitted a b) refl (limitAdmitted limit) refl (noStep a b m) refl
     where
-      go : (t : Bool) → (wholeAdmitted a && wholeAdmitted b) ≡ t → (u : Bool) → limitAdmitted limit ≡ u → (v : Bool) → noStep a b m ≡ v
+      go : (t : Bool) → endsAdmitted a b ≡ t → (u : Bool) → limitAdmitted limit ≡ u → (v : Bool) → noStep a b m ≡ v
           → DrawnBy (lowest (1 when not t ∷ 2 when not u ∷ 3 when v ∷ []) (given (planOf a b m)))
       go true e true f false g = drawn (rw (e, g)) (rw (e, f, g))
       go true e true f true g = rw (e, f, g)

@@ -12,7 +12,7 @@ use lib.Signed.{_<ℤ_}
 use borrow.Author.Tests.{eqb-true, eqb-false}
 use Rattle.ruler.proofs.Places.{served}
 use Rattle.ranged1d.specs.Answer.{Answer, given, none, refused, Reason, lowest, andThen, BothLong}
-use Rattle.ranged1d.specs.Admitted.{wholeAdmitted}
+use Rattle.ranged1d.specs.Admitted.{endsAdmitted}
 use Rattle.ranged1d.specs.declared.Limit.{Limit}
 use Rattle.ranged1d.proofs.Lowest.{lowest-then}
 use Rattle.ranged1d.proofs.Whole.{admitted-neg}
@@ -96,7 +96,7 @@ module _ (a b : ℤ) (limit : Limit) (m : ℕ) where
   abbrev −limit : Limit
   −limit = film.mirrored limit
 
-  ends-same : (wholeAdmitted (negℤ a) && wholeAdmitted (negℤ b)) ≡ (wholeAdmitted a && wholeAdmitted b)
+  ends-same : endsAdmitted (negℤ a) (negℤ b) ≡ endsAdmitted a b
   ends-same = ap₂ _&&_ (admitted-neg a) (admitted-neg b)
 
   ruler-same : hasRuler (negℤ a) (negℤ b) −limit m ≡ hasRuler a b limit m

@@ -1,13 +1,13 @@
 -- Every mark of an axis that has a ruler has a place, the one in its record, so that the writer never meets 5. Assumes nothing.
 use mathlib.Core.Path.{_≡_, refl, sym, ap, _∙_}
-use mathlib.Core.Bool.{true, false, _&&_}
+use mathlib.Core.Bool.{true, false}
 use mathlib.Core.List.{List}
 use Prim.Native.Nat.{ℕ, _<_}
 use lib.IntN.{ℤ, pos}
 use lib.ListN.{length, getD}
 use borrow.Author.Tests.{not-false}
 use Rattle.ranged1d.specs.Answer.{Answer, given}
-use Rattle.ranged1d.specs.Admitted.{wholeAdmitted, limitAdmitted}
+use Rattle.ranged1d.specs.Admitted.{limitAdmitted, endsAdmitted}
 use Rattle.ranged1d.specs.declared.Limit.{Limit}
 use Rattle.ranged1d.proofs.Lowest.{NoneOf, none-of}
 use Rattle.numeric.specs.Marks.{marks, noStep}
@@ -24,8 +24,8 @@ module _ (a b : ℤ) (limit : Limit) (m : ℕ) (h : hasRuler a b limit m ≡ tru
   unfolding hasRuler
   stopped-by-none = none-of (noRuler a b limit m) h
 
-  pub ends : (wholeAdmitted a && wholeAdmitted b) ≡ true
-  ends = not-false (wholeAdmitted a && wholeAdmitted b) (stopped-by-none .0)
+  pub ends : endsAdmitted a b ≡ true
+  ends = not-false (endsAdmitted a b) (stopped-by-none .0)
 
   pub film : limitAdmitted limit ≡ true
   film = not-false (limitAdmitted limit) (stopped-by-none .1 .0)

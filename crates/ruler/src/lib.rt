@@ -229,10 +229,7 @@ fn planned(d: Draft) -> Planned
     let a = d.a;
     let b = d.b;
     let limit = d.limit;
-    if !ranged1d::whole_admitted(a) {
-        return Planned::Refused(Refusal::WholeNotAdmitted);
-    }
-    if !ranged1d::whole_admitted(b) {
+    if !RangedCoordi32(a, b).admitted() {
         return Planned::Refused(Refusal::WholeNotAdmitted);
     }
     if !limit.admitted() {

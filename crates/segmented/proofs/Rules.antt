@@ -23,7 +23,7 @@ use Rattle.discrete.specs.Index.{indexFor, pixelIndex}
 use Rattle.real.specs.Place.{isBeyond, realPlace, wholePlace, spotAnswer}
 use Rattle.search.specs.declared.RoundingMethod.{RoundingMethod}
 use Rattle.linspace.specs.List.{Kind, whole, real, stepped, against, tooLong, axisAdmitted, most}
-use Rattle.linspace.specs.Calls.{hasEntries, stepSize, stepFromIndex, stepIndexOf, stepMarks, stepKeyPoints}
+use Rattle.linspace.specs.Calls.{stepSize, stepFromIndex, stepIndexOf, stepMarks, stepKeyPoints, unserved}
 use Rattle.linspace.proofs.Walks.{nth-past}
 use Rattle.linspace.proofs.Marks.{marks-none, marks-some, some-marks}
 use Rattle.linspace.proofs.WholeRules.{ends-place}
@@ -307,7 +307,7 @@ module _ {A : Type 0} (kind : Kind A) (a b d : A) where
     below t y u z f = lowest (1 when not t ∷ 3 when y ∷ 6 when u ∷ 7 when z ∷ 13 when f ∷ []) (given (length marked))
 
     -- an axis that is not refused has marks if it has entries
-    some-marked : (eqb m 0 && hasEntries (stepped kind a b d)) ≡ false → tooLong kind a b d ≡ false → eqb (length (stepped kind a b d)) 0 ≡ false → length marked ≡ 0 → ⊥
+    some-marked : unserved kind a b d m ≡ false → tooLong kind a b d ≡ false → eqb (length (stepped kind a b d)) 0 ≡ false → length marked ≡ 0 → ⊥
     some-marked y z o e =
         let n = length (stepped kind a b d) in
         let some = eqb-false n 0 o in
@@ -319,9 +319,9 @@ module _ {A : Type 0} (kind : Kind A) (a b d : A) where
     marks-by : (atLeastOne (stepKeyPoints kind a b d m old .0), stepKeyPoints kind a b d m old .1) ≡ segmentMarks
     unfolding stepKeyPoints segmentKeyPoints
     marks-by =
-        go (axisAdmitted kind a b d) (eqb m 0 && hasEntries (stepped kind a b d)) refl (against kind a b d) (tooLong kind a b d) refl (ltb (length old) (length marked)) refl (eqb (length (stepped kind a b d)) 0) refl
+        go (axisAdmitted kind a b d) (unserved kind a b d m) refl (against kind a b d) (tooLong kind a b d) refl (ltb (length old) (length marked)) refl (eqb (length (stepped kind a b d)) 0) refl
       where
-        go : (t y : Bool) → (eqb m 0 && hasEntries (stepped kind a b d)) ≡ y → (u z : Bool) → tooLong kind a b d ≡ z → (f : Bool) → ltb (length old) (length marked) ≡ f → (o : Bool) → eqb (length (stepped kind a b d)) 0 ≡ o
+        go : (t y : Bool) → unserved kind a b d m ≡ y → (u z : Bool) → tooLong kind a b d ≡ z → (f : Bool) → ltb (length old) (length marked) ≡ f → (o : Bool) → eqb (length (stepped kind a b d)) 0 ≡ o
             → (atLeastOne (below t y u z f), written (below t y u z f) marked old .1) ≡ written (by t y u z f o) marked old
         go false y hy u z hz f hf o ho = refl
         go true true hy u z hz f hf o ho = refl

@@ -1,9 +1,8 @@
 -- `linspace::Linspacef64::key_points` meets its contract. Assumes nothing.
 use mathlib.Core.Path.{_≡_, refl, sym, ap, subst, _∙_}
-use mathlib.Core.Bool.{false, _&&_}
-use lib.Dec.{eqb}
-use Rattle.linspace.specs.List.{real, stepped}
-use Rattle.linspace.specs.Calls.{stepSize, stepKeyPoints, hasEntries}
+use mathlib.Core.Bool.{false}
+use Rattle.linspace.specs.List.{real}
+use Rattle.linspace.specs.Calls.{stepSize, stepKeyPoints, unserved}
 use Rattle.linspace.specs.RealSteps.{plusStep}
 use Rattle.linspace.specs.Walks.{tellWalk, PassedBy}
 use Rattle.linspace.specs.declared.reals.Walk.{Walk}
@@ -24,7 +23,7 @@ module _ (c : tie.After-walk-along) where
   abbrev at : tie.After-steps
   at = c .before .before .before .before
 
-  allowed : let r = at .steps .result in (eqb (at .before .before .args .m) 0 && hasEntries (stepped real (r .a) (r .b) (r .d))) ≡ false
+  allowed : let r = at .steps .result in unserved real (r .a) (r .b) (r .d) (at .before .before .args .m) ≡ false
   allowed = let no = c .before .before in sym (no .before .no-step .ensures) ∙ no .if1 .left
 
   size-is : let r = at .steps .result in stepSize real (r .a) (r .b) (r .d) ≡ tellWalk (c .walk-along .result)

@@ -1,17 +1,16 @@
 -- `linspace::Linspacei32::key_points` meets its contract. Assumes nothing.
 use mathlib.Core.Path.{_≡_, sym, ap, _∙_}
-use mathlib.Core.Bool.{true, false, _&&_}
+use mathlib.Core.Bool.{true, false}
 use mathlib.Core.List.{List}
 use native.Mathlib.Omega.{arith}
 use borrow.Author.Tests.{not-true, not-false}
 use borrow.Author.Needs.{needs}
 use lib.IntN.{ℤ, pos}
-use lib.Dec.{eqb}
 use Rattle.ranged1d.specs.Answer.{listWritten}
 use Rattle.numeric.specs.Whole.{tellCount}
 use Rattle.numeric.specs.declared.whole.Count.{Count}
 use Rattle.linspace.specs.List.{whole, stepped, axisAdmitted}
-use Rattle.linspace.specs.Calls.{hasEntries, marksOf}
+use Rattle.linspace.specs.Calls.{marksOf, unserved}
 use Rattle.linspace.specs.WholeSteps.{Known}
 use Rattle.linspace.proofs.Rules.{counts, counted, points-refused, points-none, points-stopped, points-is}
 use Rattle.linspace.proofs.Marks.{some-marks}
@@ -42,10 +41,10 @@ module _ (c : tie.After-steps) where
 counts-are : (c : tie.After-counted) {r : Count} → c .counted .result ≡ r → let s = c .before .before .before in counts whole (a s) (b s) (d s) ≡ tellCount r
 counts-are c e = let s = c .before .before .before in sym (rw (s .steps .ensures .0, s .steps .ensures .1, s .steps .ensures .2) at (c .counted .ensures)) ∙ ap tellCount e
 
-lacks : (c : tie.After-lacks-step) → let s = c .before in c .lacks-step .result ≡ (eqb (start s .args .m) 0 && hasEntries (stepped whole (a s) (b s) (d s)))
+lacks : (c : tie.After-lacks-step) → let s = c .before in c .lacks-step .result ≡ unserved whole (a s) (b s) (d s) (start s .args .m)
 lacks c = let s = c .before in rw (s .steps .ensures .0, s .steps .ensures .1, s .steps .ensures .2) at (c .lacks-step .ensures)
 
-served : (c : tie.Else2) → let s = c .before .before in (eqb (start s .args .m) 0 && hasEntries (stepped whole (a s) (b s) (d s))) ≡ false
+served : (c : tie.Else2) → let s = c .before .before in unserved whole (a s) (b s) (d s) (start s .args .m) ≡ false
 served c = sym (lacks (c .before)) ∙ c .if2 .left
 
 known : (c : tie.After-n) → let s = c .before .before .before .before .before in Known (a s) (b s) (d s) (c .n .given .0 .0)
