@@ -4,4 +4,5 @@ pub mod Halves
 pub mod Rules
 pub mod Entries
 pub mod WholeRules
+pub mod BelowRules
 pub mod Mirror

@@ -1,26 +1,26 @@
 -- The rules of the calls, return by return, over any axis, and over a stepped one of either kind of numbers. Assumes nothing.
-use mathlib.Core.Path.{_≡_, refl, sym, ap, _∙_}
+use mathlib.Core.Path.{_≡_, refl, sym, ap, subst, _∙_}
 use mathlib.Core.Logic.{_⊎_}
 use mathlib.Core.Bool.{Bool, true, false, cond, not, _&&_, _||_, and-false, and-true, true≢false}
 use mathlib.Core.List.{List, [], _∷_}
-use Prim.Native.Nat.{ℕ, suc, _+_, _≤_}
+use Prim.Native.Nat.{ℕ, suc, _+_, _≤_, _<_}
 use native.Mathlib.Numerals.{add-one}
 use native.Mathlib.Omega.{arith}
-use borrow.Author.Tests.{eq-eqb, ne-eqb, eqb-true, eqb-false, ltb-true, ltb-false, not-false}
+use borrow.Author.Tests.{eq-eqb, ne-eqb, eqb-true, eqb-false, lt-ltb, le-ltb, ltb-true, ltb-false, not-false}
 use lib.Dec.{ltb, eqb}
-use lib.IntN.{ℤ, _+ℤ_, _-ℤ_}
+use lib.IntN.{ℤ, natAbs, _+ℤ_, _-ℤ_}
 use lib.ListN.{length}
 use lib.Ieee.{Float}
-use Rattle.ranged1d.specs.Answer.{Answer, given, none, refused, Reason, _when_, lowest, written}
+use Rattle.ranged1d.specs.Answer.{Answer, given, none, refused, Reason, _when_, lowest, written, andThen}
 use Rattle.ranged1d.specs.Admitted.{wholeAdmitted, limitAdmitted, readingAdmitted}
 use Rattle.ranged1d.specs.declared.Limit.{Limit}
-use Rattle.ranged1d.proofs.Answers.{one-refusal, given-is, not-both}
+use Rattle.ranged1d.proofs.Answers.{one-refusal, given-is, not-both, not-none}
 use Rattle.ranged1d.proofs.Bools.{both-false}
 use Rattle.ranged1d.proofs.Lowest.{given-tests, either, stops}
 use Rattle.rounding.specs.declared.Whole.{Whole}
 use Rattle.rounding.specs.declared.Whole.the-variants.{Number, Beyond}
 use Rattle.discrete.specs.Index.{indexFor, pixelIndex}
-use Rattle.real.specs.Place.{isBeyond, realPlace, wholePlace, spotAnswer}
+use Rattle.real.specs.Place.{isBeyond, number, realPlace, wholePlace, spotAnswer}
 use Rattle.search.specs.declared.RoundingMethod.{RoundingMethod}
 use Rattle.linspace.specs.List.{Kind, whole, real, stepped, against, tooLong, axisAdmitted, most}
 use Rattle.linspace.specs.Calls.{stepSize, stepFromIndex, stepIndexOf, stepMarks, stepKeyPoints, unserved}
@@ -28,10 +28,10 @@ use Rattle.linspace.proofs.Walks.{nth-past}
 use Rattle.linspace.proofs.Marks.{marks-none, marks-some, some-marks}
 use Rattle.linspace.proofs.WholeRules.{ends-place}
 use Rattle.segmented.specs.Values.{Segment, exact, centerOf, last}
-use Rattle.segmented.specs.Segments.{Axis, Finder, unlisted, half, margin, narrowed, start, entryAfter, successor, middle, placed, afterBeyond, tooFar, fitIn, unsoughtPlace, segmentPlace, segmentSize, indexIn, unsoughtIn, segmentIndexOf, exactly, segmentAt, segmentFromIndex, segmentOf, segmentReading, segmentKeyPoints, countReasons}
+use Rattle.segmented.specs.Segments.{Axis, Finder, unlisted, half, margin, narrowed, start, entryAfter, middle, placed, afterBeyond, tooFar, fitIn, unsoughtPlace, segmentPlace, segmentSize, indexIn, unsoughtIn, segmentIndexOf, exactly, segmentAt, segmentFromIndex, segmentOf, segmentReading, segmentKeyPoints, countReasons}
 use Rattle.segmented.specs.Axes.{mostValues, steppedAxis, steppedFinder}
-use Rattle.segmented.specs.Steps.{atLeastOne, countAnswer, Stands, nextAnswer, centerAnswer, placedAnswer}
-use Rattle.segmented.proofs.Margin.{narrowed-admitted}
+use Rattle.segmented.specs.Steps.{atLeastOne, standing, Near, halfWay, middleBy, countAnswer, Stands, nextAnswer, afterAnswer, placedAnswer}
+use Rattle.segmented.proofs.Margin.{moved-by}
 
 -- ---- why there are no segments: u and z are 6 and 7, w that there are no entries or too many
 -- 4, 6 and 7, with 5 between them
@@ -43,6 +43,15 @@ stopped-far false false true f rest r x e = one-refusal e
 stopped-far false false false f rest r x e = absurd (not-both e)
 
 -- ---- a number that is to be at least 1
+pub none-stand : {n : ℕ} → n ≡ 0 → refused 4 ≡ standing (given n)
+none-stand {n} e = rw (eq-eqb n 0 e) refl
+
+pub many-stand : {n : ℕ} → (n ≡ 0 → ⊥) → mostValues < n → refused 4 ≡ standing (given n)
+many-stand {n} e l = rw (ne-eqb n 0 e, lt-ltb mostValues n l) refl
+
+pub some-stand : {n : ℕ} → (n ≡ 0 → ⊥) → n ≤ mostValues → given n ≡ standing (given n)
+some-stand {n} e l = rw (ne-eqb n 0 e, le-ltb mostValues n l) refl
+
 pub one-none : {n : ℕ} → n ≡ 0 → refused 4 ≡ atLeastOne (given n)
 one-none {n} e = rw (eq-eqb n 0 e) refl
 
@@ -53,10 +62,6 @@ one-some {n} e = rw (ne-eqb n 0 e) refl
 pub spot-number : (w : Whole) {z : ℤ} → spotAnswer w ≡ given z → w ≡ Number z
 spot-number (Number y) e = ap Number (given-is e)
 spot-number Beyond e = absurd (not-both (sym e))
-
-spot-refused : {B : Type 0} (w : Whole) (r : Answer B) {n : ℕ} → spotAnswer w ≡ refused n → refused n ≡ lowest (5 when isBeyond w ∷ []) r
-spot-refused (Number y) r e = absurd (not-both e)
-spot-refused Beyond r e = sym (one-refusal e)
 
 module _ {A : Type 0} (axis : Axis A) where
   abbrev w : Bool
@@ -115,55 +120,49 @@ module _ {A : Type 0} (axis : Axis A) where
         unfolding segmentPlace placedAnswer
         place-is k = rw (h, l, k .onward, k .short, some-entries k, k .few) refl
 
-  -- ---- a place on an axis with segments
+  -- ---- a place on an axis with segments, between limits l that are narrowed
   module _ (find : Finder A) (limit : Limit) where
-    pub placed-exact : (v : A) → spotAnswer (start axis v limit) ≡ placedAnswer axis find (exact v) limit
-    unfolding placedAnswer
-    placed-exact v = refl
-
     pub placed-last : given (limit .1) ≡ placedAnswer axis find last limit
     unfolding placedAnswer
     placed-last = refl
 
-    pub placed-far : (v : A) {n : ℕ} → spotAnswer (start axis v limit) ≡ refused n → refused n ≡ placedAnswer axis find (centerOf v) limit
-    unfolding placedAnswer
-    placed-far v {n} = go (start axis v limit) (afterBeyond axis limit (successor axis find v)) _
-      where
-        go : (x : Whole) (f : Bool) (r : Answer ℤ) → spotAnswer x ≡ refused n → refused n ≡ cond (isBeyond x || f) (refused 5) r
-        go (Number y) f r e = absurd (not-both e)
-        go Beyond f r e = sym e
+    module _ {n : ℕ} (k : Stands axis n) {l : Limit} (e : l ≡ narrowed n limit) (v : A) where
+      within-is : l ≡ narrowed (axis .count) limit
+      within-is = e ∙ ap (λ (m : ℕ). narrowed m limit) (sym (k .count))
 
-    pub placed-center : (v : A) {z : ℤ} → start axis v limit ≡ Number z → centerAnswer axis find v limit ≡ placedAnswer axis find (centerOf v) limit
-    unfolding placedAnswer centerAnswer
-    placed-center v e = rw e refl
+      pub placed-exact : spotAnswer (axis .spot v l) ≡ placedAnswer axis find (exact v) limit
+      unfolding placedAnswer
+      placed-exact = ap (λ (m : Limit). spotAnswer (axis .spot v m)) within-is
 
-    -- ---- the middle of a segment, by what the successor is
-    abbrev centerOn : A → Answer A → Answer ℤ
-    centerOn v r = lowest (5 when afterBeyond axis limit r ∷ []) (middle axis v limit r)
+      -- the middle, by the places of the entry and of its successor
+      abbrev M : ℤ
+      M = margin (axis .count) limit
 
-    module _ (v : A) where
-      center-is : centerOn v (nextAnswer axis find v) ≡ centerAnswer axis find v limit
-      unfolding nextAnswer centerAnswer
-      center-is = go (find .unsought v)
+      abbrev begun : Whole
+      begun = start axis v limit
+
+      centered : (x : Whole) → begun ≡ x → middleBy M (spotAnswer begun) (afterAnswer axis find v (narrowed (axis .count) limit)) ≡ placedAnswer axis find (centerOf v) limit
+      unfolding placedAnswer afterAnswer nextAnswer
+      centered Beyond q = rw q refl
+      centered (Number z) q = rw q (go (find .unsought v) (entryAfter axis (find .index v)))
         where
-          go : (t : Bool) → centerOn v (cond t (refused 9) (cond t none (entryAfter axis (find .index v))))
-              ≡ cond (afterBeyond axis limit (cond t none (entryAfter axis (find .index v)))) (refused 5) (cond t (refused 9) (middle axis v limit (cond t none (entryAfter axis (find .index v)))))
-          go true = refl
-          go false = refl
+          behind : (w : A) (y : Whole) → start axis w limit ≡ y → halfWay M z (spotAnswer (start axis w limit)) ≡ cond (isBeyond (start axis w limit)) (refused 5) (given (half (number begun +ℤ number (start axis w limit))))
+          behind w Beyond p = rw p refl
+          behind w (Number y) p = rw (p, q) refl
 
-      module _ {z : ℤ} (left : start axis v limit ≡ Number z) where
-        pub center-refused : {n : ℕ} → nextAnswer axis find v ≡ refused n → refused n ≡ centerAnswer axis find v limit
-        center-refused e = sym (ap (centerOn v) e) ∙ center-is
+          go : (t : Bool) (r : Answer A) → halfWay M z (andThen (cond t (refused 9) (cond t none r)) (λ w. spotAnswer (start axis w limit)))
+              ≡ cond (afterBeyond axis limit (cond t none r)) (refused 5) (cond t (refused 9) (middle axis v limit (cond t none r)))
+          go true r = refl
+          go false (given w) = behind w (start axis w limit) refl
+          go false none = rw q refl
+          go false (refused m) = refl
 
-        pub center-alone : nextAnswer axis find v ≡ none → given (z +ℤ half (margin (axis .count) limit)) ≡ centerAnswer axis find v limit
-        center-alone e = rw left at (sym (ap (centerOn v) e) ∙ center-is)
-
-        module _ (right : A) (e : nextAnswer axis find v ≡ given right) where
-          pub center-far : {n : ℕ} → spotAnswer (start axis right limit) ≡ refused n → refused n ≡ centerAnswer axis find v limit
-          center-far f = spot-refused (start axis right limit) _ f ∙ sym (ap (centerOn v) e) ∙ center-is
-
-          pub center-between : {y : ℤ} → spotAnswer (start axis right limit) ≡ given y → given (half (z +ℤ y)) ≡ centerAnswer axis find v limit
-          center-between f = rw (left, spot-number (start axis right limit) f) at (sym (ap (centerOn v) e) ∙ center-is)
+      pub placed-center : {left right : Answer ℤ} → left ≡ spotAnswer (axis .spot v l) → right ≡ afterAnswer axis find v l → middleBy (limit .1 -ℤ l .1) left right ≡ placedAnswer axis find (centerOf v) limit
+      placed-center {left} p r =
+          ap (middleBy (limit .1 -ℤ l .1) left) r
+          ∙ ap (λ (x : Answer ℤ). middleBy (limit .1 -ℤ l .1) x (afterAnswer axis find v l)) p
+          ∙ subst (λ (m : Limit). middleBy (limit .1 -ℤ m .1) (spotAnswer (axis .spot v m)) (afterAnswer axis find v m) ≡ placedAnswer axis find (centerOf v) limit) (sym within-is)
+          (ap (λ (m : ℤ). middleBy m (spotAnswer begun) (afterAnswer axis find v (narrowed (axis .count) limit))) (moved-by (axis .count) limit refl) ∙ centered begun refl)
 
   -- ---- `index_of`
   module _ (find : Finder A) (s : Segment A) where
@@ -183,6 +182,41 @@ module _ {A : Type 0} (axis : Axis A) where
     pub index-center : (v : A) → segmentIndexOf axis find (exact v) ≡ segmentIndexOf axis find (centerOf v)
     unfolding segmentIndexOf
     index-center v = refl
+
+    -- ---- the successor of v: the entry one after its index, of which holds what holds of every entry
+    module _ (v : A) where
+      pub next-is : {n : ℕ} → Stands axis n → axis .fit v ≡ true → {r : Answer ℕ} → segmentIndexOf axis find (exact v) ≡ r → entryAfter axis r ≡ nextAnswer axis find v
+      unfolding segmentIndexOf nextAnswer
+      next-is k h e = sym (ap (entryAfter axis) e) ∙ rw (k .admitted, h, k .onward, k .short, some-entries k, k .few) (go (find .unsought v) (find .index v))
+        where
+          go : (t : Bool) (f : Answer ℕ) → entryAfter axis (cond t (refused 9) f) ≡ cond t (refused 9) (cond t none (entryAfter axis f))
+          go true f = refl
+          go false f = refl
+
+      pub next-of : (P : A → Type 0) {w : A} → ((k : ℕ) → axis .entry k ≡ given w → P w) → nextAnswer axis find v ≡ given w → P w
+      unfolding nextAnswer
+      next-of P {w} each = go (find .unsought v) (find .index v)
+        where
+          go : (t : Bool) (f : Answer ℕ) → cond t (refused 9) (cond t none (entryAfter axis f)) ≡ given w → P w
+          go true f e = absurd (not-both (sym e))
+          go false (given k) e = each (suc k) e
+          go false none e = absurd (not-none e)
+          go false (refused m) e = absurd (not-both (sym e))
+
+    -- the place of a successor that is known
+    pub after-is : (v : A) (l : Limit) {r : Answer A} → nextAnswer axis find v ≡ r → andThen r (λ w. spotAnswer (axis .spot w l)) ≡ afterAnswer axis find v l
+    unfolding afterAnswer
+    after-is v l e = ap (λ (r : Answer A). andThen r (λ w. spotAnswer (axis .spot w l))) (sym e)
+
+    -- where every place is near 0, that of a successor is
+    pub after-near : (v : A) (l : Limit) → ((w : A) → Near (spotAnswer (axis .spot w l))) → Near (afterAnswer axis find v l)
+    unfolding afterAnswer
+    after-near v l near z = go (nextAnswer axis find v)
+      where
+        go : (r : Answer A) → andThen r (λ w. spotAnswer (axis .spot w l)) ≡ given z → natAbs z ≤ 1_001_000_000
+        go (given w) e = near w z e
+        go none e = absurd (not-none e)
+        go (refused m) e = absurd (not-both (sym e))
 
   -- ---- `from_index`
   pub last-at : {n : ℕ} → Stands axis n → (k : ℕ) → k ≡ n → given last ≡ segmentAt axis k
@@ -247,18 +281,17 @@ module _ {A : Type 0} (kind : Kind A) (a b d : A) where
   stepped-stands e = stands steps few-enough e
 
   -- ---- the count, from that of the list
-  pub count-some : atLeastOne (stepSize kind a b d) ≡ countAnswer steps
+  pub steps-stand : standing (stepSize kind a b d) ≡ countAnswer steps
   unfolding countAnswer stepSize
-  count-some = go (axisAdmitted kind a b d) (against kind a b d) (tooLong kind a b d) (eqb (length (stepped kind a b d)) 0) refl
+  steps-stand = go (axisAdmitted kind a b d) (against kind a b d) (tooLong kind a b d) refl
     where
-      go : (t u z o : Bool) → eqb (length (stepped kind a b d)) 0 ≡ o
-          → atLeastOne (lowest (1 when not t ∷ 6 when u ∷ 7 when z ∷ []) (given (length (stepped kind a b d))))
-          ≡ lowest (1 when not t ∷ 4 when (not (u || z) && (o || false)) ∷ 6 when u ∷ 7 when z ∷ []) (given (length (stepped kind a b d)))
-      go false u z o h = refl
-      go true true z o h = refl
-      go true false true o h = refl
-      go true false false true h = rw h refl
-      go true false false false h = rw h refl
+      go : (t u z : Bool) → tooLong kind a b d ≡ z
+          → standing (lowest (1 when not t ∷ 6 when u ∷ 7 when z ∷ []) (given (length (stepped kind a b d))))
+          ≡ lowest (1 when not t ∷ 4 when (not (u || z) && (eqb (length (stepped kind a b d)) 0 || false)) ∷ 6 when u ∷ 7 when z ∷ []) (given (length (stepped kind a b d)))
+      go false u z h = refl
+      go true true z h = refl
+      go true false true h = refl
+      go true false false h = rw (le-ltb mostValues (length (stepped kind a b d)) (few-enough refl h)) refl
 
   -- ---- entries
   module _ {n : ℕ} (s : Stands steps n) where
@@ -274,16 +307,6 @@ module _ {A : Type 0} (kind : Kind A) (a b d : A) where
       pub index-is : stepIndexOf kind a b d v method ≡ segmentIndexOf steps (steppedFinder kind a b d method) (exact v)
       unfolding stepIndexOf segmentIndexOf
       index-is = rw (s .admitted, s .onward, s .short, h, some-entries steps s) refl
-
-      pub next-is : {r : Answer ℕ} → stepIndexOf kind a b d v method ≡ r → entryAfter steps r ≡ nextAnswer steps (steppedFinder kind a b d method) v
-      unfolding stepIndexOf nextAnswer
-      next-is e =
-          sym (ap (entryAfter steps) e)
-          ∙ rw (s .admitted, s .onward, s .short, h) (go (steppedFinder kind a b d method .unsought v) (steppedFinder kind a b d method .index v))
-        where
-          go : (t : Bool) (f : Answer ℕ) → entryAfter steps (cond t (refused 9) f) ≡ cond t (refused 9) (cond t none (entryAfter steps f))
-          go true f = refl
-          go false f = refl
 
   -- ---- `key_points`
   module _ (m : ℕ) (old : List A) where
@@ -341,13 +364,10 @@ every-real a b d (exact v) = refl
 every-real a b d (centerOf v) = refl
 every-real a b d last = refl
 
--- ---- the place where a segment begins, by the ends alone
-pub real-begins : (a b d : Float) {n : ℕ} → Stands (steppedAxis real a b d) n → (v : Float) (limit : Limit) → limitAdmitted limit ≡ true → {l : Limit} → l ≡ narrowed n limit
-    → realPlace a b v l ≡ spotAnswer (start (steppedAxis real a b d) v limit)
+-- ---- places, by the ends alone
+pub real-spot : (a b d v : Float) (l : Limit) → limitAdmitted l ≡ true → realPlace a b v l ≡ spotAnswer (steppedAxis real a b d .spot v l)
 unfolding realPlace
-real-begins a b d {n} s v limit h e = rw (e, narrowed-admitted n limit h (s .some) (s .most), s .count) refl
+real-spot a b d v l h = rw h refl
 
-pub whole-begins : (a b d : ℤ) {n : ℕ} → Stands (steppedAxis whole a b d) n → (v : ℤ) → wholeAdmitted v ≡ true → (limit : Limit) → limitAdmitted limit ≡ true → {l : Limit} → l ≡ narrowed n limit
-    → wholePlace a b v l ≡ spotAnswer (start (steppedAxis whole a b d) v limit)
-whole-begins a b d {n} s v hv limit h {l} e =
-    ends-place a b d (s .admitted) v l ∙ rw (e, hv, narrowed-admitted n limit h (s .some) (s .most), s .count) refl
+pub step-spot : (a b d : ℤ) {n : ℕ} → Stands (steppedAxis whole a b d) n → (v : ℤ) → wholeAdmitted v ≡ true → (l : Limit) → limitAdmitted l ≡ true → wholePlace a b v l ≡ spotAnswer (steppedAxis whole a b d .spot v l)
+step-spot a b d s v hv l h = ends-place a b d (s .admitted) v l ∙ rw (hv, h) refl

@@ -2,16 +2,15 @@
 use mathlib.Core.Path.{_≡_, refl, sym, ap, _∙_}
 use mathlib.Core.Bool.{Bool, true, false, cond, not, _||_}
 use mathlib.Core.List.{List, [], _∷_}
-use Prim.Native.Nat.{ℕ, suc, _+_, _-_, _≤_, _<_}
+use Prim.Native.Nat.{ℕ, _+_, _-_, _≤_, _<_}
 use native.Mathlib.Decide.{decLt}
-use native.Mathlib.Numerals.{add-one}
 use native.Mathlib.Omega.{arith}
 use borrow.Author.Tests.{ltb-false, lt-ltb, le-ltb, le-leb, not-false}
 use lib.Dec.{ltb, eqb}
 use lib.IntN.{ℤ, pos, natAbs, _+ℤ_, _-ℤ_}
 use lib.ListN.{length}
 use lib.Signed.{ltZ}
-use Rattle.ranged1d.specs.Answer.{Answer, given, none, refused, Reason, _when_, lowest, written, andThen}
+use Rattle.ranged1d.specs.Answer.{Answer, given, none, refused, Reason, _when_, lowest, written}
 use Rattle.ranged1d.specs.Admitted.{wholeAdmitted, limitAdmitted}
 use Rattle.ranged1d.specs.declared.Limit.{Limit}
 use Rattle.ranged1d.proofs.Answers.{given-is, not-none}
@@ -24,11 +23,10 @@ use Rattle.numeric.specs.Calls.{planReasons, planOf, wholePlan, wholeKeyPoints}
 use Rattle.numeric.proofs.Readings.{ends-near}
 use Rattle.numeric.specs.Whole.{countOf, endsAdmitted, wholeSize, wholeIndexOf}
 use Rattle.segmented.specs.Values.{exact}
-use Rattle.segmented.specs.Segments.{Axis, narrowed, start, segmentAt, segmentIndexOf, segmentKeyPoints}
+use Rattle.segmented.specs.Segments.{Axis, segmentIndexOf, segmentKeyPoints}
 use Rattle.segmented.specs.Axes.{mostValues, wholeAxis, wholeFinder}
-use Rattle.segmented.specs.Steps.{atLeastOne, countAnswer, Stands, nextAnswer}
-use Rattle.segmented.proofs.Margin.{narrowed-admitted}
-use Rattle.segmented.proofs.Rules.{stands, some-entries, exact-at}
+use Rattle.segmented.specs.Steps.{standing, countAnswer, Stands}
+use Rattle.segmented.proofs.Rules.{stands, some-entries}
 
 module _ (a b : ℤ) where
   abbrev axis : Axis ℤ
@@ -45,65 +43,26 @@ module _ (a b : ℤ) where
   unfolding countAnswer
   size-tests = refl
 
-  -- at least 1, and then not too many
-  abbrev notMany : Answer ℕ → Answer ℕ
-  notMany r = andThen r (λ n. lowest (4 when ltb mostValues n ∷ []) (given n))
-
-  counts-by : notMany (atLeastOne (wholeSize a b)) ≡ countAnswer axis
+  pub counts-are : standing (wholeSize a b) ≡ countAnswer axis
   unfolding wholeSize
-  counts-by = go (endsAdmitted a b) (eqb (countOf a b) 0) refl ∙ sym size-tests
+  counts-are = go (endsAdmitted a b) ∙ sym size-tests
     where
-      go : (t o : Bool) → eqb (countOf a b) 0 ≡ o
-          → notMany (atLeastOne (lowest (1 when not t ∷ []) (given (countOf a b)))) ≡ lowest (1 when not t ∷ 4 when (o || ltb mostValues (countOf a b)) ∷ []) (given (countOf a b))
-      go false o h = refl
-      go true true h = rw h refl
-      go true false h = rw h refl
-
-  pub count-refused : {n : ℕ} → atLeastOne (wholeSize a b) ≡ refused n → refused n ≡ countAnswer axis
-  count-refused e = sym (ap notMany e) ∙ counts-by
-
-  module _ {n : ℕ} (e : atLeastOne (wholeSize a b) ≡ given n) where
-    pub count-many : mostValues < n → refused 4 ≡ countAnswer axis
-    count-many l = rw (lt-ltb mostValues n l) at (sym (ap notMany e) ∙ counts-by)
-
-    pub count-some : n ≤ mostValues → given n ≡ countAnswer axis
-    count-some l = rw (le-ltb mostValues n l) at (sym (ap notMany e) ∙ counts-by)
+      go : (t : Bool) → standing (lowest (1 when not t ∷ []) (given (countOf a b))) ≡ lowest (1 when not t ∷ none-or-many ∷ []) (given (countOf a b))
+      go true = refl
+      go false = refl
 
   module _ {n : ℕ} (s : Stands axis n) where
     -- ---- places
-    pub begins-is : (v : ℤ) → wholeAdmitted v ≡ true → (limit : Limit) → limitAdmitted limit ≡ true → {l : Limit} → l ≡ narrowed n limit → wholePlace a b v l ≡ spotAnswer (start axis v limit)
+    pub whole-spot : (v : ℤ) → wholeAdmitted v ≡ true → (l : Limit) → limitAdmitted l ≡ true → wholePlace a b v l ≡ spotAnswer (axis .spot v l)
     unfolding wholePlace
-    begins-is v hv limit h e = rw (e, s .admitted, hv, narrowed-admitted n limit h (s .some) (s .most), s .count) refl
+    whole-spot v hv l h = rw (s .admitted, hv, h) refl
 
     -- ---- entries
-    entry-in : (k : ℕ) → k < n → axis .entry k ≡ given (a +ℤ pos k)
+    pub entry-in : (k : ℕ) → k < n → axis .entry k ≡ given (a +ℤ pos k)
     entry-in k l = rw (lt-ltb k (countOf a b) (omega (arith, l, s .count))) refl
 
-    entry-out : (k : ℕ) → n ≤ k → axis .entry k ≡ none
+    pub entry-out : (k : ℕ) → n ≤ k → axis .entry k ≡ none
     entry-out k l = rw (le-ltb k (countOf a b) (omega (arith, l, s .count))) refl
-
-    pub segment-in : (k : ℕ) → k < n → given (exact (a +ℤ pos k)) ≡ segmentAt axis k
-    segment-in k l = exact-at axis s k (λ e. omega (arith, e, l)) (entry-in k l)
-
-    pub segment-out : (k : ℕ) → n < k → none ≡ segmentAt axis k
-    segment-out k l = exact-at axis s k (λ e. omega (arith, e, l)) (entry-out k (omega (arith, l)))
-
-    -- ---- the successor of v
-    module _ (v : ℤ) where
-      pub next-before : ltZ v a ≡ true → none ≡ nextAnswer axis (wholeFinder a) v
-      unfolding nextAnswer
-      next-before h = rw h refl
-
-      module _ (h : ltZ v a ≡ false) where
-        next-by : nextAnswer axis (wholeFinder a) v ≡ axis .entry (suc (natAbs (v -ℤ a)))
-        unfolding nextAnswer
-        next-by = rw h refl
-
-        pub next-in : natAbs (v -ℤ a) + 1 < n → given (a +ℤ pos (natAbs (v -ℤ a) + 1)) ≡ nextAnswer axis (wholeFinder a) v
-        next-in l = ap (λ (k : ℕ). given (a +ℤ pos k)) (add-one (natAbs (v -ℤ a))) ∙ sym (next-by ∙ entry-in (suc (natAbs (v -ℤ a))) (omega (arith, l)))
-
-        pub next-out : n ≤ natAbs (v -ℤ a) + 1 → none ≡ nextAnswer axis (wholeFinder a) v
-        next-out l = sym (next-by ∙ entry-out (suc (natAbs (v -ℤ a))) (omega (arith, l)))
 
     -- a value of the axis lies between its ends
     rises : ltZ b a ≡ false
@@ -123,14 +82,12 @@ module _ (a b : ℤ) where
         let near = ends-near a b (s .admitted) in
         near-on 1_000_000_000 a k (natAbs (b -ℤ a)) (omega (arith, l, spans)) (near .0) (rw (from-start a b (not-lt b a rises)) (near .1))
 
-    pub next-admitted : (v : ℤ) {w : ℤ} → nextAnswer axis (wholeFinder a) v ≡ given w → wholeAdmitted w ≡ true
-    next-admitted v {w} e = go (ltZ v a) refl (decLt (natAbs (v -ℤ a) + 1) n)
+    pub entry-admitted : (k : ℕ) {w : ℤ} → axis .entry k ≡ given w → wholeAdmitted w ≡ true
+    entry-admitted k {w} e = go (decLt k n)
       where
-        go : (t : Bool) → ltZ v a ≡ t → Dec (natAbs (v -ℤ a) + 1 < n) → wholeAdmitted w ≡ true
-        go true h d = absurd (not-none (next-before v h ∙ e))
-        go false h (yes l) = let is : a +ℤ pos (natAbs (v -ℤ a) + 1) ≡ w = given-is (next-in v h l ∙ e) in
-            le-leb (natAbs w) 1_000_000_000 (omega (arith, ap natAbs is, value-near (natAbs (v -ℤ a) + 1) l))
-        go false h (no l) = absurd (not-none (next-out v h (omega (arith, l)) ∙ e))
+        go : Dec (k < n) → wholeAdmitted w ≡ true
+        go (yes l) = let is : a +ℤ pos k ≡ w = given-is (sym (entry-in k l) ∙ e) in le-leb (natAbs w) 1_000_000_000 (omega (arith, ap natAbs is, value-near k l))
+        go (no l) = absurd (not-none (sym (entry-out k (omega (arith, l))) ∙ e))
 
     -- ---- `index_of`
     pub index-is : (v : ℤ) → wholeAdmitted v ≡ true → wholeIndexOf a b v ≡ segmentIndexOf axis (wholeFinder a) (exact v)

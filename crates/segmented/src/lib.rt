@@ -1,5 +1,6 @@
 // Segmented axes, after `SegmentedCoord` of discrete.rs: each entry of the axis below begins a segment, and one value more stands behind
 // the last.
+mod below;
 mod reals;
 mod steps;
 mod wholes;
@@ -8,17 +9,20 @@ ghost use mathlib.Core.Path.{_≡_};
 ghost use mathlib.Core.Bool.{true};
 ghost use Prim.Native.Nat.{_≤_};
 ghost use Rattle.ranged1d.specs.Admitted.{wholeAdmitted, limitAdmitted};
-ghost use Rattle.numeric.specs.Whole.{tellCount};
+ghost use Rattle.numeric.specs.Whole.{tellCount, tellValue};
+ghost use Rattle.real.specs.Place.{tellPlace};
 ghost use Rattle.linspace.specs.Calls.{tellListed};
 ghost use lib.IntN.{pos, natAbs, _+ℤ_, _-ℤ_};
 ghost use Rattle.segmented.specs.Values.{wholeSegment, carries};
-ghost use Rattle.segmented.specs.Steps.{atLeastOne};
+ghost use Rattle.segmented.specs.Steps.{atLeastOne, standing, Near, middleBy};
 ghost use Rattle.segmented.specs.Segments.{half, shared, margin, narrowed};
 use linspace::Linspacef64;
 use linspace::Linspacei32;
 use linspace::Listed;
 use numeric::Count;
+use numeric::Place;
 use numeric::RangedCoordi32;
+use numeric::Value;
 use ranged1d::Limit;
 use ranged1d::Refusal;
 
@@ -66,9 +70,9 @@ fn value_fits(value: SegmentValuei32) -> bool
     }
 }
 
-// A count of entries, of which segments need at least 1.
+// A count of entries that segments can stand on, 1 to 16,777,216. Only a whole axis can have more.
 fn some_entries(count: Count) -> Count
-    ensures { λ r. ⌜ tellCount r ≡ atLeastOne (tellCount count) ⌝ }
+    ensures { λ r. ⌜ tellCount r ≡ standing (tellCount count) ⌝ }
 {
     match count {
         Count::Refused(r) => Count::Refused(r),
@@ -76,12 +80,15 @@ fn some_entries(count: Count) -> Count
             if n == 0 {
                 return Count::Refused(Refusal::NoSegments);
             }
+            if 16777216 < n {
+                return Count::Refused(Refusal::NoSegments);
+            }
             Count::Of(n)
         }
     }
 }
 
-// The same of a number of marks that were written.
+// A number of marks that were written, of which segments have at least 1.
 fn some_marks(listed: Listed) -> Listed
     ensures { λ r. ⌜ tellListed r ≡ atLeastOne (tellListed listed) ⌝ }
 {
@@ -155,4 +162,32 @@ fn beside(left: i32, limit: Limit, within: Limit) -> i32
     let q = limit.1;
     let e = within.1;
     left + (q - e) / 2
+}
+
+// A place as a value that is known, or is refused.
+fn known_place(x: Place) -> Value
+    ensures { λ r. ⌜ tellValue r ≡ tellPlace x ⌝ }
+{
+    match x {
+        Place::At(z) => Value::At(z),
+        Place::Refused(r) => Value::Refused(r),
+    }
+}
+
+// The middle of a segment that begins at `left`: half way to `right`, where the next one begins; where there is none, half the margin further.
+fn middle_of(left: Place, right: Value, limit: Limit, within: Limit) -> Place
+    requires { ⌜ Near (tellPlace left) ⌝ }
+    requires { ⌜ Near (tellValue right) ⌝ }
+    requires { ⌜ limitAdmitted limit ≡ true ⌝ }
+    requires { ⌜ limitAdmitted within ≡ true ⌝ }
+    ensures { λ r. ⌜ tellPlace r ≡ middleBy (limit .1 -ℤ within .1) (tellPlace left) (tellValue right) ⌝ }
+{
+    match left {
+        Place::Refused(r) => Place::Refused(r),
+        Place::At(z) => match right {
+            Value::Refused(r) => Place::Refused(r),
+            Value::Nothing => Place::At(beside(z, limit, within)),
+            Value::At(y) => Place::At(between(z, y)),
+        },
+    }
 }

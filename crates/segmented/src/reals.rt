@@ -3,22 +3,21 @@ ghost use mathlib.Core.Path.{_≡_};
 ghost use mathlib.Core.Bool.{true};
 ghost use lib.ListN.{length};
 ghost use Rattle.ranged1d.specs.Admitted.{limitAdmitted};
-ghost use Rattle.rounding.specs.declared.Whole.the-variants.{Number};
 ghost use Rattle.discrete.specs.Index.{tellIndex};
-ghost use Rattle.numeric.specs.Whole.{tellCount};
+ghost use Rattle.numeric.specs.Whole.{tellCount, tellValue};
 ghost use Rattle.real.specs.Place.{tellPlace};
 ghost use Rattle.real.specs.Reading.{tellReading};
 ghost use Rattle.linspace.specs.List.{real};
 ghost use Rattle.linspace.specs.Calls.{tellListed, stepMarks};
 ghost use Rattle.segmented.specs.Values.{realSegment, tellRealSegment, exact};
-ghost use Rattle.segmented.specs.Segments.{narrowed, start, segmentPlace, segmentSize, segmentIndexOf, segmentAt, segmentFromIndex, segmentReading, segmentKeyPoints};
+ghost use Rattle.segmented.specs.Segments.{segmentPlace, segmentSize, segmentIndexOf, segmentAt, segmentFromIndex, segmentReading, segmentKeyPoints};
 ghost use Rattle.segmented.specs.Axes.{steppedAxis, steppedFinder};
-ghost use Rattle.segmented.specs.Steps.{countAnswer, Stands, nextAnswer, centerAnswer, placedAnswer};
+ghost use Rattle.segmented.specs.Steps.{countAnswer, Stands, nextAnswer, afterAnswer, placedAnswer};
 use crate::SegmentValuef64;
 use crate::SegmentedLinspacef64;
 use crate::Segmentf64;
-use crate::beside;
-use crate::between;
+use crate::known_place;
+use crate::middle_of;
 use crate::narrow;
 use crate::some_entries;
 use crate::some_marks;
@@ -28,6 +27,7 @@ use linspace::Listed;
 use numeric::Count;
 use numeric::Place;
 use numeric::RealReading;
+use numeric::Value;
 use ranged1d::Limit;
 use ranged1d::Refusal;
 use search::RoundingMethod;
@@ -56,29 +56,16 @@ fn next(axis: Linspacef64, n: u64, method: RoundingMethod, v: f64) -> RealReadin
     }
 }
 
-// The middle of the segment of v, which begins at `left`. Entries are placed within the narrowed limits.
-fn center(
-    axis: Linspacef64,
-    n: u64,
-    method: RoundingMethod,
-    v: f64,
-    left: i32,
-    limit: Limit,
-    within: Limit,
-) -> Place
+// The place of the entry behind that which the search finds for v, within limits.
+fn place_after(axis: Linspacef64, n: u64, method: RoundingMethod, v: f64, within: Limit) -> Value
     requires { ⌜ Stands (steppedAxis real (axis .inner .0) (axis .inner .1) (axis .step)) n ⌝ }
-    requires { ⌜ limitAdmitted limit ≡ true ⌝ }
-    requires { ⌜ within ≡ narrowed n limit ⌝ }
-    requires { ⌜ start (steppedAxis real (axis .inner .0) (axis .inner .1) (axis .step)) v limit ≡ Number left ⌝ }
-    ensures { λ r. ⌜ tellPlace r ≡ centerAnswer (steppedAxis real (axis .inner .0) (axis .inner .1) (axis .step)) (steppedFinder real (axis .inner .0) (axis .inner .1) (axis .step) method) v limit ⌝ }
+    requires { ⌜ limitAdmitted within ≡ true ⌝ }
+    ensures { λ r. ⌜ tellValue r ≡ afterAnswer (steppedAxis real (axis .inner .0) (axis .inner .1) (axis .step)) (steppedFinder real (axis .inner .0) (axis .inner .1) (axis .step) method) v within ⌝ }
 {
     match next(axis, n, method, v) {
-        RealReading::Refused(r) => Place::Refused(r),
-        RealReading::Nothing => Place::At(beside(left, limit, within)),
-        RealReading::At(w) => match axis.inner.map(w, within) {
-            Place::Refused(r) => Place::Refused(r),
-            Place::At(right) => Place::At(between(left, right)),
-        },
+        RealReading::Refused(r) => Value::Refused(r),
+        RealReading::Nothing => Value::Nothing,
+        RealReading::At(w) => known_place(axis.inner.map(w, within)),
     }
 }
 
@@ -97,10 +84,12 @@ fn place_of(
     let within = narrow(n as u32, limit);
     match value {
         SegmentValuef64::Exact(v) => axis.inner.map(v, within),
-        SegmentValuef64::CenterOf(v) => match axis.inner.map(v, within) {
-            Place::Refused(r) => Place::Refused(r),
-            Place::At(left) => center(axis, n, method, v, left, limit, within),
-        },
+        SegmentValuef64::CenterOf(v) => middle_of(
+            axis.inner.map(v, within),
+            place_after(axis, n, method, v, within),
+            limit,
+            within,
+        ),
         SegmentValuef64::Last => Place::At(limit.1),
     }
 }

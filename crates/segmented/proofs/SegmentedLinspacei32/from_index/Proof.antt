@@ -1,55 +1,14 @@
 -- `segmented::SegmentedLinspacei32::from_index` meets its contract. Assumes nothing.
-use mathlib.Core.Path.{_≡_, sym, ap, _∙_}
-use lib.IntN.{ℤ}
-use Rattle.numeric.specs.Whole.{tellCount}
-use Rattle.numeric.specs.declared.whole.Count.{Count}
-use Rattle.linspace.specs.List.{whole}
-use Rattle.segmented.specs.Segments.{Axis}
-use Rattle.segmented.specs.Axes.{steppedAxis}
-use Rattle.segmented.specs.Steps.{countAnswer, Stands}
-use Rattle.segmented.proofs.Rules.{from-stopped, from-is, stepped-stands}
+use mir.Facts.{toZ-ofZ}
 use borrow.Author.Needs.{needs}
 use Rattle.segmented.proofs.SegmentedLinspacei32.from_index.Statement.{statement}
 use Rattle.segmented.proofs.SegmentedLinspacei32.from_index.Tie as tie
 
-module _ (s : tie.Start) where
-  abbrev a : ℤ
-  a = s .args .self .0 .inner .0
-
-  abbrev b : ℤ
-  b = s .args .self .0 .inner .1
-
-  abbrev d : ℤ
-  d = s .args .self .0 .step
-
-  abbrev axis : Axis ℤ
-  axis = steppedAxis whole a b d
-
-counts : (c : tie.After-segments) {r : Count} → c .segments .result ≡ r → countAnswer (axis (c .before .before)) ≡ tellCount r
-counts c e = sym (c .segments .ensures) ∙ ap tellCount e
-
-known : (c : tie.After-n) → Stands (axis (c .before .before .before .before)) (c .n .given .0 .0)
-known c = let s = c .before .before .before .before in stepped-stands whole (a s) (b s) (d s) (counts (c .before .before) (c .n .given .1))
-
-segments-requires : tie.Need-segments-requires
-segments-requires c κs = search needs
-
-enum-known-r : tie.Need-enum-known-r
-enum-known-r c = search needs
-
-enum-known-n : tie.Need-enum-known-n
-enum-known-n c = search needs
-
-segment-at-requires : tie.Need-segment-at-requires
-segment-at-requires c κs = known (c .before)
+from-index-requires : tie.Need-from-index-requires
+from-index-requires c κs = search needs
 
 returns : tie.Need-returns
-returns c = let at = c .before .before .before in let s = at .before .before in from-stopped (axis s) (s .args .k) (counts at (c .before .r .given .1))
-
-returns-2 : tie.Need-returns-2
-returns-2 c = let n = c .before .before in let s = n .before .before .before .before in c .segment-at .ensures ∙ from-is (axis s) (s .args .k) (known n)
+returns c = rw (toZ-ofZ (record { sfits = c .before .struct-told .given .1 .0 .1 })) at (c .from-index .ensures)
 
 pub from-index-spec : {M : Type 1} → statement M
-from-index-spec =
-    tie.close
-    (tie.spec segments-requires enum-known-r enum-known-n segment-at-requires returns returns-2)
+from-index-spec = tie.close (tie.spec from-index-requires returns)

@@ -1,110 +1,14 @@
 -- `segmented::SegmentedLinspacei32::map` meets its contract. Assumes nothing.
-use mathlib.Core.Path.{_≡_, sym, ap, _∙_}
-use mathlib.Core.Bool.{true, _&&_}
-use borrow.Author.Tests.{not-true, not-false}
-use lib.IntN.{ℤ}
-use Rattle.ranged1d.specs.Admitted.{limitAdmitted}
-use Rattle.ranged1d.proofs.Bools.{both-true}
-use Rattle.numeric.specs.Whole.{tellCount}
-use Rattle.numeric.specs.declared.whole.Count.{Count}
-use Rattle.linspace.specs.List.{whole}
-use Rattle.segmented.specs.Segments.{Axis, Finder, fitIn}
-use Rattle.segmented.specs.Axes.{steppedAxis, steppedFinder}
-use Rattle.segmented.specs.Values.{Segment, wholeSegment}
-use Rattle.segmented.specs.Steps.{countAnswer, Stands}
-use Rattle.segmented.proofs.Rules.{place-unfit, place-unlimited, place-stopped, place-is, stepped-stands}
+use mir.Facts.{toZ-ofZ}
 use borrow.Author.Needs.{needs}
 use Rattle.segmented.proofs.SegmentedLinspacei32.map.Statement.{statement}
 use Rattle.segmented.proofs.SegmentedLinspacei32.map.Tie as tie
 
-module _ (s : tie.Start) where
-  abbrev a : ℤ
-  a = s .args .self .0 .inner .0
-
-  abbrev b : ℤ
-  b = s .args .self .0 .inner .1
-
-  abbrev d : ℤ
-  d = s .args .self .0 .step
-
-  abbrev axis : Axis ℤ
-  axis = steppedAxis whole a b d
-
-  abbrev find : Finder ℤ
-  find = steppedFinder whole a b d (s .args .method)
-
-  abbrev segment : Segment ℤ
-  segment = wholeSegment (s .args .value)
-
-fit : (c : tie.Else1) → let s = c .before .before .before in (axis s .admitted && fitIn (axis s) (segment s)) ≡ true
-fit c = sym (c .before .fits2 .ensures) ∙ not-false _ (c .if1 .left)
-
-allowed : (c : tie.Else2) → limitAdmitted (c .before .before .before .before .before .args .limit) ≡ true
-allowed c = sym (c .before .admitted .ensures) ∙ not-false _ (c .if2 .left)
-
-counts : (c : tie.After-segments) {r : Count} → c .segments .result ≡ r → countAnswer (axis (c .before .before .before .before .before .before)) ≡ tellCount r
-counts c e = sym (c .segments .ensures) ∙ ap tellCount e
-
-known : (c : tie.After-n) → Stands (axis (c .before .before .before .before .before .before .before .before)) (c .n .given .0 .0)
-known c = let s = c .before .before .before .before .before .before .before .before in stepped-stands whole (a s) (b s) (d s) (counts (c .before .before) (c .n .given .1))
-
-fits-requires : tie.Need-fits-requires
-fits-requires c κs = search needs
+map-requires : tie.Need-map-requires
+map-requires c κs = search needs
 
 returns : tie.Need-returns
-returns c = let s = c .before .before .before in place-unfit (axis s) (find s) (segment s) (s .args .limit) (sym (c .before .fits2 .ensures) ∙ not-true _ (c .if1 .taken))
-
-admitted-requires : tie.Need-admitted-requires
-admitted-requires c κs = search needs
-
-returns-2 : tie.Need-returns-2
-returns-2 c =
-    let e = c .before .before in
-    let s = e .before .before .before in
-    place-unlimited (axis s) (find s) (segment s) (s .args .limit) (fit e) (sym (c .before .admitted .ensures) ∙ not-true _ (c .if2 .taken))
-
-segments-requires : tie.Need-segments-requires
-segments-requires c κs = search needs
-
-enum-known-r : tie.Need-enum-known-r
-enum-known-r c = search needs
-
-enum-known-n : tie.Need-enum-known-n
-enum-known-n c = search needs
-
-place-of-requires : tie.Need-place-of-requires
-place-of-requires c κs =
-    let n = c .before in
-    let e = n .before .before .before in
-    let s = e .before .before .before .before .before in
-    (known n, (both-true (axis s .admitted) (fitIn (axis s) (segment s)) (fit (e .before .before)) .1, allowed e))
-
-returns-3 : tie.Need-returns-3
-returns-3 c =
-    let at = c .before .before .before in
-    let e = at .before in
-    let s = e .before .before .before .before .before in
-    let f = fit (e .before .before) in
-    place-stopped (axis s) (find s) (segment s) (s .args .limit) f (allowed e) (both-true (axis s .admitted) (fitIn (axis s) (segment s)) f .0) (counts at (c .before .r .given .1))
-
-returns-4 : tie.Need-returns-4
-returns-4 c =
-    let n = c .before .before in
-    let e = n .before .before .before in
-    let s = e .before .before .before .before .before in
-    c .place-of .ensures ∙ place-is (axis s) (find s) (segment s) (s .args .limit) (fit (e .before .before)) (allowed e) (known n)
+returns c = rw (toZ-ofZ (record { sfits = c .before .struct-told .given .1 .0 .1 })) at (c .map .ensures)
 
 pub map-spec : {M : Type 1} → statement M
-map-spec =
-    tie.close
-    (tie.spec
-    fits-requires
-    returns
-    admitted-requires
-    returns-2
-    segments-requires
-    enum-known-r
-    enum-known-n
-    place-of-requires
-    returns-3
-    returns-4)
+map-spec = tie.close (tie.spec map-requires returns)

@@ -1,55 +1,14 @@
 -- `segmented::SegmentedLinspacei32::size` meets its contract. Assumes nothing.
-use mathlib.Core.Path.{_≡_, sym, ap, _∙_}
-use lib.IntN.{ℤ}
-use native.Mathlib.Omega.{arith}
-use Rattle.numeric.specs.Whole.{tellCount}
-use Rattle.numeric.specs.declared.whole.Count.{Count}
-use Rattle.linspace.specs.List.{whole}
-use Rattle.segmented.specs.Segments.{Axis}
-use Rattle.segmented.specs.Axes.{steppedAxis}
-use Rattle.segmented.specs.Steps.{countAnswer, Stands}
-use Rattle.segmented.proofs.Rules.{size-stopped, size-is, stepped-stands}
+use mir.Facts.{toZ-ofZ}
 use borrow.Author.Needs.{needs}
 use Rattle.segmented.proofs.SegmentedLinspacei32.size.Statement.{statement}
 use Rattle.segmented.proofs.SegmentedLinspacei32.size.Tie as tie
 
-module _ (s : tie.Start) where
-  abbrev a : ℤ
-  a = s .args .self .0 .inner .0
-
-  abbrev b : ℤ
-  b = s .args .self .0 .inner .1
-
-  abbrev d : ℤ
-  d = s .args .self .0 .step
-
-  abbrev axis : Axis ℤ
-  axis = steppedAxis whole a b d
-
-counts : (c : tie.After-segments) {r : Count} → c .segments .result ≡ r → countAnswer (axis (c .before)) ≡ tellCount r
-counts c e = sym (c .segments .ensures) ∙ ap tellCount e
-
-known : (c : tie.After-n) → Stands (axis (c .before .before .before)) (c .n .given .0 .0)
-known c = let s = c .before .before .before in stepped-stands whole (a s) (b s) (d s) (counts (c .before .before) (c .n .given .1))
-
-segments-requires : tie.Need-segments-requires
-segments-requires c κs = search needs
-
-enum-known-r : tie.Need-enum-known-r
-enum-known-r c = search needs
-
-enum-known-n : tie.Need-enum-known-n
-enum-known-n c = search needs
-
-add-t6 : tie.Need-add-t6
-add-t6 c = omega (arith, known (c .before) .most)
+size-requires : tie.Need-size-requires
+size-requires c κs = search needs
 
 returns : tie.Need-returns
-returns c = let at = c .before .before .before in size-stopped (axis (at .before)) (counts at (c .before .r .given .1))
-
-returns-2 : tie.Need-returns-2
-returns-2 c = let n = c .before in size-is (axis (n .before .before .before)) (known n)
+returns c = rw (toZ-ofZ (record { sfits = c .before .struct-told .given .1 .0 .1 })) at (c .size .ensures)
 
 pub size-spec : {M : Type 1} → statement M
-size-spec =
-    tie.close (tie.spec segments-requires enum-known-r enum-known-n add-t6 returns returns-2)
+size-spec = tie.close (tie.spec size-requires returns)

@@ -9,7 +9,7 @@ use Rattle.linspace.specs.List.{real}
 use Rattle.segmented.specs.Segments.{Axis, entryAfter}
 use Rattle.segmented.specs.Axes.{steppedAxis, steppedFinder}
 use Rattle.segmented.specs.Steps.{nextAnswer}
-use Rattle.segmented.proofs.Rules.{entry-is, entry-past, next-is}
+use Rattle.segmented.proofs.Rules.{entry-is, entry-past, index-is, next-is}
 use borrow.Author.Needs.{needs}
 use Rattle.segmented.proofs.reals.next.Statement.{statement}
 use Rattle.segmented.proofs.reals.next.Tie as tie
@@ -31,7 +31,8 @@ told : (c : tie.After-index-of) {r : Index} → c .index-of .result ≡ r
     → let s = c .before in entryAfter (axis s) (tellIndex r) ≡ nextAnswer (axis s) (steppedFinder real (a s) (b s) (d s) (s .args .method)) (s .args .v)
 told c e =
     let s = c .before in
-    next-is real (a s) (b s) (d s) (s .pre) (s .args .method) (s .args .v) refl (sym ((c .index-of .ensures)) ∙ ap tellIndex e)
+    next-is (axis s) (steppedFinder real (a s) (b s) (d s) (s .args .method)) (s .args .v) (s .pre) refl
+    (sym (c .index-of .ensures ∙ index-is real (a s) (b s) (d s) (s .pre) (s .args .method) (s .args .v) refl) ∙ ap tellIndex e)
 
 index-of-requires : tie.Need-index-of-requires
 index-of-requires c κs = search needs

@@ -1,22 +1,24 @@
 -- `segmented::reals::place_of` meets its contract. Assumes nothing.
-use mathlib.Core.Path.{_≡_, sym, ap, _∙_}
+use mathlib.Core.Bool.{true}
+use mathlib.Core.Path.{_≡_, refl, sym, ap, _∙_}
 use native.Mathlib.Omega.{arith}
 use lib.IntN.{ℤ}
 use lib.Ieee.{Float}
-use mir.Syntax.{w32}
-use mir.Val.{toZ, ofZ}
 use mir.Facts.{toZ-ofZ}
 use Rattle.ranged1d.specs.Answer.{Answer}
-use Rattle.rounding.specs.declared.Whole.the-variants.{Number}
+use Rattle.ranged1d.specs.Admitted.{limitAdmitted}
+use Rattle.ranged1d.specs.declared.Limit.{Limit}
 use Rattle.real.specs.Place.{tellPlace, realPlace, spotAnswer}
-use Rattle.real.specs.declared.Place.{Place}
 use Rattle.linspace.specs.List.{real}
-use Rattle.segmented.specs.Segments.{Axis, Finder, start}
+use Rattle.numeric.specs.Whole.{tellValue}
+use Rattle.segmented.specs.Segments.{Axis, Finder}
 use Rattle.segmented.specs.Axes.{steppedAxis, steppedFinder}
 use Rattle.segmented.specs.declared.SegmentValuef64.{SegmentValuef64}
 use Rattle.segmented.specs.Values.{realSegment}
-use Rattle.segmented.specs.Steps.{placedAnswer}
-use Rattle.segmented.proofs.Rules.{real-begins, spot-number, placed-exact, placed-last, placed-far, placed-center}
+use Rattle.segmented.specs.Steps.{Near, afterAnswer, placedAnswer}
+use Rattle.segmented.proofs.Rules.{real-spot, after-near, placed-exact, placed-last, placed-center}
+use Rattle.segmented.proofs.Margin.{within-admitted}
+use Rattle.segmented.proofs.Entries.{places-near}
 use borrow.Author.Needs.{needs}
 use Rattle.segmented.proofs.reals.place_of.Statement.{statement}
 use Rattle.segmented.proofs.reals.place_of.Tie as tie
@@ -40,16 +42,22 @@ module _ (s : tie.Start) where
   abbrev rule : SegmentValuef64 → Answer ℤ
   rule value = placedAnswer axis find (realSegment value) (s .args .limit)
 
--- a place within the narrowed limits
-begun : (c : tie.After-narrow) → let s = c .before in (v : Float) → realPlace (a s) (b s) v (c .narrow .result) ≡ spotAnswer (start (axis s) v (s .args .limit))
-begun c v = let s = c .before in real-begins (a s) (b s) (d s) (s .pre .0) v (s .args .limit) (s .pre .1) (c .narrow .ensures)
+-- the limits between which entries are placed
+module _ (c : tie.After-narrow) where
+  abbrev S : tie.Start
+  S = c .before
 
-told : (c : tie.After-map2) {r : Place} → c .map2 .result ≡ r
-    → let v = c .before .before in let s = v .before .before .before in spotAnswer (start (axis s) (v .value2 .given .0 .0) (s .args .limit)) ≡ tellPlace r
-told c e =
-    let v = c .before .before in
-    let s = v .before .before .before in
-    sym (c .map2 .ensures ∙ begun (v .before .before) (v .value2 .given .0 .0)) ∙ ap tellPlace e
+  abbrev l : Limit
+  l = c .narrow .result
+
+  film : limitAdmitted l ≡ true
+  film = within-admitted (S .args .n) (S .args .limit) (c .narrow .ensures) (S .pre .1) (S .pre .0 .some) (S .pre .0 .most)
+
+  begun : (v : Float) → realPlace (a S) (b S) v l ≡ spotAnswer (axis S .spot v l)
+  begun v = real-spot (a S) (b S) (d S) v l film
+
+  near : (v : Float) → Near (spotAnswer (axis S .spot v l))
+  near = places-near (axis S) (a S) (b S) (λ x. x) (λ v limit. refl) l film
 
 cast-narrow : tie.Need-cast-narrow
 cast-narrow c = omega (arith, c .pre .0 .most)
@@ -69,22 +77,40 @@ enum-known-value-2 c = search needs
 map-requires-2 : tie.Need-map-requires-2
 map-requires-2 c κs = search needs
 
-enum-known-r : tie.Need-enum-known-r
-enum-known-r c = search needs
+-- ---- the middle of a segment
+module _ (c : tie.After-map2) where
+  abbrev C : tie.After-value2
+  C = c .before .before
 
-enum-known-left : tie.Need-enum-known-left
-enum-known-left c = search needs
+  abbrev N : tie.After-narrow
+  N = C .before .before
 
-center-requires : tie.Need-center-requires
-center-requires c κs =
-    let l = c .before in
-    let at = l .before .before in
-    let v = at .before .before in
-    let s = v .before .before .before in
-    let w = v .value2 .given .0 .0 in
-    let left-is : toZ w32 (ofZ w32 (l .left .given .0 .0)) ≡ l .left .given .0 .0 = toZ-ofZ (record { sfits = c .known-told4 .given .0 .1 }) in
-    let starts = spot-number (start (axis s) w (s .args .limit)) (told at (l .left .given .1)) ∙ ap Number (sym left-is) in
-    (s .pre .0, (s .pre .1, (v .before .before .narrow .ensures, starts)))
+  abbrev w : Float
+  w = C .value2 .given .0 .0
+
+  left-is : tellPlace (c .map2 .result) ≡ spotAnswer (axis (S N) .spot w (l N))
+  left-is = c .map2 .ensures ∙ begun N w
+
+place-after-requires : tie.Need-place-after-requires
+place-after-requires c κs = (S (N c) .pre .0, film (N c))
+
+-- and where the next one begins
+module _ (c : tie.After-place-after) where
+  abbrev at : tie.After-map2
+  at = c .before
+
+  abbrev within : tie.After-narrow
+  within = N at
+
+  right-is : tellValue (c .place-after .result) ≡ afterAnswer (axis (S within)) (find (S within)) (w at) (l within)
+  right-is = c .place-after .ensures
+
+middle-of-requires : tie.Need-middle-of-requires
+middle-of-requires c κs =
+    let n = within c in (
+      (λ z e. near n (w (at c)) z (sym (left-is (at c)) ∙ e)),
+      ((λ z e. after-near (axis (S n)) (find (S n)) (w (at c)) (l n) (near n) z (sym (right-is c) ∙ e)), (S n .pre .1, film n)),
+    )
 
 enum-told : tie.Need-enum-told
 enum-told c = search needs
@@ -92,28 +118,21 @@ enum-told c = search needs
 returns : tie.Need-returns
 returns c =
     let v = c .before .before in
-    let s = v .before .before .before in
-    c .map .ensures ∙ begun (v .before .before) (v .value .given .0 .0) ∙ placed-exact (axis s) (find s) (s .args .limit) (v .value .given .0 .0) ∙ ap (rule s) (sym (v .value .given .1))
+    let n = v .before .before in
+    let s = S n in
+    c .map .ensures ∙ begun n (v .value .given .0 .0) ∙ placed-exact (axis s) (find s) (s .args .limit) (s .pre .0) (n .narrow .ensures) (v .value .given .0 .0) ∙ ap (rule s) (sym (v .value .given .1))
 
 returns-2 : tie.Need-returns-2
 returns-2 c =
-    let at = c .before .before .before in
-    let v = at .before .before in
-    let s = v .before .before .before in
-    placed-far (axis s) (find s) (s .args .limit) (v .value2 .given .0 .0) (told at (c .before .r .given .1)) ∙ ap (rule s) (sym (v .value2 .given .1))
+    let p = c .before in
+    let n = within p in
+    let s = S n in
+    c .middle-of .ensures
+    ∙ placed-center (axis s) (find s) (s .args .limit) (s .pre .0) (n .narrow .ensures) (w (at p)) (left-is (at p)) (right-is p)
+    ∙ ap (rule s) (sym (C (at p) .value2 .given .1))
 
 returns-3 : tie.Need-returns-3
 returns-3 c =
-    let l = c .before .before in
-    let at = l .before .before in
-    let v = at .before .before in
-    let s = v .before .before .before in
-    (c .center .ensures)
-    ∙ placed-center (axis s) (find s) (s .args .limit) (v .value2 .given .0 .0) (spot-number (start (axis s) (v .value2 .given .0 .0) (s .args .limit)) (told at (l .left .given .1)))
-    ∙ ap (rule s) (sym (v .value2 .given .1))
-
-returns-4 : tie.Need-returns-4
-returns-4 c =
     let e = c .before in
     let s = e .before .before .before in
     rw (toZ-ofZ (record { sfits = c .struct-told .given .1 .0 .1 })) (placed-last (axis s) (find s) (s .args .limit) ∙ ap (rule s) (sym (e .enum-told .given .1)))
@@ -128,11 +147,9 @@ place-of-spec =
     map-requires
     enum-known-value-2
     map-requires-2
-    enum-known-r
-    enum-known-left
-    center-requires
+    place-after-requires
+    middle-of-requires
     enum-told
     returns
     returns-2
-    returns-3
-    returns-4)
+    returns-3)

@@ -1,8 +1,8 @@
 -- `segmented::reals::segments` meets its contract. Assumes nothing.
 use mathlib.Core.Path.{ap, _∙_}
 use Rattle.linspace.specs.List.{real}
-use Rattle.segmented.specs.Steps.{atLeastOne}
-use Rattle.segmented.proofs.Rules.{count-some}
+use Rattle.segmented.specs.Steps.{standing}
+use Rattle.segmented.proofs.Rules.{steps-stand}
 use borrow.Author.Needs.{needs}
 use Rattle.segmented.proofs.reals.segments.Statement.{statement}
 use Rattle.segmented.proofs.reals.segments.Tie as tie
@@ -16,7 +16,7 @@ some-entries-requires c κs = search needs
 returns : tie.Need-returns
 returns c =
     let axis = c .before .before .args .axis in
-    c .some-entries .ensures ∙ ap atLeastOne (c .before .size .ensures) ∙ count-some real (axis .inner .0) (axis .inner .1) (axis .step)
+    c .some-entries .ensures ∙ ap standing (c .before .size .ensures) ∙ steps-stand real (axis .inner .0) (axis .inner .1) (axis .step)
 
 pub segments-spec : {M : Type 1} → statement M
 segments-spec = tie.close (tie.spec size-requires some-entries-requires returns)
