@@ -1,18 +1,20 @@
 -- Runs of entries that are written side by side: what a run holds so far, that stores outside it leave it alone, and that runs which follow
--- each other are one. Assumes nothing.
+-- each other are one; and the sums that a walk has kept. Assumes nothing.
 use mathlib.Core.Path.{_≡_, refl, sym, ap, subst, _∙_}
 use mathlib.Core.Logic.{_⊎_, inl, inr}
 use mathlib.Core.List.{List, [], _∷_, _++_, append-assoc, append-nil}
 use Prim.Native.Nat.{ℕ, zero, suc, _+_, _-_, _*_, _≤_, _<_}
 use native.Mathlib.Nat.{zero-add, add-mul, mul-assoc}
+use native.Mathlib.Numerals.{add-one}
 use native.Mathlib.Omega.{arith}
 use native.Mathlib.Decide.{decLt}
 use lib.ListN.{length, set, take, drop, getD, length-set, length-append, length-drop}
-use lib.Seq.{take-at, drop-cons, drop-drop, drop-append-add, drop-set-lt, getD-set-same, getD-set-other}
+use lib.Seq.{take-at, take-suc, length-take-le, drop-cons, drop-drop, drop-append-add, drop-set-lt, getD-set-same, getD-set-other, getD-take, ext-getD}
 use borrow.Rule.Slice.PartMut.{midOf, postOf, putMid, mid-len, post-is}
 use Rattle.numeric.specs.Marks.{listOf}
-use Rattle.numeric.proofs.Lists.{length-of}
-use Rattle.linspace.specs.RealSteps.{after, Passed, oneRun, fourRuns}
+use Rattle.ranged1d.proofs.Pieces.{put-next}
+use Rattle.numeric.proofs.Lists.{length-of, entry}
+use Rattle.linspace.specs.RealSteps.{after, sumsBy, Kept, oneRun, fourRuns}
 use Rattle.linspace.proofs.Walks.{after-more, after-on}
 
 -- `e` is any element: it stands where a list has none
@@ -49,6 +51,26 @@ module _ {A : Type 0} (e : A) where
       ∙ ap (λ (z : List A). listOf f g ++ z) (drop-cons l (base + g) e (omega (arith, h)) ∙ ap (λ (x : A). x ∷ drop (suc (base + g)) l) (r g (omega arith)))
       ∙ sym (append-assoc (listOf f g) (f g ∷ []) (drop (suc (base + g)) l))
       ∙ ap (λ (n : ℕ). listOf f (suc g) ++ drop n l) q
+
+-- ---- sums that are kept: each of them, and the first n
+module _ {A : Type 0} {next : A → A} {a : A} {h : ℕ} {l : List A} (e : A) (w : Kept next a h l) where
+  pub kept-at : (i : ℕ) → i < length l → getD l i e ≡ after next (i * h) a
+  kept-at i u = ap (λ (m : List A). getD m i e) (w .are) ∙ entry (λ k. after next (k * h) a) e (length l) i u
+
+  pub kept-front : (n : ℕ) → n ≤ length l → take n l ≡ sumsBy next h a n
+  kept-front n u = ext-getD e (take n l) (sumsBy next h a n) (size ∙ sym (length-of (λ k. after next (k * h) a) n)) (λ i v. same i (omega (arith, v, size)))
+    where
+      size : length (take n l) ≡ n
+      size = length-take-le n l u
+
+      same : (i : ℕ) → i < n → getD (take n l) i e ≡ getD (sumsBy next h a n) i e
+      same i v = getD-take n l i e v ∙ kept-at i (omega (arith, v, u)) ∙ sym (entry (λ k. after next (k * h) a) e n i v)
+
+-- the first k of a list are copied to the start of another, and one more is
+pub copy-more : {A : Type 0} (e : A) (l : List A) (k : ℕ) (o : List A) → k < length l → k < length o → set (take k l ++ drop k o) k (getD l k e) ≡ take (k + 1) l ++ drop (k + 1) o
+copy-more {A} e l k o h r =
+    put-next e (take k l) (getD l k e) k o (length-take-le k l (omega (arith, h))) r
+    ∙ ap (λ (m : List A). m ++ drop (k + 1) o) (sym (take-suc l k e h) ∙ ap (λ (n : ℕ). take n l) (sym (add-one k)))
 
 -- a run that begins where another ends goes on with it
 pub runs-join : {A : Type 0} (next : A → A) (by : ℕ) (x : A) (m n : ℕ)
@@ -109,19 +131,19 @@ module _ {A : Type 0} (e : A) (o : List A) (g : ℕ) (room : 4 * g ≤ length o)
     first q = subst (λ (i : ℕ). Run e (set l i x0) 0 (k + 1) f0) (zero-add k) (run-grows e l 0 k f0 x0 (omega (arith, h, room, w .size)) q (w .run0))
 
     -- a store leaves the other runs alone
-    abbrev Kept : (p : ℕ) → List A → List A → Type 0
-    Kept p m n = (base j : ℕ) (f : ℕ → A) → (p < base) ⊎ (base + j ≤ p) → Run e m base j f → Run e n base j f
+    abbrev Keeps : (p : ℕ) → List A → List A → Type 0
+    Keeps p m n = (base j : ℕ) (f : ℕ → A) → (p < base) ⊎ (base + j ≤ p) → Run e m base j f → Run e n base j f
 
-    keep0 : Kept k l l0
+    keep0 : Keeps k l l0
     keep0 base j f = run-keeps e l base j f k x0
 
-    keep1 : Kept (g + k) l0 l1
+    keep1 : Keeps (g + k) l0 l1
     keep1 base j f = run-keeps e l0 base j f (g + k) x1
 
-    keep2 : Kept (2 * g + k) l1 l2
+    keep2 : Keeps (2 * g + k) l1 l2
     keep2 base j f = run-keeps e l1 base j f (2 * g + k) x2
 
-    keep3 : Kept (3 * g + k) l2 l3
+    keep3 : Keeps (3 * g + k) l2 l3
     keep3 base j f = run-keeps e l2 base j f (3 * g + k) x3
 
     rest-stays : drop (4 * g) l3 ≡ drop (4 * g) o
@@ -163,21 +185,25 @@ module _ {A : Type 0} (next : A → A) (by : ℕ) (a : A) where
       ∙ ap (λ (y : A). (listOf F m ++ listOf (λ k. after next (k * by) y) g) ++ t) e
       ∙ ap (λ (l : List A). l ++ t) (runs-join next by a m g)
 
-  -- four runs that begin at sums g · by steps apart are one
-  pub four-join : (g : ℕ) (x1 x2 x3 : A) (t : List A) → Passed next a (g * by) x1 x2 x3 → fourRuns next by g a x1 x2 x3 t ≡ listOf F (4 * g) ++ t
-  four-join g x1 x2 x3 t w =
-      let two : 2 * (g * by) ≡ (g + g) * by = omega (arith, add-mul g g by) in
-      let three : 3 * (g * by) ≡ (g + g + g) * by = omega (arith, add-mul g g by, add-mul (g + g) g by) in
-      let all : g + g + g + g ≡ 4 * g = omega arith in
-      join-on g g x1 (oneRun next by g x2 (oneRun next by g x3 t)) (w .one)
-      ∙ join-on (g + g) g x2 (oneRun next by g x3 t) (w .two ∙ ap (λ (k : ℕ). after next k a) two)
-      ∙ join-on (g + g + g) g x3 t (w .three ∙ ap (λ (k : ℕ). after next k a) three)
-      ∙ ap (λ (n : ℕ). listOf F n ++ t) all
+  -- four runs of g that begin at the kept sums, which lie g · by steps apart, are one
+  module _ (e : A) {h : ℕ} {kept : List A} (w : Kept next a h kept) (g : ℕ) (four : length kept ≡ 4) (apart : g * by ≡ h) where
+    begins : (i m : ℕ) → i < 4 → i * g ≡ m → getD kept i e ≡ after next (m * by) a
+    begins i m l q =
+        kept-at e w i (omega (arith, l, four))
+        ∙ ap (λ (k : ℕ). after next k a) (ap (λ (k : ℕ). i * k) (sym apart) ∙ sym (mul-assoc i g by) ∙ ap (λ (k : ℕ). k * by) q)
 
-  pub four-behind : (g : ℕ) (x1 x2 x3 r : A) → Passed next a (g * by) x1 x2 x3 → r ≡ after next (g * by) x3 → r ≡ after next (4 * g * by) a
-  four-behind g x1 x2 x3 r w e =
-      let all : g * by + 3 * (g * by) ≡ 4 * g * by = omega (arith, mul-assoc 4 g by) in
-      after-on next (g * by) (3 * (g * by)) a all e (w .three)
+    pub four-join : (t : List A) → fourRuns next by g a (getD kept 1 e) (getD kept 2 e) (getD kept 3 e) t ≡ listOf F (4 * g) ++ t
+    four-join t =
+        let all : g + g + g + g ≡ 4 * g = omega arith in
+        join-on g g (getD kept 1 e) (oneRun next by g (getD kept 2 e) (oneRun next by g (getD kept 3 e) t)) (begins 1 g (omega arith) (omega arith))
+        ∙ join-on (g + g) g (getD kept 2 e) (oneRun next by g (getD kept 3 e) t) (begins 2 (g + g) (omega arith) (omega arith))
+        ∙ join-on (g + g + g) g (getD kept 3 e) t (begins 3 (g + g + g) (omega arith) (omega arith))
+        ∙ ap (λ (n : ℕ). listOf F n ++ t) all
+
+    pub four-behind : (r : A) → r ≡ after next (g * by) (getD kept 3 e) → r ≡ after next (4 * g * by) a
+    four-behind r q =
+        let all : g * by + 3 * g * by ≡ 4 * g * by = omega (arith, mul-assoc 4 g by, mul-assoc 3 g by) in
+        after-on next (g * by) (3 * g * by) a all q (begins 3 (3 * g) (omega arith) refl)
 
   -- the first m are there, and those from m to n are put behind them
   pub rest-put : (m n : ℕ) (o l y : List A) (x : A) → m ≤ n → n ≤ length o → l ≡ listOf F m ++ drop m o → x ≡ after next (m * by) a

@@ -25,15 +25,23 @@ unfoldable pub after : {A : Type 0} → (A → A) → ℕ → A → A
 after next zero x = x
 after next (suc k) x = next (after next k x)
 
--- the sums after h, 2 h and 3 h steps from a on
-pub record Passed {A : Type 0} (next : A → A) (a : A) (h : ℕ) (x1 x2 x3 : A) : Type 0 where
-  pub one : x1 ≡ after next h a
-  pub two : x2 ≡ after next (2 * h) a
-  pub three : x3 ≡ after next (3 * h) a
+-- g sums from x on, so many steps apart
+abbrev pub sumsBy : {A : Type 0} → (A → A) → ℕ → A → ℕ → List A
+sumsBy next by x g = listOf (λ k. after next (k * by) x) g
 
--- g entries from x on, so many steps apart, and then the list l; and four such runs
+-- sums h steps apart, from a on, and one at least
+pub record Kept {A : Type 0} (next : A → A) (a : A) (h : ℕ) (l : List A) : Type 0 where
+  pub some : 1 ≤ length l
+  pub are : l ≡ sumsBy next h a (length l)
+
+-- so many sums, so many steps apart, are one at least, and the last is not past the entries that are counted
+pub record InReach (size by : ℕ) : Type 0 where
+  pub some : 1 ≤ size
+  pub near : (size - 1) * by ≤ 65_537
+
+-- such a run with the list l behind it; and four of them
 abbrev pub oneRun : {A : Type 0} → (A → A) → ℕ → ℕ → A → List A → List A
-oneRun next by g x l = listOf (λ k. after next (k * by) x) g ++ l
+oneRun next by g x l = sumsBy next by x g ++ l
 
 abbrev pub fourRuns : {A : Type 0} → (A → A) → ℕ → ℕ → A → A → A → A → List A → List A
 fourRuns next by g x0 x1 x2 x3 l = oneRun next by g x0 (oneRun next by g x1 (oneRun next by g x2 (oneRun next by g x3 l)))

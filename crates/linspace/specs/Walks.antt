@@ -4,23 +4,10 @@ use mathlib.Core.Path.{_≡_}
 use mathlib.Core.Bool.{Bool, true, cond}
 use lib.Dec.{T}
 use lib.IntN.{pos}
-use Rattle.ranged1d.specs.Answer.{Answer, given, refused}
-use Rattle.ranged1d.specs.Refusals.{numberOf}
-use Rattle.linspace.specs.RealSteps.{Passed, plusStep, after, all}
+use Rattle.linspace.specs.RealSteps.{plusStep, after, all}
 use Rattle.linspace.specs.declared.track.Track.{Track}
 use Rattle.linspace.specs.declared.track.Trail.{Trail}
-use Rattle.linspace.specs.declared.reals.Walk.{Walk}
-use Rattle.linspace.specs.declared.reals.Walk.the-variants as walk-is
 use lib.Ieee.{Float, fin, binary64, fits, add}
-
--- ---- the number of entries, or the number of the refusal; and, where there is a number, that the sums passed on the way were kept
-abbrev pub tellWalk : Walk → Answer ℕ
-tellWalk (walk-is.Of w) = given (w .n)
-tellWalk (walk-is.Refused r) = refused (numberOf r)
-
-abbrev pub PassedBy : (Float → Float) → Float → ℕ → Walk → Type 0
-PassedBy next a h (walk-is.Of w) = Passed next a h (w .x1) (w .x2) (w .x3)
-PassedBy next a h (walk-is.Refused r) = Unit {0}
 
 -- ---- a track that stands at x, on the way to b by the step d: both by size, with what each goes on by. b is a number of the format, so that −0.0
 -- added leaves it as it is.

@@ -4,23 +4,23 @@ ghost use mathlib.Core.Bool.{true, false, cond};
 ghost use lib.Dec.{ltb};
 ghost use Prim.Native.Nat.{_≤_};
 ghost use lib.ListN.{length};
-ghost use lib.Ieee.{nan};
+ghost use lib.Ieee.{lt, nan};
 ghost use Rattle.ranged1d.specs.Answer.{given, none, refused};
 ghost use Rattle.ranged1d.specs.Admitted.{readingAdmitted};
 ghost use Rattle.discrete.specs.Index.{tellIndex};
 ghost use Rattle.numeric.specs.Whole.{tellCount};
 ghost use Rattle.real.specs.Place.{tellPlace};
 ghost use Rattle.real.specs.Reading.{tellReading};
-ghost use Rattle.linspace.specs.List.{real, stepped, against};
+ghost use Rattle.linspace.specs.List.{real, stepped, against, toward};
 ghost use Rattle.linspace.specs.Calls.{tellListed, hasEntries, unserved, stepValues, stepSize, stepFromIndex, stepIndexOf, stepPlace, stepReading, stepKeyPoints};
-ghost use Rattle.linspace.specs.RealSteps.{plusStep, after, Passed};
-ghost use Rattle.linspace.specs.Walks.{tellWalk, PassedBy};
+ghost use Rattle.linspace.specs.RealSteps.{plusStep, after, Kept, InReach, Walked};
 use crate::Linspacef64;
 use crate::Listed;
 use crate::lanes::put_all;
-use crate::track::Kept;
+use crate::lanes::put_entries;
+use crate::lanes::put_spaced;
+use crate::track::Spot;
 use crate::track::Steps;
-use crate::track::advance;
 use crate::track::approach;
 use crate::track::count_on;
 use crate::track::reach;
@@ -36,10 +36,10 @@ use ranged1d::Limit;
 use ranged1d::Refusal;
 use search::RoundingMethod;
 
-// A walk along the list, or why the list is refused.
-enum Walk {
-    Of(Kept),
-    Refused(Refusal),
+// How many sums a walk keeps, and how many steps they are apart.
+struct Likely {
+    size: usize,
+    by: usize,
 }
 
 // Whether the step is zero or leads away from b.
@@ -75,7 +75,7 @@ fn has_entries(s: Steps) -> bool
 }
 
 // Whether the step is so large beside the ends that rounding moves no sum by more than an eighth of it: then three quarters of the steps that a division
-// counts stay before b, and no sum is taken again to count the entries.
+// counts stay before b.
 fn is_coarse(s: Steps) -> bool {
     let far = s.d * 1125899906842624.0;
     if far < 0.0 {
@@ -84,22 +84,36 @@ fn is_coarse(s: Steps) -> bool {
     -far <= s.a && s.b <= far
 }
 
-// A quarter of the number of entries, by a division that may be a few entries off; 0 of a list that is short or too long, and of one by a step so small
-// that rounding may make it much shorter.
-fn quarter(s: Steps) -> usize
-    ensures { λ r. ⌜ r ≤ 16384 ⌝ }
+// The number of entries, by a division that may be a few entries off; 0 of a list that is short or too long, and of one by a step so small that
+// rounding may make it much shorter.
+fn roughly(s: Steps) -> usize
+    ensures { λ r. ⌜ r ≤ 65536 ⌝ }
 {
-    let k = rounding::to_u64((s.b - s.a) / s.d) / 4;
-    if k < 8 {
+    let k = rounding::to_u64((s.b - s.a) / s.d);
+    if k < 32 {
         return 0;
     }
-    if 16384 < k {
+    if 65536 < k {
         return 0;
     }
     if is_coarse(s) { k as usize } else { 0 }
 }
 
-// The number of entries, 65,537 where there are more. Where x, the sum after k steps, comes before b, so do all sums before it.
+// Where the entries are counted from: at x, the sum after k steps, if it comes before b, as all sums before it do then; at a otherwise.
+fn set_out(s: Steps, x: f64, k: usize) -> Spot
+    requires { ⌜ against real (s .a) (s .b) (s .d) ≡ false ⌝ }
+    requires { ⌜ hasEntries (stepped real (s .a) (s .b) (s .d)) ≡ true ⌝ }
+    requires { ⌜ k ≤ 65537 ⌝ }
+    requires { ⌜ x ≡ after (plusStep (s .d)) k (s .a) ⌝ }
+    ensures { λ r. ⌜ Walked (toward real (lt (s .a) (s .b)) (s .b)) (plusStep (s .d)) 65537 (s .a) (r .n) (r .x) ⌝ }
+{
+    if search::precedes(s.a < s.b, x, s.b) {
+        return Spot { n: k, x };
+    }
+    Spot { n: 0, x: s.a }
+}
+
+// The number of entries, 65,537 where there are more. x is the sum after k steps.
 fn count(s: Steps, x: f64, k: usize) -> usize
     requires { ⌜ against real (s .a) (s .b) (s .d) ≡ false ⌝ }
     requires { ⌜ k ≤ 65537 ⌝ }
@@ -109,50 +123,41 @@ fn count(s: Steps, x: f64, k: usize) -> usize
     if !has_entries(s) {
         return 0;
     }
-    let rises = s.a < s.b;
-    if search::precedes(rises, x, s.b) {
-        return count_on(rises, s, x, k);
-    }
-    count_on(rises, s, s.a, 0)
+    let w = set_out(s, x, k);
+    count_on(s.a < s.b, s, w.x, w.n)
 }
 
-// Walks along the list, without a test until 3 h steps are taken.
-fn keep_sums(s: Steps, h: usize) -> Kept
-    requires { ⌜ against real (s .a) (s .b) (s .d) ≡ false ⌝ }
-    requires { ⌜ h ≤ 16384 ⌝ }
-    ensures { λ r. ⌜ (r .n ≡ length (stepped real (s .a) (s .b) (s .d))) × Passed (plusStep (s .d)) (s .a) h (r .x1) (r .x2) (r .x3) ⌝ }
-{
-    let d = s.d;
-    let x1 = advance(s.a, d, h);
-    let x2 = advance(x1, d, h);
-    let x3 = advance(x2, d, h);
-    let n = count(s, x3, 3 * h);
-    Kept { n, x1, x2, x3 }
-}
-
-// Counts the entries, and keeps three sums that are passed on the way; or says why the list is refused.
-fn walk_along(s: Steps, h: usize) -> Walk
-    requires { ⌜ h ≤ 16384 ⌝ }
-    ensures { λ r. ⌜ (tellWalk r ≡ stepSize real (s .a) (s .b) (s .d)) × PassedBy (plusStep (s .d)) (s .a) h r ⌝ }
+// The number of entries, or why the list is refused. x is the sum after k steps.
+fn counted_from(s: Steps, x: f64, k: usize) -> Count
+    requires { ⌜ k ≤ 65537 ⌝ }
+    requires { ⌜ x ≡ after (plusStep (s .d)) k (s .a) ⌝ }
+    ensures { λ r. ⌜ tellCount r ≡ stepSize real (s .a) (s .b) (s .d) ⌝ }
 {
     if leads_away(s) {
-        return Walk::Refused(Refusal::StepAgainstAxis);
+        return Count::Refused(Refusal::StepAgainstAxis);
     }
-    let w = keep_sums(s, h);
-    if 65536 < w.n {
-        return Walk::Refused(Refusal::ListTooLong);
+    let n = count(s, x, k);
+    if 65536 < n {
+        return Count::Refused(Refusal::ListTooLong);
     }
-    Walk::Of(w)
+    Count::Of(n as u64)
 }
 
-// The number of entries, or why the list is refused.
+// The same, from the start.
 fn counted(s: Steps) -> Count
     ensures { λ r. ⌜ tellCount r ≡ stepSize real (s .a) (s .b) (s .d) ⌝ }
 {
-    match walk_along(s, 0) {
-        Walk::Refused(r) => Count::Refused(r),
-        Walk::Of(w) => Count::Of(w.n as u64),
-    }
+    counted_from(s, s.a, 0)
+}
+
+// The same, from the last of the sums that are kept on the way: kept is filled with sums that are `by` steps apart, from a on.
+fn walk_along(kept: &mut [f64], s: Steps, by: usize) -> Count
+    requires { ⌜ InReach (length (now kept)) by ⌝ }
+    ensures { λ r. ⌜ (tellCount r ≡ stepSize real (s .a) (s .b) (s .d)) × Kept (plusStep (s .d)) (s .a) by (now (kept .exit)) ⌝ }
+{
+    put_entries(kept, s.a, s.d, by);
+    let last = kept.len() - 1;
+    counted_from(s, kept[last], last * by)
 }
 
 // The index that a search answers for a NaN with.
@@ -197,33 +202,52 @@ fn no_step(s: Steps, m: u32) -> bool
     false
 }
 
-// A quarter of the list, cut to a multiple of the step that its marks are likely to have.
-fn mark_quarter(s: Steps, m: u32) -> usize
-    ensures { λ r. ⌜ r ≤ 16384 ⌝ }
+// Which sums to keep of a list of about k entries, with a mark at each `step`: those at the marks, if they are few, or four where runs of marks begin.
+// The last is to be an entry: from a sum past the end nothing is counted, and the list would be walked again. So a mark within a thousandth of the end
+// is left out.
+fn spread(k: usize, step: usize) -> Likely
+    requires { ⌜ k ≤ 65536 ⌝ }
+    requires { ⌜ 32 ≤ k ⌝ }
+    ensures { λ r. ⌜ (r .size ≤ 32) × InReach (r .size) (r .by) ⌝ }
 {
-    let h = quarter(s);
-    match RangedCoordi32(0, (4 * h) as i32).plan(m) {
-        Planned::Refused(_) => 0,
-        Planned::Points(p) => {
-            let by = ranged1d::unsigned_abs(p.step) as usize;
-            if by == 0 {
-                return 0;
-            }
-            h - h % by
-        }
+    if step == 0 {
+        return Likely { size: 1, by: 0 };
+    }
+    let far = (k - k / 1024 - 2) / step;
+    if far < 32 {
+        return Likely {
+            size: far + 1,
+            by: step,
+        };
+    }
+    let h = k / 4;
+    Likely {
+        size: 4,
+        by: h - h % step,
     }
 }
 
-// The entries at the marks of the indices.
-fn put_marks(s: Steps, w: Kept, h: usize, m: u32, out: &mut [f64]) -> Listed
-    requires { ⌜ Passed (plusStep (s .d)) (s .a) h (w .x1) (w .x2) (w .x3) ⌝ }
-    requires { ⌜ against real (s .a) (s .b) (s .d) ≡ false ⌝ }
-    requires { ⌜ w .n ≡ length (stepped real (s .a) (s .b) (s .d)) ⌝ }
-    requires { ⌜ w .n ≤ 65536 ⌝ }
+// Which sums to keep, by the marks that a list of the rough number of entries has: at most 32, since room for more would be cleared by a call.
+fn likely_marks(s: Steps, m: u32) -> Likely
+    ensures { λ r. ⌜ (r .size ≤ 32) × InReach (r .size) (r .by) ⌝ }
+{
+    let k = roughly(s);
+    if k < 32 {
+        return Likely { size: 1, by: 0 };
+    }
+    match RangedCoordi32(0, (k - 1) as i32).plan(m) {
+        Planned::Refused(_) => Likely { size: 1, by: 0 },
+        Planned::Points(p) => spread(k, ranged1d::unsigned_abs(p.step) as usize),
+    }
+}
+
+// The entries at the marks of the n indices. The kept sums are h steps apart.
+fn put_marks(s: Steps, kept: &[f64], h: usize, n: usize, m: u32, out: &mut [f64]) -> Listed
+    requires { ⌜ Kept (plusStep (s .d)) (s .a) h (now kept) ⌝ }
+    requires { ⌜ stepSize real (s .a) (s .b) (s .d) ≡ given n ⌝ }
     requires { ⌜ unserved real (s .a) (s .b) (s .d) m ≡ false ⌝ }
     ensures { λ r. ⌜ (tellListed r, now (out .exit)) ≡ stepKeyPoints real (s .a) (s .b) (s .d) m (now (out .entry)) ⌝ }
 {
-    let n = w.n;
     if n == 0 {
         return Listed::Written(0);
     }
@@ -234,9 +258,21 @@ fn put_marks(s: Steps, w: Kept, h: usize, m: u32, out: &mut [f64]) -> Listed
             if out.len() < size {
                 return Listed::Refused(Refusal::OutTooShort);
             }
-            put_all(out, s, w, h, p.step as usize, size);
+            put_spaced(out, s, kept, h, p.step as usize, size);
             Listed::Written(size)
         }
+    }
+}
+
+// The same, or why the list is refused. kept is filled on the way.
+fn marks_along(kept: &mut [f64], s: Steps, by: usize, m: u32, out: &mut [f64]) -> Listed
+    requires { ⌜ InReach (length (now kept)) by ⌝ }
+    requires { ⌜ unserved real (s .a) (s .b) (s .d) m ≡ false ⌝ }
+    ensures { λ r. ⌜ (tellListed r, now (out .exit)) ≡ stepKeyPoints real (s .a) (s .b) (s .d) m (now (out .entry)) ⌝ }
+{
+    match walk_along(kept, s, by) {
+        Count::Refused(r) => Listed::Refused(r),
+        Count::Of(n) => put_marks(s, kept, by, n as usize, m, out),
     }
 }
 
@@ -295,15 +331,16 @@ impl Linspacef64 {
         ensures { λ r. ⌜ (tellListed r, now (out .exit)) ≡ stepValues real (self .inner .0) (self .inner .1) (self .step) (now (out .entry)) ⌝ }
     {
         let s = self.steps();
-        let h = quarter(s);
-        match walk_along(s, h) {
-            Walk::Refused(r) => Listed::Refused(r),
-            Walk::Of(w) => {
-                let size = w.n;
+        let h = roughly(s) / 4;
+        let mut kept = [0.0; 4];
+        match walk_along(&mut kept, s, h) {
+            Count::Refused(r) => Listed::Refused(r),
+            Count::Of(n) => {
+                let size = n as usize;
                 if out.len() < size {
                     return Listed::Refused(Refusal::ListTooLong);
                 }
-                put_all(out, s, w, h, 1, size);
+                put_all(out, s, &kept, h, 1, size);
                 Listed::Written(size)
             }
         }
@@ -382,10 +419,9 @@ impl Linspacef64 {
         if no_step(s, m) {
             return Listed::Refused(Refusal::NoStep);
         }
-        let h = mark_quarter(s, m);
-        match walk_along(s, h) {
-            Walk::Refused(r) => Listed::Refused(r),
-            Walk::Of(w) => put_marks(s, w, h, m, out),
-        }
+        let w = likely_marks(s, m);
+        let size = w.size;
+        let mut kept = [0.0; 32];
+        marks_along(&mut kept[0..size], s, w.by, m, out)
     }
 }

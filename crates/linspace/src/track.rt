@@ -17,14 +17,6 @@ pub(crate) struct Steps {
     pub(crate) d: f64,
 }
 
-// How many entries there are, and the sums after h, 2 h and 3 h steps, which were passed on the way.
-pub(crate) struct Kept {
-    pub(crate) n: usize,
-    pub(crate) x1: f64,
-    pub(crate) x2: f64,
-    pub(crate) x3: f64,
-}
-
 // An entry, or the sum behind the last one, and its index.
 pub(crate) struct Spot {
     pub(crate) n: usize,

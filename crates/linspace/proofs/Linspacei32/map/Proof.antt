@@ -6,7 +6,7 @@ use borrow.Author.Tests.{not-true, not-false}
 use borrow.Author.Needs.{needs}
 use lib.IntN.{ℤ}
 use mir.Facts.{toZ-ofZ}
-use Rattle.ranged1d.specs.Answer.{Answer, given}
+use Rattle.ranged1d.specs.Answer.{Answer}
 use Rattle.real.specs.declared.Place.{Place}
 use Rattle.real.specs.Place.{tellPlace, wholePlace}
 use Rattle.numeric.specs.Whole.{tellCount}

@@ -1,9 +1,10 @@
 -- `linspace::lanes::put_all` meets its contract. Assumes nothing.
-use mathlib.Core.Path.{refl, sym, subst, _∙_}
-use Prim.Native.Nat.{ℕ, _*_}
+use mathlib.Core.Path.{_≡_, refl, _∙_}
+use Prim.Native.Nat.{_*_}
 use native.Mathlib.Omega.{arith}
-use lib.ListN.{drop}
-use Rattle.linspace.specs.RealSteps.{plusStep, Passed}
+use lib.Ieee.{nan}
+use lib.ListN.{length, drop}
+use Rattle.linspace.specs.RealSteps.{plusStep}
 use Rattle.linspace.proofs.Walks.{after-none}
 use Rattle.linspace.proofs.Runs.{rest-put, four-join, four-behind}
 use borrow.Author.Needs.{needs}
@@ -11,13 +12,11 @@ use Rattle.linspace.proofs.lanes.put_all.Statement.{statement}
 use Rattle.linspace.proofs.lanes.put_all.Tie as tie
 
 abbrev start : tie.After-run-length → tie.Start
-start c = c .before .before
+start c = c .before .before .before
 
--- the runs begin at the kept sums
-aligned : (c : tie.Else1) → let s = start (c .before) .args in Passed (plusStep (s .s .d)) (s .s .a) (c .before .run-length .result * s .by) (s .w .x1) (s .w .x2) (s .w .x3)
-aligned c =
-    let s = start (c .before) .args in
-    subst (λ (h : ℕ). Passed (plusStep (s .s .d)) (s .s .a) h (s .w .x1) (s .w .x2) (s .w .x3)) (sym (c .before .run-length .ensures .1 (c .if1 .left))) (start (c .before) .pre .0)
+-- where runs are written, four sums are kept
+four-kept : (c : tie.Else1) → length (start (c .before) .args .kept .now) ≡ 4
+four-kept c = c .before .run-length .ensures .1 (c .if1 .left) .1
 
 run-length-requires : tie.Need-run-length-requires
 run-length-requires c κs = search needs
@@ -40,8 +39,18 @@ same-length c = search needs
 returns : tie.Need-returns
 returns c =
     let put = c .before .before in
-    let s = start (put .before .before .before) .args in
-    rest-put (plusStep (s .s .d)) (s .by) (s .s .a) 0 (s .n) (s .out .now) (s .out .now) (put .put-entries .last .0) (s .s .a) (omega arith) (start (put .before .before .before) .pre .1) refl (after-none (plusStep (s .s .d)) (s .by) (s .s .a)) (put .put-entries .ensures)
+    let s = start (put .before .before .before) in
+    let at = s .args in
+    rest-put (plusStep (at .s .d)) (at .by) (at .s .a) 0 (at .n) (at .out .now) (at .out .now) (put .put-entries .last .0) (at .s .a) (omega arith) (s .pre .1) refl (after-none (plusStep (at .s .d)) (at .by) (at .s .a)) (put .put-entries .ensures)
+
+shared-slice-read-t18 : tie.Need-shared-slice-read-t18
+shared-slice-read-t18 c = omega (arith, four-kept (c .before))
+
+shared-slice-read-t20 : tie.Need-shared-slice-read-t20
+shared-slice-read-t20 c = omega (arith, four-kept (c .before .before))
+
+shared-slice-read-t22 : tie.Need-shared-slice-read-t22
+shared-slice-read-t22 c = omega (arith, four-kept (c .before .before .before))
 
 put-four-requires : tie.Need-put-four-requires
 put-four-requires c κs = search needs
@@ -71,13 +80,15 @@ returns-2 : tie.Need-returns-2
 returns-2 c =
     let put = c .before .before in
     let four = put .before .before .before .before in
-    let at = four .before .before .before in
-    let s = start at .args in
-    let g = at .run-length .result in
-    let w = aligned (four .before .before) in
-    rest-put (plusStep (s .s .d)) (s .by) (s .s .a) (4 * g) (s .n) (s .out .now) (four .put-four .last .0) (put .put-entries2 .last .0) (four .put-four .result) (at .run-length .ensures .0) (start at .pre .1)
-    (four .put-four .ensures .0 ∙ four-join (plusStep (s .s .d)) (s .by) (s .s .a) g (s .w .x1) (s .w .x2) (s .w .x3) (drop (4 * g) (s .out .now)) w)
-    (four-behind (plusStep (s .s .d)) (s .by) (s .s .a) g (s .w .x1) (s .w .x2) (s .w .x3) (four .put-four .result) w (four .put-four .ensures .1))
+    let no = four .before .before .before .before .before in
+    let run = no .before .run-length in
+    let s = start (no .before) in
+    let at = s .args in
+    let g = run .result in
+    let apart = run .ensures .1 (no .if1 .left) .0 in
+    rest-put (plusStep (at .s .d)) (at .by) (at .s .a) (4 * g) (at .n) (at .out .now) (four .put-four .last .0) (put .put-entries2 .last .0) (four .put-four .result) (run .ensures .0) (s .pre .1)
+    (four .put-four .ensures .0 ∙ four-join (plusStep (at .s .d)) (at .by) (at .s .a) nan (s .pre .0) g (four-kept no) apart (drop (4 * g) (at .out .now)))
+    (four-behind (plusStep (at .s .d)) (at .by) (at .s .a) nan (s .pre .0) g (four-kept no) apart (four .put-four .result) (four .put-four .ensures .1))
     (put .put-entries2 .ensures)
 
 pub put-all-spec : {M : Type 1} → statement M
@@ -91,6 +102,9 @@ put-all-spec =
     put-entries-requires
     same-length
     returns
+    shared-slice-read-t18
+    shared-slice-read-t20
+    shared-slice-read-t22
     put-four-requires
     mul-put-entries
     mul-put-entries-2

@@ -1,38 +1,63 @@
 -- `linspace::reals::walk_along` meets its contract. Assumes nothing.
-use mathlib.Core.Path.{_≡_, sym, ap, subst, _∙_}
-use mathlib.Core.Bool.{false}
-use Prim.Native.Nat.{ℕ, _<_, _≤_}
-use Rattle.ranged1d.specs.Answer.{given}
-use Rattle.linspace.specs.List.{real, against}
-use Rattle.linspace.proofs.Axis.{size-against, size-long, size-is}
+use mathlib.Core.Path.{sym, ap, subst, _∙_}
+use Prim.Native.Nat.{ℕ, _-_, _*_, _≤_}
+use native.Mathlib.Omega.{arith}
+use lib.Ieee.{nan}
+use lib.ListN.{length}
+use Rattle.linspace.specs.RealSteps.{plusStep, sumsBy, Kept}
+use Rattle.linspace.proofs.Runs.{kept-at}
 use borrow.Author.Needs.{needs}
 use Rattle.linspace.proofs.reals.walk_along.Statement.{statement}
 use Rattle.linspace.proofs.reals.walk_along.Tie as tie
 
-onward : (c : tie.After-keep-sums) → let s = c .before .before .before .args .s in against real (s .a) (s .b) (s .d) ≡ false
-onward c = let no = c .before in sym (no .before .leads-away .ensures) ∙ no .if1 .left
+module _ (c : tie.After-put-entries) where
+  abbrev start : tie.Start
+  start = c .before .before .before
 
-leads-away-requires : tie.Need-leads-away-requires
-leads-away-requires c κs = search needs
+  kept : let s = start .args in Kept (plusStep (s .s .d)) (s .s .a) (s .by) (c .put-entries .last .0)
+  kept =
+      let s = start .args in
+      let size = c .put-entries .kept .0 in
+      record { some = omega (arith, size, start .pre .some); are = c .put-entries .ensures ∙ ap (sumsBy (plusStep (s .s .d)) (s .by) (s .s .a)) (sym size) }
+
+  near : (length (c .put-entries .last .0) - 1) * start .args .by ≤ 65537
+  near = subst (λ (n : ℕ). (n - 1) * start .args .by ≤ 65537) (sym (c .put-entries .kept .0)) (start .pre .near)
+
+put-entries-requires : tie.Need-put-entries-requires
+put-entries-requires c κs = search needs
+
+sub-last : tie.Need-sub-last
+sub-last c = search needs
+
+mul-counted-from : tie.Need-mul-counted-from
+mul-counted-from c = search needs
+
+slice-read-counted-from : tie.Need-slice-read-counted-from
+slice-read-counted-from c = search needs
+
+mul-counted-from-2 : tie.Need-mul-counted-from-2
+mul-counted-from-2 c = record { fits = omega (arith, near (c .before .before .before)) }
+
+counted-from-requires : tie.Need-counted-from-requires
+counted-from-requires c κs =
+    let put = c .before .before .before in
+    (near put, kept-at nan (kept put) (length (put .put-entries .last .0) - 1) (omega (arith, kept put .some)))
+
+same-length : tie.Need-same-length
+same-length c = search needs
 
 returns : tie.Need-returns
-returns c = let s = c .before .before .args .s in (size-against (s .a) (s .b) (s .d) (sym (c .before .leads-away .ensures) ∙ c .if1 .taken), tt)
-
-keep-sums-requires : tie.Need-keep-sums-requires
-keep-sums-requires c κs = (sym (c .before .leads-away .ensures) ∙ c .if1 .left, c .before .before .pre)
-
-returns-2 : tie.Need-returns-2
-returns-2 c =
-    let w = c .before .before in
-    let s = w .before .before .before .args .s in
-    (size-long (s .a) (s .b) (s .d) (onward w) (subst (λ (n : ℕ). 65536 < n) (w .keep-sums .ensures .0) (c .if2 .taken)), tt)
-
-returns-3 : tie.Need-returns-3
-returns-3 c =
-    let w = c .before .before in
-    let s = w .before .before .before .args .s in
-    (ap given (w .keep-sums .ensures .0) ∙ size-is (s .a) (s .b) (s .d) (onward w) (subst (λ (n : ℕ). n ≤ 65536) (w .keep-sums .ensures .0) (c .if2 .left)), w .keep-sums .ensures .1)
+returns c = (c .counted-from .ensures, kept (c .before .before .before .before))
 
 pub walk-along-spec : {M : Type 1} → statement M
 walk-along-spec =
-    tie.close (tie.spec leads-away-requires returns keep-sums-requires returns-2 returns-3)
+    tie.close
+    (tie.spec
+    put-entries-requires
+    sub-last
+    mul-counted-from
+    slice-read-counted-from
+    mul-counted-from-2
+    counted-from-requires
+    same-length
+    returns)
