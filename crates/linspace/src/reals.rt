@@ -84,8 +84,21 @@ fn is_coarse(s: Steps) -> bool {
     -far <= s.a && s.b <= far
 }
 
-// The number of entries, by a division that may be a few entries off; 0 of a list that is short or too long, and of one by a step so small that
-// rounding may make it much shorter.
+// The longer one of a step x and the step d, which lead the same way.
+fn longer(x: f64, d: f64) -> f64 {
+    if d < 0.0 {
+        return if x < d { x } else { d };
+    }
+    if d < x { x } else { d }
+}
+
+// The longest step that a sum takes: the step itself, or what rounding makes of it at an end. Beside ends so large that few bits of the step are
+// left, each sum is rounded alike.
+fn longest(s: Steps) -> f64 {
+    longer(s.a + s.d - s.a, longer(s.b - (s.b - s.d), s.d))
+}
+
+// The number of entries, by a division; 0 of a list that is short or too long, and of one by a step so small that rounding may make it much shorter.
 fn roughly(s: Steps) -> usize
     ensures { λ r. ⌜ r ≤ 65536 ⌝ }
 {
@@ -97,6 +110,17 @@ fn roughly(s: Steps) -> usize
         return 0;
     }
     if is_coarse(s) { k as usize } else { 0 }
+}
+
+// A rough number k, which is not more than a few entries off where a list is so long that this is worth another division.
+fn nearly(s: Steps, k: usize) -> usize
+    ensures { λ r. ⌜ r ≤ k ⌝ }
+{
+    if k < 256 {
+        return k;
+    }
+    let n = rounding::to_u64((s.b - s.a) / longest(s));
+    if n < k as u64 { n as usize } else { k }
 }
 
 // Where the entries are counted from: at x, the sum after k steps, if it comes before b, as all sums before it do then; at a otherwise.
@@ -231,7 +255,7 @@ fn spread(k: usize, step: usize) -> Likely
 fn likely_marks(s: Steps, m: u32) -> Likely
     ensures { λ r. ⌜ (r .size ≤ 32) × InReach (r .size) (r .by) ⌝ }
 {
-    let k = roughly(s);
+    let k = nearly(s, roughly(s));
     if k < 32 {
         return Likely { size: 1, by: 0 };
     }
@@ -331,7 +355,7 @@ impl Linspacef64 {
         ensures { λ r. ⌜ (tellListed r, now (out .exit)) ≡ stepValues real (self .inner .0) (self .inner .1) (self .step) (now (out .entry)) ⌝ }
     {
         let s = self.steps();
-        let h = roughly(s) / 4;
+        let h = nearly(s, roughly(s)) / 4;
         let mut kept = [0.0; 4];
         match walk_along(&mut kept, s, h) {
             Count::Refused(r) => Listed::Refused(r),

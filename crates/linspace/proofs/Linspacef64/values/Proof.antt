@@ -17,16 +17,19 @@ use Rattle.linspace.proofs.Linspacef64.values.Tie as tie
 
 module _ (c : tie.After-walk-along) where
   abbrev start : tie.Start
-  start = c .before .before .before .before .before
+  start = c .before .before .before .before .before .before
 
   size-is : stepSize real (start .args .self .inner .0) (start .args .self .inner .1) (start .args .self .step) ≡ tellCount (c .walk-along .result)
-  size-is = sym (c .walk-along .ensures .0 ∙ same-axis (λ a b d. stepSize real a b d) (c .before .before .before .steps .ensures))
+  size-is = sym (c .walk-along .ensures .0 ∙ same-axis (λ a b d. stepSize real a b d) (c .before .before .before .before .steps .ensures))
 
 steps-requires : tie.Need-steps-requires
 steps-requires c κs = search needs
 
 roughly-requires : tie.Need-roughly-requires
 roughly-requires c κs = search needs
+
+nearly-requires : tie.Need-nearly-requires
+nearly-requires c κs = search needs
 
 slice-aggregate-walk-along : tie.Need-slice-aggregate-walk-along
 slice-aggregate-walk-along c = search needs
@@ -75,7 +78,7 @@ returns-3 c =
     let s = start walk .args in
     let n = arm .n .given .0 .0 in
     ap (λ (l : List Float). (given n, l))
-    (put .put-all .ensures ∙ same-axis (λ a b d. sumsBy (plusStep d) 1 a n ++ drop n (s .out .now)) (walk .before .before .before .steps .ensures))
+    (put .put-all .ensures ∙ same-axis (λ a b d. sumsBy (plusStep d) 1 a n ++ drop n (s .out .now)) (walk .before .before .before .before .steps .ensures))
     ∙ sym (values-written (s .self .inner .0) (s .self .inner .1) (s .self .step) (s .out .now) (size-is walk ∙ ap tellCount (arm .n .given .1)) (room .if1 .left))
 
 pub values-spec : {M : Type 1} → statement M
@@ -84,6 +87,7 @@ values-spec =
     (tie.spec
     steps-requires
     roughly-requires
+    nearly-requires
     slice-aggregate-walk-along
     walk-along-requires
     enum-known-r
