@@ -3,17 +3,19 @@ use mathlib.Core.Path.{_≡_, refl, sym, subst, _∙_}
 use mathlib.Core.Bool.{Bool, true, false, cond, true≢false, not, _&&_, _||_, or-comm}
 use mathlib.Core.List.{List, [], _∷_, map}
 use Prim.Native.Nat.{ℕ, zero, suc, _-_}
+use lib.Dec.{ltb}
 use lib.ListN.{length, getD}
-use Rattle.ranged1d.specs.Answer.{BothLong}
+use Rattle.ranged1d.specs.Answer.{given, _when_, lowest, BothLong}
 use Rattle.ranged1d.proofs.Bools.{both-true}
+use Rattle.ranged1d.proofs.Lowest.{last-same}
 use Rattle.numeric.specs.Calls.{indexMarks}
 use Rattle.search.specs.Search as rule
 use Rattle.search.specs.Mirror.{turned, Each, end, more}
 use Rattle.search.specs.declared.RoundingMethod.{RoundingMethod}
 use Rattle.search.proofs.Orders.{Order}
 use Rattle.search.proofs.Turned.{Turns, each-length, search-turned, exact-stays}
-use Rattle.linspace.specs.List.{Kind, entries, most, toward, headed, run, stepped, against, axisAdmitted}
-use Rattle.linspace.specs.Calls.{hasEntries, marksOf, stepMarks, stepValues, stepSize, stepIndexOf, stepKeyPoints}
+use Rattle.linspace.specs.List.{Kind, entries, most, toward, headed, run, stepped, against, tooLong, axisAdmitted}
+use Rattle.linspace.specs.Calls.{hasEntries, marksOf, countReasons, unmarked, stepMarks, stepValues, stepSize, stepIndexOf, stepKeyPoints}
 use Rattle.linspace.proofs.Rules.{counts}
 
 -- y mirrors x
@@ -106,13 +108,22 @@ module _ {A : Type 0} (kind : Kind A) (R : A → A → Type 0) (K : KindTurns ki
   unfolding stepSize
   sizes-turned = rw (admitted-turned, against-turned, same-length) refl
 
-  pub values-turned : (old old' : List A) → BothLong (length (stepped kind a' b' d')) old' (length (stepped kind a b d)) old → stepValues kind a b d old .0 ≡ stepValues kind a' b' d' old' .0
+  pub values-turned : (old old' : List A) → BothLong (countReasons kind a' b' d') (length (stepped kind a' b' d')) old' (length (stepped kind a b d)) old → stepValues kind a b d old .0 ≡ stepValues kind a' b' d' old' .0
   unfolding stepValues
-  values-turned old old' h = rw (admitted-turned, against-turned, ← h, same-length) refl
+  values-turned old old' h = rw (admitted-turned, against-turned, same-length) (go (tooLong kind a' b' d') (rw same-length at h))
+    where
+      -- 7 stands for a list that is too long and for one that does not fit
+      go : (t : Bool) → ((not (not (axisAdmitted kind a' b' d')) && (not (against kind a' b' d') && (not t && true))) ≡ true → ltb (length old') (length (stepped kind a' b' d')) ≡ ltb (length old) (length (stepped kind a' b' d')))
+          → lowest (1 when not (axisAdmitted kind a' b' d') ∷ 6 when against kind a' b' d' ∷ 7 when (t || ltb (length old) (length (stepped kind a' b' d'))) ∷ []) (given (length (stepped kind a' b' d')))
+          ≡ lowest (1 when not (axisAdmitted kind a' b' d') ∷ 6 when against kind a' b' d' ∷ 7 when (t || ltb (length old') (length (stepped kind a' b' d'))) ∷ []) (given (length (stepped kind a' b' d')))
+      go true h = refl
+      go false h = last-same (1 when not (axisAdmitted kind a' b' d') ∷ 6 when against kind a' b' d' ∷ []) 7 _ _ _ (λ e. sym (h e))
 
-  pub key-points-turned : (m : ℕ) (old old' : List A) → BothLong (length (stepMarks kind a' b' d' m)) old' (length (stepMarks kind a b d m)) old → stepKeyPoints kind a b d m old .0 ≡ stepKeyPoints kind a' b' d' m old' .0
+  pub key-points-turned : (m : ℕ) (old old' : List A) → BothLong (unmarked kind a' b' d' m) (length (stepMarks kind a' b' d' m)) old' (length (stepMarks kind a b d m)) old → stepKeyPoints kind a b d m old .0 ≡ stepKeyPoints kind a' b' d' m old' .0
   unfolding stepKeyPoints
-  key-points-turned m old old' h = rw (admitted-turned, against-turned, ← h, marks-same m, same-length) refl
+  key-points-turned m old old' h =
+      rw (admitted-turned, against-turned, marks-same m, same-length)
+      (last-same (unmarked kind a' b' d' m) 13 (ltb (length old) (length (stepMarks kind a' b' d' m))) (ltb (length old') (length (stepMarks kind a' b' d' m))) (given (length (stepMarks kind a' b' d' m))) (λ e. sym (rw (marks-same m) at (h e))))
 
   pub searches-turned : (v v' : A) → R v v' → (method : RoundingMethod) → stepIndexOf kind a b d v (turned method) ≡ stepIndexOf kind a' b' d' v' method
   unfolding stepIndexOf

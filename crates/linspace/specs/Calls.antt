@@ -106,11 +106,11 @@ module _ {A : Type 0} (kind : Kind A) (a b d : A) where
   abbrev pub unserved : ℕ → Bool
   unserved m = eqb m 0 && hasEntries (stepped kind a b d)
 
+  abbrev pub unmarked : ℕ → List Reason
+  unmarked m = 1 when not (axisAdmitted kind a b d) ∷ 3 when unserved m ∷ unlisted
+
   abbrev pub stepKeyPointsReasons : ℕ → List A → List Reason
-  stepKeyPointsReasons m old =
-      1 when not (axisAdmitted kind a b d)
-      ∷ 3 when unserved m
-      ∷ unlisted ++ (13 when ltb (length old) (length (stepMarks m)) ∷ [])
+  stepKeyPointsReasons m old = unmarked m ++ (13 when ltb (length old) (length (stepMarks m)) ∷ [])
 
   unfoldable pub stepKeyPoints : ℕ → List A → Answer ℕ × List A
   stepKeyPoints m old = written (lowest (stepKeyPointsReasons m old) (given (length (stepMarks m)))) (stepMarks m) old

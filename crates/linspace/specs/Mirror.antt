@@ -13,7 +13,7 @@ use Rattle.real.specs.Mirror.{mirrored, negated, Same}
 use Rattle.search.specs.Mirror.{turned, Each}
 use Rattle.search.specs.declared.RoundingMethod.{RoundingMethod}
 use Rattle.linspace.specs.List.{Kind, whole, real, stepped}
-use Rattle.linspace.specs.Calls.{stepMarks, stepValues, stepSize, stepIndexOf, stepPlace, stepKeyPoints}
+use Rattle.linspace.specs.Calls.{countReasons, unmarked, stepMarks, stepValues, stepSize, stepIndexOf, stepPlace, stepKeyPoints}
 
 -- a list of reals and its mirror: negated entry for entry in the same order, a zero of either sign and a NaN each counting as equal
 abbrev pub Negated : List Float → List Float → Type 0
@@ -25,10 +25,11 @@ module _ {A : Type 0} (kind : Kind A) (opposite : A → A) (Turned : List A → 
     -- The list is negated entry for entry in the same order, and so are its marks.
     pub lists : Turned (stepped kind (opposite a) (opposite b) (opposite d)) (stepped kind a b d)
     pub marks : (m : ℕ) → Turned (stepMarks kind (opposite a) (opposite b) (opposite d) m) (stepMarks kind a b d m)
-    -- The calls that write them answer alike or are refused alike, if the memory is long enough on both sides or on neither.
-    pub values : (old old' : List A) → BothLong (length (stepped kind a b d)) old (length (stepped kind (opposite a) (opposite b) (opposite d))) old'
+    -- The calls that write them answer alike or are refused alike, if the memory is long enough on both sides or on neither, where there is something to
+    -- write.
+    pub values : (old old' : List A) → BothLong (countReasons kind a b d) (length (stepped kind a b d)) old (length (stepped kind (opposite a) (opposite b) (opposite d))) old'
         → stepValues kind (opposite a) (opposite b) (opposite d) old' .0 ≡ stepValues kind a b d old .0
-    pub key-points : (m : ℕ) (old old' : List A) → BothLong (length (stepMarks kind a b d m)) old (length (stepMarks kind (opposite a) (opposite b) (opposite d) m)) old'
+    pub key-points : (m : ℕ) (old old' : List A) → BothLong (unmarked kind a b d m) (length (stepMarks kind a b d m)) old (length (stepMarks kind (opposite a) (opposite b) (opposite d) m)) old'
         → stepKeyPoints kind (opposite a) (opposite b) (opposite d) m old' .0 ≡ stepKeyPoints kind a b d m old .0
     pub sizes : stepSize kind (opposite a) (opposite b) (opposite d) ≡ stepSize kind a b d
     -- A search finds the same index, or none on both sides, or is refused alike.

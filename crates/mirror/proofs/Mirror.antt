@@ -12,7 +12,7 @@ use Rattle.ranged1d.specs.declared.Limit.{Limit}
 use Rattle.real.specs.Mirror as film
 use Rattle.real.proofs.Mirror as places
 use Rattle.numeric.specs.Marks.{noStep, stepOf, marks}
-use Rattle.numeric.specs.Calls.{keyPointsReasons, wholeKeyPoints}
+use Rattle.numeric.specs.Calls.{planReasons, keyPointsReasons, wholeKeyPoints}
 use Rattle.numeric.specs.Mirror.{stepOnly}
 use Rattle.numeric.proofs.Mirror as marks-mirror
 use Rattle.search.specs.Mirror.{end}
@@ -26,7 +26,7 @@ use Rattle.segmented.specs.Segments.{segmentKeyPointsReasons, segmentKeyPoints}
 use Rattle.segmented.specs.Axes.{steppedAxis}
 use Rattle.segmented.specs.Mirror as segment
 use Rattle.segmented.proofs.Mirror as segments
-use Rattle.ruler.specs.Rule.{rulerBytes, writeReasons, rulerWrite, hasRuler}
+use Rattle.ruler.specs.Rule.{noRuler, rulerBytes, writeReasons, rulerWrite, hasRuler}
 use Rattle.ruler.specs.Mirror.{accepted, verdict}
 use Rattle.ruler.proofs.Mirror as rulers-mirror
 use Rattle.mirror.specs.Mirror.{wrote, ruling, rulingBack, Rulers, marking, markingBack, Marks, Lists, StepMarks, SegmentMarks, Stepped, DemandThree}
@@ -49,7 +49,7 @@ module _ (a b : ℤ) (limit : Limit) (m : ℕ) where
   bytes-written old e =
       wrote-is {A = ℕ × ℕ} (λ x. x .0) (lowest (writeReasons a b limit m old) (given numbers)) numbers (rulerBytes a b limit m) old refl (accepted-is numbers (writeReasons a b limit m old) e)
 
-module _ (a b : ℤ) (limit : Limit) (m : ℕ) (old old' : List ℕ) (alike : BothLong (length (rulerBytes a b limit m)) old (length (rulerBytes (negℤ a) (negℤ b) (film.mirrored limit) m)) old') where
+module _ (a b : ℤ) (limit : Limit) (m : ℕ) (old old' : List ℕ) (alike : BothLong (noRuler a b limit m) (length (rulerBytes a b limit m)) old (length (rulerBytes (negℤ a) (negℤ b) (film.mirrored limit) m)) old') where
   verdicts : verdict (rulingBack a b limit m old old' .0) ≡ verdict (ruling a b limit m old old' .0)
   verdicts = rulers-mirror.mirror a b limit m .same-verdict old old' alike
 
@@ -60,10 +60,10 @@ module _ (a b : ℤ) (limit : Limit) (m : ℕ) (old old' : List ℕ) (alike : Bo
   rulers =
       record {
         verdicts = verdicts;
-        match-exactly = λ e. rw (back-written e) (rulers-mirror.mirror a b limit m .match-exactly (ruled a b limit m old e));
+        match-exactly = λ e. rw (back-written e, bytes-written a b limit m old e) (rulers-mirror.mirror a b limit m .match-exactly (ruled a b limit m old e));
         one-half = rulers-mirror.mirror a b limit m .one-half;
-        one-more-below = λ e f l. rw (bytes-written a b limit m old e) (rulers-mirror.mirror a b limit m .one-more-below (ruled a b limit m old e) f l);
-        one-more-above = λ e f l. rw (back-written e) (rulers-mirror.mirror a b limit m .one-more-above (ruled a b limit m old e) f l);
+        one-more-below = λ e f l. rw (back-written e, bytes-written a b limit m old e) (rulers-mirror.mirror a b limit m .one-more-below (ruled a b limit m old e) f l);
+        one-more-above = λ e f l. rw (back-written e, bytes-written a b limit m old e) (rulers-mirror.mirror a b limit m .one-more-above (ruled a b limit m old e) f l);
       }
 
 -- ---- marks
@@ -86,7 +86,7 @@ module _ (a b : ℤ) (m : ℕ) where
   marks-written old e =
       wrote-is {A = ℤ × ℕ} (λ x. x .1) (lowest (reasons old) (given told)) told (marks a b m) old refl (accepted-is told (reasons old) e)
 
-module _ (a b : ℤ) (m : ℕ) (old old' : List ℤ) (alike : BothLong (length (marks a b m)) old (length (marks (negℤ a) (negℤ b) m)) old') where
+module _ (a b : ℤ) (m : ℕ) (old old' : List ℤ) (alike : BothLong (planReasons (endsAdmitted a b) a b m) (length (marks a b m)) old (length (marks (negℤ a) (negℤ b) m)) old') where
   same-step : stepOnly (markingBack a b m old old' .0) ≡ stepOnly (marking a b m old old' .0)
   same-step = marks-mirror.mirror a b m .same-verdict old old' alike
 
@@ -99,6 +99,7 @@ module _ (a b : ℤ) (m : ℕ) (old old' : List ℤ) (alike : BothLong (length (
       record {
         verdicts = same-step;
         match-exactly = λ e. rw (marks-back e, marks-written a b m old e) (marks-mirror.mirror a b m .match-exactly (served a b m old e));
+        one-half = marks-mirror.mirror a b m .one-half;
         one-more-below = λ e f l. rw (marks-back e, marks-written a b m old e) (marks-mirror.mirror a b m .one-more-below (served a b m old e) f l);
         one-more-above = λ e f l.
             rw (marks-back e, marks-written a b m old e, marks-mirror.mirror a b m .same-step) (marks-mirror.mirror a b m .one-more-above (served a b m old e) f l);

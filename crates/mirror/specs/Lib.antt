@@ -1,1 +1,2 @@
 pub mod Mirror
+pub mod Worked

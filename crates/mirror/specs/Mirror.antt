@@ -10,26 +10,27 @@ use lib.ListN.{length, take}
 use lib.Signed.{_<ℤ_}
 use lib.Ieee.{Float, neg}
 use Rattle.ranged1d.specs.Answer.{Answer, given, none, refused, BothLong}
+use Rattle.ranged1d.specs.Admitted.{endsAdmitted}
 use Rattle.ranged1d.specs.declared.Limit.{Limit}
 use Rattle.real.specs.Place.{wholePlace, realPlace}
 use Rattle.real.specs.Reading.{realReading}
 use Rattle.real.specs.Mirror as film
 use Rattle.real.specs.Mirror.{negated, Opposite}
 use Rattle.numeric.specs.Marks.{low, high, stepOf, marks}
-use Rattle.numeric.specs.Calls.{wholeKeyPoints}
+use Rattle.numeric.specs.Calls.{planReasons, wholeKeyPoints}
 use Rattle.numeric.specs.Mirror.{mirrored, nearestZero, Divides, OneMore, stepOnly}
 use Rattle.search.specs.Lists.{wholeSearch, realSearch}
 use Rattle.search.specs.Mirror.{turned}
 use Rattle.search.specs.declared.RoundingMethod.{RoundingMethod}
 use Rattle.linspace.specs.List.{Kind, whole, real, stepped}
-use Rattle.linspace.specs.Calls.{stepValues, stepIndexOf, stepPlace, stepMarks, stepKeyPoints}
+use Rattle.linspace.specs.Calls.{countReasons, unmarked, stepValues, stepIndexOf, stepPlace, stepMarks, stepKeyPoints}
 use Rattle.linspace.specs.Mirror.{Negated}
 use Rattle.segmented.specs.Values.{Segment}
+use Rattle.segmented.specs.Segments as segments
 use Rattle.segmented.specs.Segments.{segmentIndexOf, segmentPlace, segmentKeyPoints}
 use Rattle.segmented.specs.Axes.{steppedAxis, steppedFinder}
 use Rattle.segmented.specs.Mirror.{across}
-use Rattle.ruler.specs.Bytes.{joined}
-use Rattle.ruler.specs.Rule.{recordsOf, rulerBytes, rulerWrite}
+use Rattle.ruler.specs.Rule.{noRuler, rulerBytes, rulerWrite}
 use Rattle.ruler.specs.Mirror as ruler
 use Rattle.ruler.specs.Mirror.{accepted, verdict}
 
@@ -47,9 +48,9 @@ wrote many done = firstOf many (done .0) (done .1)
 -- the marks' records stand in reverse order, each with needle and place negated and the label of the negated needle (`turned` of ruler/specs/Mirror).
 -- The needle nearest zero is zero if the axis holds it, otherwise the end nearer to zero.
 
--- The half below zero is the axis (a, b), and z its needle nearest zero: what was written has exactly one mark more than the other half's records. It
--- is the last, the next multiple of the step past z, toward zero, and is placed by this axis's own rule; all others match: `ruler.OneMore`, of
--- ruler/specs/Mirror.
+-- What two calls wrote is a ruler and its mirror: `ruler.MirrorOf`. The half below zero is the axis (a, b), and z its needle nearest zero: what was
+-- written for it has exactly one mark more than what was written for the other half. It is the last, the next multiple of the step past z, toward zero,
+-- and stands where this axis's own rule places it; all others match: `ruler.OneMore`. Both are of ruler/specs/Mirror.
 module _ (a b : ℤ) (limit : Limit) (m : ℕ) (old old' : List ℕ) where
   -- what writing the ruler of the draft does, and that of its mirror
   abbrev pub ruling : Answer (ℕ × ℕ) × List ℕ
@@ -63,13 +64,13 @@ module _ (a b : ℤ) (limit : Limit) (m : ℕ) (old old' : List ℕ) where
     pub verdicts : verdict (rulingBack .0) ≡ verdict (ruling .0)
     -- Accepted, the mirrored axis has the mirrored ruler exactly when the step divides the needle nearest zero.
     pub match-exactly : verdict (ruling .0) ≡ accepted
-        → (wrote (λ x. x .0) rulingBack ≡ joined (ruler.turned (recordsOf a b limit m))) ↔ Divides (stepOf a b m) (nearestZero a b)
+        → ruler.MirrorOf (wrote (λ x. x .0) rulingBack) (wrote (λ x. x .0) ruling) ↔ Divides (stepOf a b m) (nearestZero a b)
     -- Otherwise the axis lies below zero or above it, and the half below zero, which is this axis or its mirror, has exactly one mark more.
     pub one-half : (Divides (stepOf a b m) (nearestZero a b) → ⊥) → (high a b <ℤ pos 0) ⊎ (pos 0 <ℤ low a b)
     pub one-more-below : verdict (ruling .0) ≡ accepted → (Divides (stepOf a b m) (nearestZero a b) → ⊥) → high a b <ℤ pos 0
-        → ruler.OneMore a b limit m (high a b) (wrote (λ x. x .0) ruling) (recordsOf (negℤ a) (negℤ b) (film.mirrored limit) m)
+        → ruler.OneMore a b limit m (high a b) (wrote (λ x. x .0) ruling) (wrote (λ x. x .0) rulingBack)
     pub one-more-above : verdict (ruling .0) ≡ accepted → (Divides (stepOf a b m) (nearestZero a b) → ⊥) → pos 0 <ℤ low a b
-        → ruler.OneMore (negℤ a) (negℤ b) (film.mirrored limit) m (negℤ (low a b)) (wrote (λ x. x .0) rulingBack) (recordsOf a b limit m)
+        → ruler.OneMore (negℤ a) (negℤ b) (film.mirrored limit) m (negℤ (low a b)) (wrote (λ x. x .0) rulingBack) (wrote (λ x. x .0) ruling)
 
 -- ---- 01: marks of whole axes match when negated and in reverse order (`mirrored` of numeric/specs/Mirror); the same theorem for the call that writes
 -- the marks alone, which also tells the step. `OneMore` is that of numeric/specs/Mirror.
@@ -81,9 +82,13 @@ module _ (a b : ℤ) (m : ℕ) (old old' : List ℤ) where
   markingBack = wholeKeyPoints (negℤ a) (negℤ b) m old'
 
   pub record Marks : Type 0 where
+    -- Both are refused with the same number, or both are accepted, with the same step.
     pub verdicts : stepOnly (markingBack .0) ≡ stepOnly (marking .0)
+    -- Accepted, the mirrored axis has the mirrored marks exactly when the step divides the needle nearest zero.
     pub match-exactly : verdict (marking .0) ≡ accepted
         → (wrote (λ x. x .1) markingBack ≡ mirrored (wrote (λ x. x .1) marking)) ↔ Divides (stepOf a b m) (nearestZero a b)
+    -- Otherwise the axis lies below zero or above it, and the half below zero, which is this axis or its mirror, has exactly one mark more.
+    pub one-half : (Divides (stepOf a b m) (nearestZero a b) → ⊥) → (high a b <ℤ pos 0) ⊎ (pos 0 <ℤ low a b)
     pub one-more-below : verdict (marking .0) ≡ accepted → (Divides (stepOf a b m) (nearestZero a b) → ⊥) → high a b <ℤ pos 0
         → OneMore (stepOf a b m) (high a b) (wrote (λ x. x .1) marking) (wrote (λ x. x .1) markingBack)
     pub one-more-above : verdict (marking .0) ≡ accepted → (Divides (stepOf a b m) (nearestZero a b) → ⊥) → pos 0 <ℤ low a b
@@ -98,7 +103,7 @@ pub record Alike {A : Type 0} (Turned : List A → List A → Type 0) (back here
   pub entries : Turned (wrote (λ n. n) back) (wrote (λ n. n) here)
 
 module _ {A : Type 0} (kind : Kind A) (opposite : A → A) (Turned : List A → List A → Type 0) (a b d : A) where
-  -- the list, and its marks, as the calls write them, where the memory is long enough on both sides or on neither
+  -- the list, and its marks, as the calls write them
   abbrev pub Lists : List A → List A → Type 0
   Lists old old' = Alike Turned (stepValues kind (opposite a) (opposite b) (opposite d) old') (stepValues kind a b d old)
 
@@ -113,8 +118,9 @@ module _ {A : Type 0} (kind : Kind A) (opposite : A → A) (Turned : List A → 
       (segmentKeyPoints (steppedAxis kind a b d) (length (stepMarks kind a b d m)) m old)
 
   pub record Stepped : Type 0 where
-    pub lists : (old old' : List A) → BothLong (length (stepped kind a b d)) old (length (stepped kind (opposite a) (opposite b) (opposite d))) old' → Lists old old'
-    pub step-marks : (m : ℕ) (old old' : List A) → BothLong (length (stepMarks kind a b d m)) old (length (stepMarks kind (opposite a) (opposite b) (opposite d) m)) old' → StepMarks m old old'
+    -- Lists and marks, with memory lent that is long enough on both sides or on neither, where there is something to write.
+    pub lists : (old old' : List A) → BothLong (countReasons kind a b d) (length (stepped kind a b d)) old (length (stepped kind (opposite a) (opposite b) (opposite d))) old' → Lists old old'
+    pub step-marks : (m : ℕ) (old old' : List A) → BothLong (unmarked kind a b d m) (length (stepMarks kind a b d m)) old (length (stepMarks kind (opposite a) (opposite b) (opposite d) m)) old' → StepMarks m old old'
     -- Places are negated, or both are refused with the same number.
     pub places : (v : A) (limit : Limit) → stepPlace kind (opposite a) (opposite b) (opposite d) (opposite v) (film.mirrored limit) ≡ negated (stepPlace kind a b d v limit)
     -- A search and its mirror, up and down exchanged, give the same index, or both none, or the same refusal.
@@ -126,15 +132,16 @@ module _ {A : Type 0} (kind : Kind A) (opposite : A → A) (Turned : List A → 
     pub segment-places : (method : RoundingMethod) (s : Segment A) (limit : Limit)
         → segmentPlace (steppedAxis kind (opposite a) (opposite b) (opposite d)) (steppedFinder kind (opposite a) (opposite b) (opposite d) (turned method)) (across opposite s) (film.mirrored limit)
         ≡ negated (segmentPlace (steppedAxis kind a b d) (steppedFinder kind a b d method) s limit)
-    pub segment-marks : (m : ℕ) (old old' : List A) → BothLong (length (stepMarks kind a b d m)) old (length (stepMarks kind (opposite a) (opposite b) (opposite d) m)) old' → SegmentMarks m old old'
+    pub segment-marks : (m : ℕ) (old old' : List A) → BothLong (segments.unmarked (steppedAxis kind a b d) m) (length (stepMarks kind a b d m)) old (length (stepMarks kind (opposite a) (opposite b) (opposite d) m)) old' → SegmentMarks m old old'
 
 -- ---- the theorem
 pub record DemandThree : Type 0 where
-  -- Rulers, of any whole axis, limits and mark limit, with bytes lent that are enough on both sides or on neither.
+  -- Rulers, of any whole axis, limits and mark limit, with bytes lent that are enough on both sides or on neither, where there is a ruler to write.
   pub rulers : (a b : ℤ) (limit : Limit) (m : ℕ) (old old' : List ℕ)
-      → BothLong (length (rulerBytes a b limit m)) old (length (rulerBytes (negℤ a) (negℤ b) (film.mirrored limit) m)) old' → Rulers a b limit m old old'
+      → BothLong (noRuler a b limit m) (length (rulerBytes a b limit m)) old (length (rulerBytes (negℤ a) (negℤ b) (film.mirrored limit) m)) old' → Rulers a b limit m old old'
   -- Marks of any whole axis, likewise.
-  pub whole-marks : (a b : ℤ) (m : ℕ) (old old' : List ℤ) → BothLong (length (marks a b m)) old (length (marks (negℤ a) (negℤ b) m)) old' → Marks a b m old old'
+  pub whole-marks : (a b : ℤ) (m : ℕ) (old old' : List ℤ)
+      → BothLong (planReasons (endsAdmitted a b) a b m) (length (marks a b m)) old (length (marks (negℤ a) (negℤ b) m)) old' → Marks a b m old old'
   -- Mirroring negates places on whole and real axes, or both sides give the same refusal.
   pub whole-places : (a b v : ℤ) (limit : Limit) → wholePlace (negℤ a) (negℤ b) (negℤ v) (film.mirrored limit) ≡ negated (wholePlace a b v limit)
   pub real-places : (a b v : Float) (limit : Limit) → realPlace (neg a) (neg b) (neg v) (film.mirrored limit) ≡ negated (realPlace a b v limit)

@@ -8,16 +8,16 @@ use native.Mathlib.Nat.{zero-mod, suc-mul, div-add-mod', div-mul-le-self, le-div
 use native.Mathlib.Omega.{arith}
 use borrow.Author.Tests.{leb-true, leb-false, ltb-true, eqb-true, eqb-false, lt-ltb}
 use lib.Arith.{digits-div}
-use lib.Dec.{T, leb, eqb}
+use lib.Dec.{T, leb, ltb, eqb}
 use lib.IntN.{ℤ, pos, negsuc, negℤ, natAbs, _+ℤ_, _*ℤ_, +ℤ-comm, negℤ-negℤ}
 use lib.ListN.{length, length-append, length-map, length-reverse}
 use lib.Signed.{leZ, ltZ, quotZ, _<ℤ_}
 use Rattle.ranged1d.specs.Answer.{given, BothLong}
 use Rattle.ranged1d.specs.Admitted.{wholeAdmitted, endsAdmitted}
-use Rattle.ranged1d.proofs.Lowest.{lowest-then}
+use Rattle.ranged1d.proofs.Lowest.{lowest-then, last-same}
 use Rattle.ranged1d.proofs.Whole.{admitted-neg, low-neg, high-neg, low-high, neg-far, less-not-above, yes-le, yes-lt, lt-yes, neg-below, below-all, neg-le, neg-lt, neg-times, quot-neg}
 use Rattle.numeric.specs.Marks.{low, high, distance, stepAt, chosen, ceilDiv, firstIndex, lastIndex, multiple, multiples, noStepFor, stepFor, marksFor, noStep, stepOf, marks}
-use Rattle.numeric.specs.Calls.{keyPointsReasons, wholeKeyPoints}
+use Rattle.numeric.specs.Calls.{planReasons, keyPointsReasons, wholeKeyPoints}
 use Rattle.numeric.specs.Mirror.{mirrored, nearest, Divides, NextTowardZero, OneMore, stepOnly, Mirrored}
 use Rattle.numeric.proofs.Steps.{step-pos}
 use Rattle.numeric.proofs.Reflect.{reflect, one-more, mirrored-cons}
@@ -167,11 +167,12 @@ module _ (a b : ℤ) (m : ℕ) where
   unfolding lo hi s marksFor
   marks-neg = ap₂ (λ (x y : ℤ). marksBy x y (stepOf (negℤ a) (negℤ b) m)) (low-neg a b) (high-neg a b) ∙ ap (λ (n : ℕ). marksBy (negℤ hi) (negℤ lo) n) step-neg
 
-  verdict : (old old′ : List ℤ) → BothLong (length (marks a b m)) old (length (marks (negℤ a) (negℤ b) m)) old′ → stepOnly (wholeKeyPoints (negℤ a) (negℤ b) m old′ .0) ≡ stepOnly (wholeKeyPoints a b m old .0)
+  verdict : (old old′ : List ℤ) → BothLong (planReasons (endsAdmitted a b) a b m) (length (marks a b m)) old (length (marks (negℤ a) (negℤ b) m)) old′ → stepOnly (wholeKeyPoints (negℤ a) (negℤ b) m old′ .0) ≡ stepOnly (wholeKeyPoints a b m old .0)
   unfolding wholeKeyPoints
   verdict old old′ e =
       lowest-then (keyPointsReasons (wholeAdmitted (negℤ a) && wholeAdmitted (negℤ b)) (negℤ a) (negℤ b) m (marks (negℤ a) (negℤ b) m) old′) _ (λ x. given (x .0))
-      ∙ rw (admitted-neg a, admitted-neg b, no-step-neg, step-neg, ← e) refl
+      ∙ rw (admitted-neg a, admitted-neg b, no-step-neg, step-neg)
+      (last-same (planReasons (endsAdmitted a b) a b m) 13 (ltb (length old′) (length (marks (negℤ a) (negℤ b) m))) (ltb (length old) (length (marks a b m))) (given (pos (stepOf a b m))) (λ h. sym (e h)))
       ∙ sym (lowest-then (keyPointsReasons (endsAdmitted a b) a b m (marks a b m) old) _ (λ x. given (x .0)))
 
   -- where a step serves

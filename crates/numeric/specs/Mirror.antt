@@ -9,8 +9,9 @@ use lib.IntN.{ℤ, pos, negℤ, natAbs, _*ℤ_}
 use lib.ListN.{length}
 use lib.Signed.{ltZ, _≤ℤ_, _<ℤ_}
 use Rattle.ranged1d.specs.Answer.{Answer, given, andThen, BothLong}
+use Rattle.ranged1d.specs.Admitted.{endsAdmitted}
 use Rattle.numeric.specs.Marks.{low, high, noStep, stepOf, marks}
-use Rattle.numeric.specs.Calls.{wholeKeyPoints}
+use Rattle.numeric.specs.Calls.{planReasons, wholeKeyPoints}
 
 -- ---- the words of the statement
 -- marks of an axis and of its mirror match when negated and in reverse order
@@ -48,9 +49,10 @@ stepOnly r = andThen r (λ x. given (x .0))
 
 -- ---- the statement, for the axis (a, b) and its mirror (−a, −b) under the same mark limit
 pub record Mirrored (a b : ℤ) (m : ℕ) : Type 0 where
-  -- with lists lent that are long enough on both sides or too short on both: refused on both sides with the same number, or accepted
-  -- on both, with the same step
-  pub same-verdict : (old old′ : List ℤ) → BothLong (length (marks a b m)) old (length (marks (negℤ a) (negℤ b) m)) old′ → stepOnly (wholeKeyPoints (negℤ a) (negℤ b) m old′ .0) ≡ stepOnly (wholeKeyPoints a b m old .0)
+  -- with lists lent that are long enough on both sides or too short on both, where there are marks to write: refused on both sides with the
+  -- same number, or accepted on both, with the same step
+  pub same-verdict : (old old′ : List ℤ) → BothLong (planReasons (endsAdmitted a b) a b m) (length (marks a b m)) old (length (marks (negℤ a) (negℤ b) m)) old′
+      → stepOnly (wholeKeyPoints (negℤ a) (negℤ b) m old′ .0) ≡ stepOnly (wholeKeyPoints a b m old .0)
   -- no step serves on both sides or on neither, and the step is the same
   pub same-refusal : noStep (negℤ a) (negℤ b) m ≡ noStep a b m
   pub same-step : stepOf (negℤ a) (negℤ b) m ≡ stepOf a b m

@@ -2,7 +2,7 @@
 -- than that reason's; if none does, the answer. Then what a given answer and a refusal say of the reasons, and of more of them.
 -- Assumes nothing.
 use mathlib.Core.Path.{_≡_, refl, sym, ap, _∙_, subst}
-use mathlib.Core.Bool.{Bool, true, false, cond, not}
+use mathlib.Core.Bool.{Bool, true, false, cond, not, _&&_}
 use mathlib.Core.List.{List, [], _∷_, _++_, List·Memᴰ, List·Memᴰ·head, List·Memᴰ·tail, List·Memᴰ·cases-cons, List·Memᴰ·not-nil}
 use mathlib.Core.Logic.{_⊎_, inl, inr}
 use Prim.Native.Nat.{ℕ, _≤_, _<_}
@@ -10,8 +10,7 @@ use native.Mathlib.Omega.{arith}
 use borrow.Author.Tests.{not-true}
 use lib.Dec.{T, ltb, ltb→lt}
 use mir.Facts.{and-yes}
-use Rattle.ranged1d.specs.Answer.{Answer, given, refused, Reason, lowest, rising, andThen}
-use Rattle.ranged1d.specs.Numbers.{every}
+use Rattle.ranged1d.specs.Answer.{Answer, given, refused, Reason, _when_, lowest, rising, andThen, noneOf}
 use Rattle.ranged1d.proofs.Bools.{both-true}
 use Rattle.ranged1d.proofs.Answers.{not-both, one-refusal}
 
@@ -44,9 +43,9 @@ abbrev pub NoneOf : List Reason → Type 0
 NoneOf [] = Unit {0}
 NoneOf (r ∷ rs) = (r .applies ≡ false) × NoneOf rs
 
-pub none-of : (rs : List Reason) → every (λ r. not (r .applies)) rs ≡ true → NoneOf rs
+pub none-of : (rs : List Reason) → noneOf rs ≡ true → NoneOf rs
 none-of [] h = tt
-none-of (r ∷ rs) h = let both = both-true (not (r .applies)) (every (λ r. not (r .applies)) rs) h in (not-true (r .applies) (both .0), none-of rs (both .1))
+none-of (r ∷ rs) h = let both = both-true (not (r .applies)) (noneOf rs) h in (not-true (r .applies) (both .0), none-of rs (both .1))
 
 module _ {A : Type 0} where
   -- where an answer is given no reason applies, and it is the one behind the reasons
@@ -57,6 +56,16 @@ module _ {A : Type 0} where
       go : (t : Bool) → r .applies ≡ t → (lowest rs a ≡ given y → NoneOf rs × (a ≡ given y)) → cond t (refused (r .number)) (lowest rs a) ≡ given y → NoneOf (r ∷ rs) × (a ≡ given y)
       go true h rest e = absurd (not-both (sym e))
       go false h rest e = let w = rest e in ((h, w .0), w .1)
+
+  -- a last reason counts only where none of those before it applies
+  pub last-same : (rs : List Reason) (n : ℕ) (t u : Bool) (x : Answer A) → (noneOf rs ≡ true → t ≡ u) → lowest (rs ++ (n when t ∷ [])) x ≡ lowest (rs ++ (n when u ∷ [])) x
+  last-same [] n t u x h = rw (h refl) refl
+  last-same (r ∷ rs) n t u x h = go (r .applies) h (last-same rs n t u x)
+    where
+      go : (b : Bool) → ((not b && noneOf rs) ≡ true → t ≡ u) → ((noneOf rs ≡ true → t ≡ u) → lowest (rs ++ (n when t ∷ [])) x ≡ lowest (rs ++ (n when u ∷ [])) x)
+          → cond b (refused (r .number)) (lowest (rs ++ (n when t ∷ [])) x) ≡ cond b (refused (r .number)) (lowest (rs ++ (n when u ∷ [])) x)
+      go true h rest = refl
+      go false h rest = rest h
 
   -- there is an answer, or a refusal
   pub either : (x : A) (rs : List Reason) → (lowest rs (given x) ≡ given x) ⊎ ((n : ℕ) × (lowest rs (given x) ≡ refused n))

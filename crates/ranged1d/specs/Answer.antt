@@ -2,10 +2,11 @@
 -- Assumes nothing.
 use Prim.Native.Nat.{ℕ}
 use mathlib.Core.Path.{_≡_}
-use mathlib.Core.Bool.{Bool, true, cond, _&&_}
+use mathlib.Core.Bool.{Bool, true, cond, not, _&&_}
 use mathlib.Core.List.{List, [], _∷_, _++_}
 use lib.Dec.{ltb}
 use lib.ListN.{length, drop}
+use Rattle.ranged1d.specs.Numbers.{every}
 
 -- 01 "Why a call stops": a call gives its answer, or answers that there is none, or is refused with a number. None is no refusal.
 pub data Answer (A : Type 0) : Type 0 where
@@ -61,6 +62,11 @@ pub data Paired {A : Type 0} (R : A → A → Type 0) : Answer A → Answer A �
 abbrev pub listWritten : {A : Type 0} → List A → List A → Answer ℕ × List A
 listWritten l old = written (lowest (13 when ltb (length old) (length l) ∷ []) (given (length l))) l old
 
--- Lent memory is long enough for n numbers on one side and for n' on the other, or on neither.
-abbrev pub BothLong : {A : Type 0} → ℕ → List A → ℕ → List A → Type 0
-BothLong n old n' old' = ltb (length old) n ≡ ltb (length old') n'
+-- None of the reasons applies.
+abbrev pub noneOf : List Reason → Bool
+noneOf rs = every (λ r. not (r .applies)) rs
+
+-- Lent memory is long enough for n numbers on one side and for n' on the other, or on neither. That is asked only where none of the reasons applies for
+-- which a call stops whatever is lent: elsewhere there is nothing to write, and so no length that would be enough.
+abbrev pub BothLong : {A : Type 0} → List Reason → ℕ → List A → ℕ → List A → Type 0
+BothLong reasons n old n' old' = noneOf reasons ≡ true → ltb (length old) n ≡ ltb (length old') n'

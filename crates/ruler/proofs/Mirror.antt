@@ -3,18 +3,17 @@ use mathlib.Core.Path.{_≡_, refl, sym, ap, ap₂, _∙_}
 use mathlib.Core.Bool.{Bool, true, false, not, _&&_}
 use mathlib.Core.List.{List, [], _∷_, _++_, map, reverse, reverse-cons, map-append}
 use mathlib.Core.Logic.{_⊎_, inl, inr}
-use Prim.Native.Nat.{ℕ, _+_, _*_, _%_}
+use Prim.Native.Nat.{ℕ, _%_, _<_}
 use native.Mathlib.Omega.{arith}
-use lib.Dec.{eqb}
+use lib.Dec.{ltb, eqb}
 use lib.IntN.{ℤ, pos, negℤ, natAbs, negℤ-negℤ}
-use lib.ListN.{length, length-append}
+use lib.ListN.{length, length-append, getD}
 use lib.Signed.{_<ℤ_}
 use borrow.Author.Tests.{eqb-true, eqb-false}
-use Rattle.ruler.proofs.Places.{served}
 use Rattle.ranged1d.specs.Answer.{Answer, given, none, refused, Reason, lowest, andThen, BothLong}
 use Rattle.ranged1d.specs.Admitted.{endsAdmitted}
 use Rattle.ranged1d.specs.declared.Limit.{Limit}
-use Rattle.ranged1d.proofs.Lowest.{lowest-then}
+use Rattle.ranged1d.proofs.Lowest.{lowest-then, last-same}
 use Rattle.ranged1d.proofs.Whole.{admitted-neg}
 use Rattle.numeric.specs.Marks.{low, high, stepOf, marks}
 use Rattle.numeric.specs.Mirror.{mirrored, nearestZero, Divides}
@@ -25,9 +24,10 @@ use Rattle.real.proofs.Mirror as places
 use Rattle.real.proofs.Readings.{limit-neg}
 use Rattle.ruler.specs.Bytes.{Record, axis, mark, laid, joined}
 use Rattle.ruler.specs.Place.{placeIn, placeOf}
-use Rattle.ruler.specs.Rule.{writeReasons, markAt, recordsOf, rulerBytes, rulerWrite, hasRuler}
-use Rattle.ruler.specs.Mirror.{negated, turned, verdict, OneMore, Mirrored}
-use Rattle.ruler.proofs.Records.{axis-long, records-long}
+use Rattle.ruler.specs.Rule.{noRuler, writeReasons, markAt, recordsOf, rulerBytes, rulerWrite, hasRuler}
+use Rattle.ruler.specs.Mirror.{negated, turned, verdict, MirrorOf, OneMore, Mirrored}
+use Rattle.ruler.proofs.Records.{axis-long, mark-long, joined-append}
+use Rattle.ruler.proofs.Places.{served, every-placed}
 use Rattle.ruler.proofs.Drawn.{has-plan, ruler-long}
 
 -- ---- the place of the mirror is the negated place
@@ -81,9 +81,30 @@ records-back a b limit m z e =
     rw (negℤ-negℤ a, negℤ-negℤ b, negℤ-negℤ (limit .0), negℤ-negℤ (limit .1))
     (rw (negℤ-negℤ a, negℤ-negℤ b, negℤ-negℤ (limit .0), negℤ-negℤ (limit .1)) at (records-more (negℤ a) (negℤ b) (film.mirrored limit) m z back))
 
+-- turned records are as long
+negated-long : (r : Record) → length (laid (negated r)) ≡ length (laid r)
+negated-long (axis a b limit m s) = axis-long (negℤ a) (negℤ b) (film.mirrored limit) m s ∙ sym (axis-long a b limit m s)
+negated-long (mark v x) = mark-long (negℤ v) (negℤ x) ∙ sym (mark-long v x)
+
+reversed-long : (rs : List Record) → length (joined (reverse (map negated rs))) ≡ length (joined rs)
+reversed-long [] = refl
+reversed-long (r ∷ rs) =
+    ap (λ (l : List Record). length (joined l)) (reverse-cons (negated r) (map negated rs))
+    ∙ ap length (joined-append (reverse (map negated rs)) (negated r ∷ []))
+    ∙ omega (arith, length-append (joined (reverse (map negated rs))) (joined (negated r ∷ [])), length-append (laid (negated r)) [], length-append (laid r) (joined rs), negated-long r, reversed-long rs)
+
+turned-long : (rs : List Record) → length (joined (turned rs)) ≡ length (joined rs)
+turned-long [] = refl
+turned-long (r ∷ rs) =
+    omega (arith, length-append (laid (negated r)) (joined (reverse (map negated rs))), length-append (laid r) (joined rs), negated-long r, reversed-long rs)
+
+-- the last entry of a list
+getD-last : (l : List ℤ) (z : ℤ) → getD (l ++ (z ∷ [])) (length l) (pos 0) ≡ z
+getD-last [] z = refl
+getD-last (x ∷ l) z = getD-last l z
+
 -- ---- refusals
--- a verdict does not see the numbers of an answer
--- a verdict is the same of an answer and of what is made of it
+-- a verdict does not see the numbers of an answer: it is the same of what is made of them
 pub verdict-then : {A B : Type 0} (r : Answer A) (f : A → B) → verdict r ≡ verdict (andThen r (λ x. given (f x)))
 verdict-then (given x) f = refl
 verdict-then none f = refl
@@ -103,41 +124,31 @@ module _ (a b : ℤ) (limit : Limit) (m : ℕ) where
   unfolding hasRuler
   ruler-same = rw (ends-same, limit-neg limit, marks.mirror a b m .same-refusal)
 
-  verdict-same : (old old′ : List ℕ) → BothLong (length (rulerBytes a b limit m)) old (length (rulerBytes (negℤ a) (negℤ b) −limit m)) old′ → verdict (rulerWrite (negℤ a) (negℤ b) −limit m old′ .0) ≡ verdict (rulerWrite a b limit m old .0)
+  abbrev numbers : ℕ × ℕ
+  numbers = (length (rulerBytes a b limit m), length (marks a b m))
+
+  verdict-same : (old old′ : List ℕ) → BothLong (noRuler a b limit m) (length (rulerBytes a b limit m)) old (length (rulerBytes (negℤ a) (negℤ b) −limit m)) old′ → verdict (rulerWrite (negℤ a) (negℤ b) −limit m old′ .0) ≡ verdict (rulerWrite a b limit m old .0)
   unfolding rulerWrite
   verdict-same old old′ e =
-      rw (ends-same, limit-neg limit, marks.mirror a b m .same-refusal, ← e)
-      (verdict-of _ _ (writeReasons a b limit m old))
+      verdict-of _ numbers (writeReasons (negℤ a) (negℤ b) −limit m old′)
+      ∙ rw (ends-same, limit-neg limit, marks.mirror a b m .same-refusal)
+      (ap verdict (last-same (noRuler a b limit m) 13 (ltb (length old′) (length (rulerBytes (negℤ a) (negℤ b) −limit m))) (ltb (length old) (length (rulerBytes a b limit m))) (given numbers) (λ h. sym (e h))))
 
   -- ---- where there is a ruler
   module _ (h : hasRuler a b limit m ≡ true) where
-    more-below : (Divides (stepOf a b m) (nearestZero a b) → ⊥) → high a b <ℤ pos 0 → OneMore a b limit m (high a b) (rulerBytes a b limit m) (recordsOf (negℤ a) (negℤ b) −limit m)
-    unfolding rulerBytes
-    more-below f l =
-        let o = marks.mirror a b m .one-more-below (served a b limit m h) f l in
-        record { extra = o .extra; is-next = o .is-next; others-match = ap joined (records-back a b limit m (o .extra) (o .others-match)) }
-
-    more-above : (Divides (stepOf a b m) (nearestZero a b) → ⊥) → pos 0 <ℤ low a b → OneMore (negℤ a) (negℤ b) −limit m (negℤ (low a b)) (rulerBytes (negℤ a) (negℤ b) −limit m) (recordsOf a b limit m)
-    unfolding rulerBytes
-    more-above f l =
-        let o = marks.mirror a b m .one-more-above (served a b limit m h) f l in
-        record { extra = o .extra; is-next = rw (marks.mirror a b m .same-step) (o .is-next); others-match = ap joined (records-more a b limit m (o .extra) (o .others-match)) }
-
-    matching : Divides (stepOf a b m) (nearestZero a b) → rulerBytes (negℤ a) (negℤ b) −limit m ≡ joined (turned (recordsOf a b limit m))
-    unfolding rulerBytes
-    matching e = ap joined (records-turned a b limit m (marks.mirror a b m .match-exactly (served a b limit m h) .1 e))
+    -- the last mark of a list has its place
+    last-placed : (l : List ℤ) (z : ℤ) → marks a b m ≡ l ++ (z ∷ []) → wholePlace a b z limit ≡ given (placeOf a b limit z)
+    last-placed l z e =
+        let at : getD (marks a b m) (length l) (pos 0) ≡ z = ap (λ (x : List ℤ). getD x (length l) (pos 0)) e ∙ getD-last l z in
+        let below : length l < length (marks a b m) = omega (arith, ap length e, length-append l (z ∷ [])) in
+        rw at at (every-placed a b limit m h (length l) below)
 
     -- bytes that match are as many, and with one mark more they are not
-    turned-long : length (joined (turned (recordsOf a b limit m))) ≡ 25 + 20 * length (marks a b m)
-    turned-long =
-        let l = marks a b m in
-        length-append (laid (axis (negℤ a) (negℤ b) −limit m (pos (stepOf a b m)))) (joined (reverse (map negated (map (markAt a b limit) l))))
-        ∙ ap₂ (λ (x y : ℕ). x + y) (axis-long (negℤ a) (negℤ b) −limit m (pos (stepOf a b m))) (ap (λ (rs : List Record). length (joined rs)) (sym (marks-turned a b limit l)) ∙ records-long (negℤ a) (negℤ b) −limit (mirrored l) ∙ ap (λ (n : ℕ). 20 * n) (marks.length-mirrored l))
+    lengths : MirrorOf (rulerBytes (negℤ a) (negℤ b) −limit m) (rulerBytes a b limit m) → length (marks (negℤ a) (negℤ b) m) ≡ length (marks a b m)
+    lengths (rs, e, f) =
+        omega (arith, ap length e, ap length f, turned-long rs, ruler-long a b limit m (has-plan a b limit m h), ruler-long (negℤ a) (negℤ b) −limit m (has-plan (negℤ a) (negℤ b) −limit m (ruler-same ∙ h)))
 
-    lengths : rulerBytes (negℤ a) (negℤ b) −limit m ≡ joined (turned (recordsOf a b limit m)) → length (marks (negℤ a) (negℤ b) m) ≡ length (marks a b m)
-    lengths e = omega (arith, ap length e, turned-long, ruler-long (negℤ a) (negℤ b) −limit m (has-plan (negℤ a) (negℤ b) −limit m (ruler-same ∙ h)))
-
-    divided : rulerBytes (negℤ a) (negℤ b) −limit m ≡ joined (turned (recordsOf a b limit m)) → Divides (stepOf a b m) (nearestZero a b)
+    divided : MirrorOf (rulerBytes (negℤ a) (negℤ b) −limit m) (rulerBytes a b limit m) → Divides (stepOf a b m) (nearestZero a b)
     divided e = go (eqb (natAbs (nearestZero a b) % stepOf a b m) 0) refl
       where
         no-half : (Divides (stepOf a b m) (nearestZero a b) → ⊥) → (high a b <ℤ pos 0) ⊎ (pos 0 <ℤ low a b) → ⊥
@@ -147,6 +158,40 @@ module _ (a b : ℤ) (limit : Limit) (m : ℕ) where
         go : (t : Bool) → eqb (natAbs (nearestZero a b) % stepOf a b m) 0 ≡ t → Divides (stepOf a b m) (nearestZero a b)
         go true q = eqb-true _ _ q
         go false q = absurd (no-half (eqb-false _ _ q) (marks.mirror a b m .one-half (eqb-false _ _ q)))
+
+    matching : Divides (stepOf a b m) (nearestZero a b) → MirrorOf (rulerBytes (negℤ a) (negℤ b) −limit m) (rulerBytes a b limit m)
+    unfolding rulerBytes
+    matching e = (recordsOf a b limit m, refl, ap joined (records-turned a b limit m (marks.mirror a b m .match-exactly (served a b limit m h) .1 e)))
+
+-- one mark more: on this axis, or on its mirror
+module _ (a b : ℤ) (limit : Limit) (m : ℕ) (h : hasRuler a b limit m ≡ true) (f : Divides (stepOf a b m) (nearestZero a b) → ⊥) where
+  more-below : high a b <ℤ pos 0 → OneMore a b limit m (high a b) (rulerBytes a b limit m) (rulerBytes (negℤ a) (negℤ b) (film.mirrored limit) m)
+  unfolding rulerBytes
+  more-below l =
+      let o = marks.mirror a b m .one-more-below (served a b limit m h) f l in
+      record {
+        extra = o .extra;
+        is-next = o .is-next;
+        place = placeOf a b limit (o .extra);
+        placed = last-placed a b limit m h (mirrored (marks (negℤ a) (negℤ b) m)) (o .extra) (o .others-match);
+        others = recordsOf (negℤ a) (negℤ b) (film.mirrored limit) m;
+        fewer-are = refl;
+        others-match = ap joined (records-back a b limit m (o .extra) (o .others-match));
+      }
+
+  more-above : pos 0 <ℤ low a b → OneMore (negℤ a) (negℤ b) (film.mirrored limit) m (negℤ (low a b)) (rulerBytes (negℤ a) (negℤ b) (film.mirrored limit) m) (rulerBytes a b limit m)
+  unfolding rulerBytes
+  more-above l =
+      let o = marks.mirror a b m .one-more-above (served a b limit m h) f l in
+      record {
+        extra = o .extra;
+        is-next = rw (marks.mirror a b m .same-step) (o .is-next);
+        place = placeOf (negℤ a) (negℤ b) (film.mirrored limit) (o .extra);
+        placed = last-placed (negℤ a) (negℤ b) (film.mirrored limit) m (ruler-same a b limit m ∙ h) (mirrored (marks a b m)) (o .extra) (o .others-match);
+        others = recordsOf a b limit m;
+        fewer-are = refl;
+        others-match = ap joined (records-more a b limit m (o .extra) (o .others-match));
+      }
 
 pub mirror : (a b : ℤ) (limit : Limit) (m : ℕ) → Mirrored a b limit m
 mirror a b limit m =

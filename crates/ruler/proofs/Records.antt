@@ -27,7 +27,7 @@ part-left xs ys a n h =
     rw (drop-append-le a xs ys u)
     (take-append-le n (drop a xs) ys (omega (arith, length-drop a xs)))
 
-joined-append : (xs ys : List Record) → joined (xs ++ ys) ≡ joined xs ++ joined ys
+pub joined-append : (xs ys : List Record) → joined (xs ++ ys) ≡ joined xs ++ joined ys
 joined-append [] ys = refl
 joined-append (x ∷ xs) ys = ap (λ (l : List ℕ). laid x ++ l) (joined-append xs ys) ∙ sym (append-assoc (laid x) (joined xs) (joined ys))
 

@@ -12,9 +12,10 @@ use Rattle.ranged1d.specs.Answer.{Answer, given, none, refused, BothLong}
 use Rattle.ranged1d.specs.declared.Limit.{Limit}
 use Rattle.numeric.specs.Marks.{low, high, stepOf}
 use Rattle.numeric.specs.Mirror.{nearestZero, Divides, NextTowardZero}
+use Rattle.real.specs.Place.{wholePlace}
 use Rattle.real.specs.Mirror as film
 use Rattle.ruler.specs.Bytes.{Record, axis, mark, joined}
-use Rattle.ruler.specs.Rule.{markAt, recordsOf, rulerBytes, rulerWrite, hasRuler}
+use Rattle.ruler.specs.Rule.{noRuler, rulerBytes, rulerWrite, hasRuler}
 
 -- ---- the words of the statement
 -- a record's mirror: the axis's has its ends and limits negated, and the same mark limit and step; a mark's has needle and place
@@ -39,24 +40,34 @@ verdict (given x) = accepted
 verdict none = empty
 verdict (refused n) = stopped n
 
--- the bytes of the ruler of (a, b, limit, m), on the half below zero with z its needle nearest zero, have one record more than the records
--- `fewer` of the other half: the last, of the next multiple of the step past z toward zero, placed by the rule of its own axis; all others
--- match
-pub record OneMore (a b : ℤ) (limit : Limit) (m : ℕ) (z : ℤ) (bytes : List ℕ) (fewer : List Record) : Type 0 where
+-- the bytes `back` are the mirrored ruler of the bytes `here`: these are records one behind another, and those are the same records turned
+abbrev pub MirrorOf : List ℕ → List ℕ → Type 0
+MirrorOf back here = (rs : List Record) × (here ≡ joined rs) × (back ≡ joined (turned rs))
+
+-- the bytes `more`, of the ruler of (a, b, limit, m) on the half below zero with z its needle nearest zero, have exactly one record more than
+-- the bytes `fewer` of the other half: the last, of the next multiple of the step past z toward zero, at the place that the rule of its own
+-- axis gives it; all others match
+pub record OneMore (a b : ℤ) (limit : Limit) (m : ℕ) (z : ℤ) (more fewer : List ℕ) : Type 0 where
   pub extra : ℤ
   pub is-next : NextTowardZero (stepOf a b m) z extra
-  pub others-match : bytes ≡ joined (turned fewer ++ (markAt a b limit extra ∷ []))
+  pub place : ℤ
+  pub placed : wholePlace a b extra limit ≡ given place
+  pub others : List Record
+  pub fewer-are : fewer ≡ joined others
+  pub others-match : more ≡ joined (turned others ++ (mark extra place ∷ []))
 
 -- ---- the statement, for (a, b, p, q, m) and its mirror (−a, −b, −p, −q, m)
 pub record Mirrored (a b : ℤ) (limit : Limit) (m : ℕ) : Type 0 where
-  -- with bytes lent that are long enough on both sides or too short on both: refused on both with the same number, or accepted on both
-  pub same-verdict : (old old′ : List ℕ) → BothLong (length (rulerBytes a b limit m)) old (length (rulerBytes (negℤ a) (negℤ b) (film.mirrored limit) m)) old′ → verdict (rulerWrite (negℤ a) (negℤ b) (film.mirrored limit) m old′ .0) ≡ verdict (rulerWrite a b limit m old .0)
+  -- with bytes lent that are long enough on both sides or too short on both, where there is a ruler to write: refused on both with the same
+  -- number, or accepted on both
+  pub same-verdict : (old old′ : List ℕ) → BothLong (noRuler a b limit m) (length (rulerBytes a b limit m)) old (length (rulerBytes (negℤ a) (negℤ b) (film.mirrored limit) m)) old′
+      → verdict (rulerWrite (negℤ a) (negℤ b) (film.mirrored limit) m old′ .0) ≡ verdict (rulerWrite a b limit m old .0)
   -- there is a ruler on both sides or on neither
   pub same-ruler : hasRuler (negℤ a) (negℤ b) (film.mirrored limit) m ≡ hasRuler a b limit m
-  -- where there is one: the bytes are those of the turned records exactly when the step divides the needle nearest zero
-  pub match-exactly : hasRuler a b limit m ≡ true → (rulerBytes (negℤ a) (negℤ b) (film.mirrored limit) m ≡ joined (turned (recordsOf a b limit m))) ↔ Divides (stepOf a b m) (nearestZero a b)
+  -- where there is one: the mirrored axis has the mirrored ruler exactly when the step divides the needle nearest zero
+  pub match-exactly : hasRuler a b limit m ≡ true → MirrorOf (rulerBytes (negℤ a) (negℤ b) (film.mirrored limit) m) (rulerBytes a b limit m) ↔ Divides (stepOf a b m) (nearestZero a b)
   -- otherwise the axis lies below zero or above it,
   pub one-half : (Divides (stepOf a b m) (nearestZero a b) → ⊥) → (high a b <ℤ pos 0) ⊎ (pos 0 <ℤ low a b)
   -- and the half below zero, which is this axis or its mirror, has exactly one record more
-  pub one-more-below : hasRuler a b limit m ≡ true → (Divides (stepOf a b m) (nearestZero a b) → ⊥) → high a b <ℤ pos 0 → OneMore a b limit m (high a b) (rulerBytes a b limit m) (recordsOf (negℤ a) (negℤ b) (film.mirrored limit) m)
-  pub one-more-above : hasRuler a b limit m ≡ true → (Divides (stepOf a b m) (nearestZero a b) → ⊥) → pos 0 <ℤ low a b → OneMore (negℤ a) (negℤ b) (film.mirrored limit) m (negℤ (low a b)) (rulerBytes (negℤ a) (negℤ b) (film.mirrored limit) m) (recordsOf a b limit m)
+  pub one-more-below : hasRuler a b limit m ≡ true → (Divides (stepOf a b m) (nearestZero a b) → ⊥) → high a b <ℤ pos 0 → OneMore a b limit m (high a b) (rulerBytes a b limit m) (rulerBytes (negℤ a) (negℤ b) (film.mirrored limit) m)
+  pub one-more-above : hasRuler a b limit m ≡ true → (Divides (stepOf a b m) (nearestZero a b) → ⊥) → pos 0 <ℤ low a b → OneMore (negℤ a) (negℤ b) (film.mirrored limit) m (negℤ (low a b)) (rulerBytes (negℤ a) (negℤ b) (film.mirrored limit) m) (rulerBytes a b limit m)

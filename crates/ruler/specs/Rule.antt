@@ -7,10 +7,10 @@ use lib.Dec.{ltb}
 use lib.IntN.{ℤ, pos}
 use lib.ListN.{length, take, drop}
 use lib.Signed.{ltZ}
-use Rattle.ranged1d.specs.Answer.{Answer, given, refused, Reason, _when_, lowest, written}
+use Rattle.ranged1d.specs.Answer.{Answer, given, refused, Reason, _when_, lowest, noneOf, written}
 use Rattle.ranged1d.specs.Refusals.{numberOf}
 use Rattle.ranged1d.specs.Admitted.{endsAdmitted, limitAdmitted}
-use Rattle.ranged1d.specs.Numbers.{same, every}
+use Rattle.ranged1d.specs.Numbers.{same}
 use Rattle.ranged1d.specs.declared.Limit.{Limit}
 use Rattle.numeric.specs.declared.KeyPoints.{KeyPoints}
 use Rattle.numeric.specs.Marks.{noStep, stepOf, marks}
@@ -67,7 +67,7 @@ rulerPlan a b limit m = lowest (noRuler a b limit m) (given (planOf a b m))
 -- ---- 01 "Ruler bytes": the reader
 -- whether an axis has a ruler: nothing stops the writer but memory
 unfoldable pub hasRuler : ℤ → ℤ → Limit → ℕ → Bool
-hasRuler a b limit m = every (λ r. not (r .applies)) (noRuler a b limit m)
+hasRuler a b limit m = noneOf (noRuler a b limit m)
 
 -- the numbers that stand where a ruler has its own
 abbrev pub aIn : List ℕ → ℤ

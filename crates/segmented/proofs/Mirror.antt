@@ -5,6 +5,7 @@ use mathlib.Core.Bool.{Bool, true, false, cond, _&&_, _||_}
 use mathlib.Core.List.{List, [], _∷_}
 use Prim.Native.Nat.{ℕ, zero, suc}
 use lib.IntN.{ℤ, negℤ, _+ℤ_, _-ℤ_, negℤ-+ℤ}
+use lib.Dec.{ltb}
 use lib.ListN.{length}
 use lib.Ieee.{Float, neg}
 use Rattle.ranged1d.specs.Answer.{Answer, given, none, refused, _when_, lowest, Paired, both-given, both-none, both-refused, BothLong}
@@ -12,7 +13,7 @@ use Rattle.ranged1d.specs.Admitted.{wholeAdmitted, limitAdmitted}
 use Rattle.ranged1d.specs.declared.Limit.{Limit}
 use Rattle.ranged1d.proofs.Answers.{not-none, not-both}
 use Rattle.ranged1d.proofs.Bools.{both-true}
-use Rattle.ranged1d.proofs.Lowest.{lowest-then}
+use Rattle.ranged1d.proofs.Lowest.{lowest-then, last-same}
 use Rattle.ranged1d.proofs.Whole.{quot-neg}
 use Rattle.rounding.specs.declared.Whole.{Whole}
 use Rattle.rounding.specs.declared.Whole.the-variants.{Number, Beyond}
@@ -32,7 +33,7 @@ use Rattle.linspace.specs.Mirror as steps
 use Rattle.linspace.proofs.Turned.{KindTurns, stepped-turned, admitted-turned, against-turned, marks-turned}
 use Rattle.linspace.proofs.Mirror as lists
 use Rattle.segmented.specs.Values.{Segment, exact, centerOf, last}
-use Rattle.segmented.specs.Segments.{Axis, half, margin, narrowed, start, entryAfter, successor, middle, afterBeyond, fitIn, segmentPlace, segmentSize, segmentIndexOf, segmentKeyPoints}
+use Rattle.segmented.specs.Segments.{Axis, half, margin, narrowed, start, entryAfter, successor, middle, afterBeyond, fitIn, unmarked, segmentPlace, segmentSize, segmentIndexOf, segmentKeyPoints}
 use Rattle.segmented.specs.Steps.{countAnswer, Stands, placedAnswer}
 use Rattle.segmented.specs.Mirror.{across, here, there, findHere, findThere, Mirrored, WholeMirrored, RealMirrored}
 use Rattle.segmented.proofs.Margin.{margin-neg}
@@ -123,9 +124,11 @@ module _ {A : Type 0} (kind : Kind A) (R : A → A → Type 0) (K : KindTurns ki
   marks-same : (m : ℕ) → length (M .marks m) ≡ length (H .marks m)
   marks-same m = each-length (M .marks m) (H .marks m) (marks-turned kind R K (opposite a) (opposite b) (opposite d) a b d (opp a) (opp b) (opp d) m)
 
-  key-points : (m : ℕ) (old old' : List A) → BothLong (length (H .marks m)) old (length (M .marks m)) old' → segmentKeyPoints M (length (M .marks m)) m old' .0 ≡ segmentKeyPoints H (length (H .marks m)) m old .0
+  key-points : (m : ℕ) (old old' : List A) → BothLong (unmarked H m) (length (H .marks m)) old (length (M .marks m)) old' → segmentKeyPoints M (length (M .marks m)) m old' .0 ≡ segmentKeyPoints H (length (H .marks m)) m old .0
   unfolding segmentKeyPoints
-  key-points m old old' h = rw (admits, leads, ← h, marks-same m, lengths) refl
+  key-points m old old' h =
+      rw (admits, leads, marks-same m, lengths)
+      (last-same (unmarked H m) 13 (ltb (length old') (length (H .marks m))) (ltb (length old) (length (H .marks m))) (given (length (H .marks m))) (λ e. sym (rw (marks-same m) at (h e))))
 
   -- ---- places, from those of values and their mirrors
   module _ (spots : axisAdmitted kind a b d ≡ true → (v w : A) → R w v → kind .admitted v ≡ true → (limit : Limit)

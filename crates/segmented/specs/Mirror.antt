@@ -15,7 +15,7 @@ use Rattle.search.specs.declared.RoundingMethod.{RoundingMethod}
 use Rattle.linspace.specs.List.{Kind, whole, real}
 use Rattle.linspace.specs.Mirror.{Negated}
 use Rattle.segmented.specs.Values.{Segment, exact, centerOf, last}
-use Rattle.segmented.specs.Segments.{Axis, Finder, segmentPlace, segmentSize, segmentIndexOf, segmentKeyPoints}
+use Rattle.segmented.specs.Segments.{Axis, Finder, unmarked, segmentPlace, segmentSize, segmentIndexOf, segmentKeyPoints}
 use Rattle.segmented.specs.Axes.{steppedAxis, steppedFinder}
 
 -- the mirror of a segment's value
@@ -47,8 +47,9 @@ module _ {A : Type 0} (kind : Kind A) (opposite : A → A) (a b d : A) where
     -- A place is negated, or refused alike.
     pub places : (method : RoundingMethod) (s : Segment A) (limit : Limit)
         → segmentPlace there (findThere method) (across opposite s) (mirrored limit) ≡ negated (segmentPlace here (findHere method) s limit)
-    -- The call that writes the marks answers alike or is refused alike, if the memory is long enough on both sides or on neither.
-    pub key-points : (m : ℕ) (old old' : List A) → BothLong (length (here .marks m)) old (length (there .marks m)) old'
+    -- The call that writes the marks answers alike or is refused alike, if the memory is long enough on both sides or on neither, where there are
+    -- marks to write.
+    pub key-points : (m : ℕ) (old old' : List A) → BothLong (unmarked here m) (length (here .marks m)) old (length (there .marks m)) old'
         → segmentKeyPoints there (length (there .marks m)) m old' .0 ≡ segmentKeyPoints here (length (here .marks m)) m old .0
     -- The marks are negated entry for entry in the same order.
     pub marks : (m : ℕ) → Turned (there .marks m) (here .marks m)

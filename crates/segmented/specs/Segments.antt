@@ -179,8 +179,11 @@ module _ {A : Type 0} (axis : Axis A) where
       lowest (segmentReadingReasons x limit) (segmentOf (indexFor (x -ℤ limit .0) (limit .1 -ℤ limit .0) (suc (axis .count))))
 
   -- ---- `key_points`: the marks of the axis, each standing for `CenterOf` of it, written to the lent list; told is what the call answers then
+  abbrev pub unmarked : ℕ → List Reason
+  unmarked m = 1 when not (axis .admitted) ∷ 3 when axis .noStep m ∷ unlisted
+
   abbrev pub segmentKeyPointsReasons : ℕ → List A → List Reason
-  segmentKeyPointsReasons m old = 1 when not (axis .admitted) ∷ 3 when axis .noStep m ∷ unlisted ++ (13 when ltb (length old) (length (axis .marks m)) ∷ [])
+  segmentKeyPointsReasons m old = unmarked m ++ (13 when ltb (length old) (length (axis .marks m)) ∷ [])
 
   unfoldable pub segmentKeyPoints : {B : Type 0} → B → ℕ → List A → Answer B × List A
   segmentKeyPoints told m old = written (lowest (segmentKeyPointsReasons m old) (given told)) (axis .marks m) old

@@ -1,0 +1,139 @@
+-- The drafts of specs/Worked, computed; that the theorem speaks of drafts with nothing to write, whatever is lent; and statements beside demand 3 that are
+-- wrong, each refuted on the smallest input that tells. Assumes nothing.
+use mathlib.Core.Path.{_≡_, refl, sym, ap, _∙_, subst}
+use mathlib.Core.Bool.{Bool, true, false, true≢false}
+use mathlib.Core.List.{List, [], _∷_, map}
+use Prim.Native.Nat.{ℕ, _<_}
+use native.Mathlib.Omega.{arith}
+use lib.IntN.{ℤ, pos, negsuc, negℤ}
+use lib.ListN.{length, getD}
+use lib.Signed.{_<ℤ_}
+use lib.Ieee.{Float, nan, inf, fin, neg, sub, div, mul, add, ofInt, ofBits, eq, lt}
+use Rattle.ranged1d.specs.Answer.{Answer, given, none, refused, BothLong}
+use Rattle.ranged1d.specs.Admitted.{limitOf}
+use Rattle.ranged1d.specs.declared.Limit.{Limit}
+use Rattle.ranged1d.proofs.Answers.{not-both, not-none}
+use Rattle.ranged1d.proofs.Whole.{yes-lt}
+use Rattle.rounding.specs.Within.{wholeOf, within}
+use Rattle.real.specs.Place.{rising, falling, along, spot, wholePlace}
+use Rattle.real.specs.Mirror as film
+use Rattle.decimal.specs.Print.{digits}
+use Rattle.numeric.specs.Marks.{high, stepAt, firstOf, chosen, noStepFor, stepFor, marksFor, stepOf, marks}
+use Rattle.numeric.specs.Calls.{wholeKeyPoints}
+use Rattle.numeric.specs.Mirror.{mirrored, OneMore, stepOnly}
+use Rattle.numeric.proofs.Mirror.{cut-next}
+use Rattle.search.specs.Lists.{searchable, wholeSearch}
+use Rattle.search.specs.declared.RoundingMethod.{RoundingMethod}
+use Rattle.search.specs.declared.RoundingMethod.the-variants.{Ceil}
+use Rattle.linspace.specs.List.{whole, real, entries, stepped, against}
+use Rattle.linspace.specs.Calls.{stepValues}
+use Rattle.ruler.specs.Place.{placeOf}
+use Rattle.ruler.specs.Bytes.{axisBody, markBody, laid}
+use Rattle.ruler.specs.Rule.{noRuler, recordsOf, rulerBytes, rulerWrite}
+use Rattle.ruler.specs.Mirror as ruler
+use Rattle.ruler.specs.Mirror.{accepted, verdict}
+use Rattle.mirror.specs.Mirror.{wrote, ruling, rulingBack, marking, markingBack, Rulers, Marks}
+use Rattle.mirror.specs.Worked.{zeros, draftLimit, DraftMore, Worked}
+use Rattle.mirror.proofs.Mirror.{demand-three}
+
+-- ---- 01's draft
+draft : DraftMore
+unfolding rulerWrite rulerBytes laid axisBody markBody digits stepAt firstOf chosen noStepFor stepFor marksFor placeOf wholePlace spot along rising falling within wholeOf eq sub div mul add ofInt ofBits
+draft = record {
+  extra = pos 0;
+  is-next = cut-next 5 (omega arith) 2 (λ e. let n : ⊥ = omega (arith, e) in n);
+  place = pos 150;
+  placed = refl;
+  others = recordsOf (pos 15) (pos 3) (film.mirrored draftLimit) 4;
+  fewer-are = refl;
+  others-match = refl;
+}
+
+pub worked : Worked
+unfolding draft rulerWrite rulerBytes wholeKeyPoints stepAt firstOf chosen noStepFor stepFor marksFor
+worked = record { draft-more = draft; draft-extra = refl; draft-place = refl; no-ruler = (refl, refl); no-marks = (refl, refl) }
+
+-- ---- nothing to write: the theorem asks nothing of what is lent
+pub no-ruler-lent : (old old' : List ℕ) → Rulers (negsuc 4) (negsuc 2) draftLimit 0 old old'
+unfolding stepAt firstOf chosen noStepFor
+no-ruler-lent old old' = demand-three .rulers (negsuc 4) (negsuc 2) draftLimit 0 old old' (λ e. absurd (true≢false (sym e)))
+
+pub no-marks-lent : (old old' : List ℤ) → Marks (negsuc 4) (negsuc 2) 0 old old'
+unfolding stepAt firstOf chosen noStepFor
+no-marks-lent old old' = demand-three .whole-marks (negsuc 4) (negsuc 2) 0 old old' (λ e. absurd (true≢false (sym e)))
+
+-- ---- wrong: a search and its mirror, up and down not exchanged. Up from 1 there is no entry of the list 0; up from −1 there is.
+abbrev SearchesKept : Type 0
+SearchesKept = (l : List ℤ) (t : ℤ) (method : RoundingMethod) → wholeSearch (map negℤ l) (negℤ t) method ≡ wholeSearch l t method
+
+pub searches-not-kept : SearchesKept → ⊥
+unfolding wholeSearch searchable
+searches-not-kept h = not-none (sym (h (pos 0 ∷ []) (pos 1) Ceil))
+
+-- ---- wrong: no mark more. −3..−1 with m 1 has the step 10 and the mark 0, and 1..3 has none.
+abbrev AlwaysMirrored : Type 0
+AlwaysMirrored =
+    (a b : ℤ) (limit : Limit) (m : ℕ) (old old' : List ℕ) → verdict (ruling a b limit m old old' .0) ≡ accepted → verdict (rulingBack a b limit m old old' .0) ≡ accepted
+    → ruler.MirrorOf (wrote (λ x. x .0) (rulingBack a b limit m old old')) (wrote (λ x. x .0) (ruling a b limit m old old'))
+
+pub not-always-mirrored : AlwaysMirrored → ⊥
+unfolding rulerWrite rulerBytes laid axisBody markBody digits stepAt firstOf chosen noStepFor stepFor marksFor placeOf wholePlace spot eq ofInt
+not-always-mirrored h =
+    let film = limitOf (pos 0) (pos 0) in
+    let back = h (negsuc 2) (negsuc 0) film 1 (zeros 45) (zeros 25) refl refl in
+    let n : _≡_ {A = ℕ} 1 0 = demand-three .rulers (negsuc 2) (negsuc 0) film 1 (zeros 45) (zeros 25) (λ e. refl) .match-exactly refl .0 back in
+    let z : ⊥ = omega (arith, n) in z
+
+-- ---- wrong: one mark more on every axis below zero, also where the step divides its needle nearest zero. −1..−1 with m 0 has the mark −1, and 1..1 has 1.
+abbrev AlwaysMore : Type 0
+AlwaysMore =
+    (a b : ℤ) (m : ℕ) (old old' : List ℤ) → verdict (marking a b m old old' .0) ≡ accepted → verdict (markingBack a b m old old' .0) ≡ accepted → high a b <ℤ pos 0
+    → OneMore (stepOf a b m) (high a b) (wrote (λ x. x .1) (marking a b m old old')) (wrote (λ x. x .1) (markingBack a b m old old'))
+
+pub not-always-more : AlwaysMore → ⊥
+unfolding wholeKeyPoints stepAt firstOf chosen noStepFor stepFor marksFor
+not-always-more h =
+    let o = h (negsuc 0) (negsuc 0) 0 (pos 0 ∷ []) (pos 0 ∷ []) refl refl (yes-lt refl) in
+    let n : _≡_ {A = ℕ} 1 2 = ap length (o .others-match) in
+    let z : ⊥ = omega (arith, n) in z
+
+-- ---- wrong: a stepped axis whose step keeps its sign. 0..1 by 1 is an empty list, and 0..−1 by 1 leads away.
+abbrev StepKept : Type 0
+StepKept = (a b d : ℤ) (old old' : List ℤ) → stepValues whole (negℤ a) (negℤ b) d old' .0 ≡ stepValues whole a b d old .0
+
+pub step-not-kept : StepKept → ⊥
+unfolding stepValues stepped against entries
+step-not-kept h = not-both (sym (h (pos 0) (pos 1) (pos 1) [] []))
+
+-- ---- wrong: whatever is lent, where there is something to write. −3..−1 with m 1 has a mark, for which there is no room, and 1..3 needs none.
+abbrev AnyMemory : Type 0
+AnyMemory = (a b : ℤ) (m : ℕ) (old old' : List ℤ) → stepOnly (markingBack a b m old old' .0) ≡ stepOnly (marking a b m old old' .0)
+
+pub not-any-memory : AnyMemory → ⊥
+unfolding wholeKeyPoints stepAt firstOf chosen noStepFor stepFor marksFor
+not-any-memory h = not-both (h (negsuc 2) (negsuc 0) 1 [] [])
+
+-- ---- wrong: a stepped list whose entries keep their signs, 0..2 by 1; and zeros of either sign told apart, −1..1 by 1, where 1 + −1 and −1 + 1 are both 0
+abbrev EntriesKept : Type 0
+EntriesKept = (a b d : ℤ) → stepped whole (negℤ a) (negℤ b) (negℤ d) ≡ stepped whole a b d
+
+abbrev isPos : ℤ → Bool
+isPos (pos n) = true
+isPos (negsuc n) = false
+
+pub entries-not-kept : EntriesKept → ⊥
+unfolding stepped entries
+entries-not-kept h = true≢false (sym (ap (λ (l : List ℤ). isPos (getD l 1 (pos 0))) (h (pos 0) (pos 2) (pos 1))))
+
+abbrev ZerosApart : Type 0
+ZerosApart = (a b d : Float) → stepped real (neg a) (neg b) (neg d) ≡ map neg (stepped real a b d)
+
+abbrev hasSign : Float → Bool
+hasSign nan = false
+hasSign (inf s) = s
+hasSign (fin s n e) = s
+
+pub zeros-not-apart : ZerosApart → ⊥
+unfolding stepped entries neg add lt
+zeros-not-apart h =
+    true≢false (sym (ap (λ (l : List Float). hasSign (getD l 1 (fin false 0 (pos 0)))) (h (fin true 1 (pos 0)) (fin false 1 (pos 0)) (fin false 1 (pos 0)))))
