@@ -1,6 +1,7 @@
 /*
- * Writes the ruler of a draft and that of its mirror, and prints beside each other the records that must match: the
- * mirror's are negated and stand in reverse order. One ruler may have one mark more, its last.
+ * Writes the ruler of a draft and that of its mirror, of either kind, and prints beside each other the records that
+ * must match: the mirror's are negated and stand in reverse order. Of kind 1 one ruler may have one mark more, its
+ * last; the marks of kind 3 stay on the axis, and always match.
  *
  *   mirror [a b p q m]
  */
@@ -29,11 +30,12 @@ static int32_t number_at(const uint8_t *at)
     return (int32_t)(at[0] | (uint32_t)at[1] << 8 | (uint32_t)at[2] << 16 | (uint32_t)at[3] << 24);
 }
 
-static int write_ruler(struct draft draft, struct ruler *ruler)
+static int write_ruler(int kind, struct draft draft, struct ruler *ruler)
 {
-    int32_t code = culv_ruler_write(draft.a, draft.b, draft.p, draft.q, draft.m,
-                                    ruler->bytes, sizeof ruler->bytes, &ruler->size, &ruler->marks);
-    printf("%" PRId32 " %" PRId32 " %" PRId32 " %" PRId32 " %" PRIu32 ": ", draft.a, draft.b, draft.p, draft.q, draft.m);
+    int32_t code = (kind == 1 ? culv_ruler_write : culv_ruler_write_inside)(
+        draft.a, draft.b, draft.p, draft.q, draft.m, ruler->bytes, sizeof ruler->bytes, &ruler->size, &ruler->marks);
+    printf("kind %d, %" PRId32 " %" PRId32 " %" PRId32 " %" PRId32 " %" PRIu32 ": ", kind, draft.a, draft.b, draft.p, draft.q,
+           draft.m);
     if (code != 0)
         printf("refused %" PRId32 "\n", code);
     else
@@ -41,9 +43,11 @@ static int write_ruler(struct draft draft, struct ruler *ruler)
     return code;
 }
 
-/* The first four numbers negated, the same m and step. */
+/* The first four numbers negated, the same kind, m and step. */
 static int axes_match(const uint8_t *one, const uint8_t *other)
 {
+    if (one[0] != other[0])
+        return 0;
     for (size_t at = 1; at < 17; at += 4)
         if (number_at(one + at) != -number_at(other + at))
             return 0;
@@ -103,15 +107,21 @@ static struct draft draft_of(int count, char **words)
                           (int32_t)atoi(words[4]), (uint32_t)strtoul(words[5], NULL, 10)};
 }
 
-int main(int count, char **words)
+static int show(int kind, struct draft draft)
 {
     static struct ruler one, other;
-    struct draft draft = draft_of(count, words);
-    if (write_ruler(draft, &one) != 0)
+    if (write_ruler(kind, draft, &one) != 0)
         return 1;
     struct draft mirror = {-draft.a, -draft.b, -draft.p, -draft.q, draft.m};
-    if (write_ruler(mirror, &other) != 0)
+    if (write_ruler(kind, mirror, &other) != 0)
         return 1;
     print_difference(&one, &other);
     return 0;
+}
+
+int main(int count, char **words)
+{
+    struct draft draft = draft_of(count, words);
+    int first = show(1, draft), second = show(3, draft);
+    return first || second;
 }

@@ -548,7 +548,8 @@ int32_t culv_seg_step_real_key_points(double a, double b, double d,
  * A ruler is a record for the axis and one for each mark, ascending. The
  * axis's has 25 bytes: the kind 1, a, b, p, q, m and the step. A mark's has 20:
  * the kind 2, the needle, its place, and the needle in base ten with blanks on
- * its left, 11 bytes in all. Numbers have four bytes, the lowest first.
+ * its left, 11 bytes in all. Numbers have four bytes, the lowest first. The
+ * marks are those of culv_whole_key_points.
  *
  * 0: *bytes is the number of bytes written, 25 + 20 * *marks.
  * Refused:
@@ -561,8 +562,17 @@ int32_t culv_ruler_write(int32_t a, int32_t b, int32_t p, int32_t q, uint32_t m,
                          uint8_t *out, size_t len, size_t *bytes, size_t *marks);
 
 /*
- * Reads a ruler: bytes that culv_ruler_write gives for the numbers in them, and
- * no others.
+ * The same with marks that stay on the axis: the multiples of the step from the
+ * smaller end to the larger one, both included. The axis's record begins with
+ * the kind 3; all else is as above, refusals too.
+ */
+int32_t culv_ruler_write_inside(int32_t a, int32_t b, int32_t p, int32_t q,
+                                uint32_t m, uint8_t *out, size_t len,
+                                size_t *bytes, size_t *marks);
+
+/*
+ * Reads a ruler of either kind: bytes that culv_ruler_write or
+ * culv_ruler_write_inside gives for the numbers in them, and no others.
  *
  * 0: the numbers that it was written for, its step and the number of marks.
  * Refused:
@@ -573,7 +583,16 @@ int32_t culv_ruler_read(const uint8_t *bytes, size_t len, int32_t *a, int32_t *b
                         size_t *marks);
 
 /*
- * Where in a ruler the label of a mark lies, without its blanks.
+ * The same, and *kind is the kind, 1 or 3, and *twist the twist, which these
+ * kinds do not have: 0.
+ */
+int32_t culv_ruler_read_kind(const uint8_t *bytes, size_t len, int32_t *a,
+                             int32_t *b, int32_t *p, int32_t *q, uint32_t *m,
+                             int32_t *step, size_t *marks, uint32_t *kind,
+                             uint32_t *twist);
+
+/*
+ * Where in a ruler of either kind the label of a mark lies, without its blanks.
  *
  * 0, always: *part_len bytes from bytes + *start on. Both are 0 where value is
  * no mark of the ruler, or the bytes are no ruler.
@@ -583,7 +602,8 @@ int32_t culv_ruler_label(const uint8_t *bytes, size_t len, int32_t value,
 
 /*
  * Where in a pair of rulers the record of a mark lies: in the left one if value
- * is below zero, otherwise in the right one; the other is not looked at.
+ * is below zero, otherwise in the right one; the other is not looked at. The
+ * two may be of different kinds.
  *
  * 0, always: *which is 0 for the left ruler or 1 for the right, and the record
  * is *part_len bytes from *start on in that ruler: 20, or 0 with *start 0 where

@@ -233,11 +233,21 @@ static uint8_t *put_mark(uint8_t *out, struct draft draft, int32_t needle)
     return out + 11;
 }
 
-size_t model_ruler(struct draft draft, uint8_t *out)
+/* Those of plotters; of kind 3 without the last if it lies past the axis. */
+struct marks draft_marks(struct draft draft)
 {
     struct marks marks = model_marks(draft.a, draft.b, draft.m);
+    int64_t most = draft.a < draft.b ? draft.b : draft.a;
+    if (draft.kind == 3 && marks.count > 0 && marks.first + (int64_t)(marks.count - 1) * marks.step > most)
+        marks.count--;
+    return marks;
+}
+
+size_t model_ruler(struct draft draft, uint8_t *out)
+{
+    struct marks marks = draft_marks(draft);
     uint8_t *at = out;
-    *at++ = 1;
+    *at++ = (uint8_t)draft.kind;
     at = put(put(put(at, (uint32_t)draft.a), (uint32_t)draft.b), (uint32_t)draft.p);
     at = put(put(put(at, (uint32_t)draft.q), draft.m), (uint32_t)marks.step);
     for (uint64_t k = 0; k < marks.count; k++)
@@ -253,7 +263,7 @@ static uint32_t word(const uint8_t *at)
 struct draft draft_of(const uint8_t *bytes)
 {
     return (struct draft){(int32_t)word(bytes + 1), (int32_t)word(bytes + 5), (int32_t)word(bytes + 9),
-                          (int32_t)word(bytes + 13), word(bytes + 17)};
+                          (int32_t)word(bytes + 13), word(bytes + 17), bytes[0]};
 }
 
 bool model_is_ruler(const uint8_t *bytes, size_t len)
@@ -262,7 +272,7 @@ bool model_is_ruler(const uint8_t *bytes, size_t len)
     if (len < 25 || len > sizeof written)
         return false;
     struct draft draft = draft_of(bytes);
-    if (draft_refused(draft) != 0 || len != 25 + 20 * model_marks(draft.a, draft.b, draft.m).count)
+    if ((draft.kind != 1 && draft.kind != 3) || draft_refused(draft) != 0 || len != 25 + 20 * draft_marks(draft).count)
         return false;
     return model_ruler(draft, written) == len && memcmp(bytes, written, len) == 0;
 }

@@ -46,25 +46,39 @@ static struct draft draw_draft(void)
     draw_whole_ends(&draft.a, &draft.b);
     draw_film(&draft.p, &draft.q);
     draft.m = draw_limit_of_marks();
+    draft.kind = below(2) ? 1 : 3;
     return draft;
 }
 
-static void ruler_write(void)
+typedef int32_t writer(int32_t, int32_t, int32_t, int32_t, uint32_t, uint8_t *, size_t, size_t *, size_t *);
+
+static void write_by(writer *write, uint32_t kind)
 {
     static uint8_t written[LONGEST_RULER];
     struct draft draft = draw_draft();
+    draft.kind = kind;
     int32_t refused = draft_refused(draft);
-    uint64_t count = refused != 0 ? 0 : model_marks(draft.a, draft.b, draft.m).count;
+    uint64_t count = refused != 0 ? 0 : draft_marks(draft).count;
     size_t len = draw_length(25 + 20 * count, LONGEST_RULER);
     size_t *bytes = RESULT(size_t), *marks = RESULT(size_t);
     uint8_t *out = LIST(uint8_t, len);
-    int32_t code = CALLED(culv_ruler_write(draft.a, draft.b, draft.p, draft.q, draft.m, out, len, bytes, marks));
+    int32_t code = CALLED(write(draft.a, draft.b, draft.p, draft.q, draft.m, out, len, bytes, marks));
     if (code == ANSWERED) {
         counted(code, out, 1, bytes, 25 + 20 * count);
         demand(*marks == count, "another count than the rule's");
         demand(model_ruler(draft, written) == *bytes && memcmp(out, written, *bytes) == 0, "other bytes than the rule's");
     }
     settle(code, lower(refused, len < 25 + 20 * count ? 13 : ANSWERED));
+}
+
+static void ruler_write(void)
+{
+    write_by(culv_ruler_write, 1);
+}
+
+static void ruler_write_inside(void)
+{
+    write_by(culv_ruler_write_inside, 3);
 }
 
 /* Bytes without sense, behind a header with or without sense. */
@@ -74,7 +88,7 @@ static size_t draw_bytes(uint8_t *out)
     struct draft draft = draw_draft();
     for (size_t at = 0; at < len; at++)
         out[at] = (uint8_t)bits();
-    if (below(2) && len >= 25 && draft_refused(draft) == 0 && model_marks(draft.a, draft.b, draft.m).count < 50) {
+    if (below(2) && len >= 25 && draft_refused(draft) == 0 && draft_marks(draft).count < 50) {
         size_t right = model_ruler(draft, out);
         len = below(2) ? right : len;
         if (right > 25)
@@ -83,12 +97,13 @@ static size_t draw_bytes(uint8_t *out)
     return len;
 }
 
-/* A byte changed, some cut off or added, or two records exchanged. */
+/* Another kind, a byte changed, some cut off or added, or two records exchanged. */
 static size_t damage(uint8_t *ruler, size_t len)
 {
     uint8_t record[20];
-    switch (below(4)) {
-    case 0: ruler[below(len)] ^= (uint8_t)(1 << below(8)); return len;
+    switch (below(5)) {
+    case 0: ruler[0] = (uint8_t)bits(); return len;
+    case 4: ruler[below(len)] ^= (uint8_t)(1 << below(8)); return len;
     case 1: return below(len);
     case 2: return len + below(40) + 1;
     default:
@@ -106,7 +121,7 @@ static const uint8_t *draw_ruler(const char *name, size_t *len)
 {
     static uint8_t drawn[LONGEST_RULER + 64];
     struct draft draft = draw_draft();
-    bool fits = draft_refused(draft) == 0 && model_marks(draft.a, draft.b, draft.m).count <= MOST_MARKS;
+    bool fits = draft_refused(draft) == 0 && draft_marks(draft).count <= MOST_MARKS;
     if (!fits || below(8) == 0)
         *len = draw_bytes(drawn);
     else
@@ -128,21 +143,34 @@ static int32_t draw_value(const uint8_t *ruler, size_t len)
     return value;
 }
 
-static void ruler_read(void)
+/* Both readers; the first tells nothing of the kind. */
+static void read_by(bool tells)
 {
     size_t len;
     const uint8_t *bytes = draw_ruler("bytes", &len);
     int32_t *a = RESULT(int32_t), *b = RESULT(int32_t), *p = RESULT(int32_t), *q = RESULT(int32_t);
     int32_t *step = RESULT(int32_t);
-    uint32_t *m = RESULT(uint32_t);
+    uint32_t *m = RESULT(uint32_t), *kind = RESULT(uint32_t), *twist = RESULT(uint32_t);
     size_t *marks = RESULT(size_t);
-    int32_t code = CALLED(culv_ruler_read(bytes, len, a, b, p, q, m, step, marks));
+    int32_t code = tells ? CALLED(culv_ruler_read_kind(bytes, len, a, b, p, q, m, step, marks, kind, twist))
+                         : CALLED(culv_ruler_read(bytes, len, a, b, p, q, m, step, marks));
     if (code == ANSWERED) {
-        struct draft draft = {*a, *b, *p, *q, *m}, held = draft_of(bytes);
+        struct draft held = draft_of(bytes), draft = {*a, *b, *p, *q, *m, tells ? *kind : held.kind};
         demand(memcmp(&draft, &held, sizeof draft) == 0, "other numbers than those of the ruler");
         demand(25 + 20 * *marks == len, "another count than that of the ruler");
+        demand(!tells || *twist == 0, "a twist where there is none");
     }
     settle(code, model_is_ruler(bytes, len) ? ANSWERED : 14);
+}
+
+static void ruler_read(void)
+{
+    read_by(false);
+}
+
+static void ruler_read_kind(void)
+{
+    read_by(true);
 }
 
 static void ruler_label(void)
@@ -201,6 +229,6 @@ static void label(void)
 #define CALL(name) {"culv_" #name, name}
 
 const struct call OTHER_CALLS[OTHER_COUNT] = {
-    CALL(search_whole), CALL(search_real), CALL(ruler_write), CALL(ruler_read), CALL(ruler_label), CALL(ruler_pair),
-    CALL(label),
+    CALL(search_whole), CALL(search_real), CALL(ruler_write), CALL(ruler_write_inside),
+    CALL(ruler_read), CALL(ruler_read_kind), CALL(ruler_label), CALL(ruler_pair), CALL(label),
 };

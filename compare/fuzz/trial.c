@@ -20,7 +20,7 @@ enum {
     AREAS = 10,
     ROOM = 1 << 20,   /* bytes of an area between its two closed pages */
     GUARD = 64,       /* bytes on each side of lent memory that are looked at after each call */
-    CALLS = 48,
+    CALLS = 50,
     SECONDS = 20,     /* no call may take longer */
     STATUSES = 16
 };

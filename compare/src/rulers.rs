@@ -1,7 +1,7 @@
 //! Rulers: built here from plotters' marks and places, and compared byte for byte.
 
-use culvraod::ruler::{culv_ruler_read, culv_ruler_write};
-use culvraod::ruler::{label_of, pair_record, read, write, Ruler, Written};
+use culvraod::ruler::{culv_ruler_read, culv_ruler_write, culv_ruler_write_inside};
+use culvraod::ruler::{label_of, pair_record, read, write, write_inside, Ruler, Written};
 use culvraod::{Limit, RangedCoordi32, Refusal};
 use plotters::coord::ranged1d::Ranged;
 use std::fmt::{self, Display};
@@ -14,6 +14,30 @@ use crate::timing::written;
 
 const DRAWN: usize = 5_000_000;
 const DAMAGED: usize = 20_000;
+
+/// Which marks a ruler has, by its kind: plotters' own, or those of them that lie on the axis.
+#[derive(Clone, Copy, PartialEq)]
+enum Kind {
+    Cut = 1,
+    Inside = 3,
+}
+
+use Kind::{Cut, Inside};
+
+impl Kind {
+    fn of(byte: u8) -> Option<Kind> {
+        [Cut, Inside].into_iter().find(|&kind| kind as u8 == byte)
+    }
+
+    /// The calls that write rulers, the one that this kind is written by.
+    fn write(self, draft: Draft, out: &mut [u8]) -> Result<Written, Refusal> {
+        let write = match self {
+            Cut => write,
+            Inside => write_inside,
+        };
+        write(draft.axis(), draft.limit(), draft.m, out)
+    }
+}
 
 impl Display for Draft {
     fn fmt(&self, out: &mut fmt::Formatter) -> fmt::Result {
@@ -45,13 +69,16 @@ impl Draft {
         numbers.map(|n| u128::from(n.unsigned_abs())).sum::<u128>() + u128::from(self.m)
     }
 
-    /// The step, and plotters' marks with their places; or the refusal.
-    fn plotters(self) -> Result<(i32, Vec<(i32, i32)>), i32> {
+    /// The step, and the marks of a kind with their places, both of plotters; or the refusal.
+    fn plotters(self, kind: Kind) -> Result<(i32, Vec<(i32, i32)>), i32> {
         let [a, b] = self.ends;
         let rule = self.rule()?;
         let axis = plotters::coord::RangedCoordi32::from(a..b);
         let limits = (self.limits[0], self.limits[1]);
-        let needles = axis.key_points(self.m as usize);
+        let mut needles = axis.key_points(self.m as usize);
+        if kind == Inside {
+            needles.retain(|needle| (a.min(b)..=a.max(b)).contains(needle));
+        }
         let places = needles
             .iter()
             .map(|needle| (*needle, axis.map(needle, limits)));
@@ -59,9 +86,9 @@ impl Draft {
     }
 }
 
-fn bytes_of(draft: Draft, step: i32, marks: &[(i32, i32)]) -> Vec<u8> {
+fn bytes_of(kind: Kind, draft: Draft, step: i32, marks: &[(i32, i32)]) -> Vec<u8> {
     let Draft { ends, limits, m } = draft;
-    let mut bytes = vec![1];
+    let mut bytes = vec![kind as u8];
     let numbers = ends.iter().chain(&limits);
     numbers.for_each(|n| bytes.extend(n.to_le_bytes()));
     bytes.extend(m.to_le_bytes());
@@ -75,9 +102,9 @@ fn bytes_of(draft: Draft, step: i32, marks: &[(i32, i32)]) -> Vec<u8> {
     bytes
 }
 
-fn check_refused(draft: Draft, refusal: i32, out: &mut [u8]) -> Result<(), String> {
+fn check_refused(kind: Kind, draft: Draft, refusal: i32, out: &mut [u8]) -> Result<(), String> {
     out.fill(77);
-    let told = write(draft.axis(), draft.limit(), draft.m, out);
+    let told = kind.write(draft, out);
     ensure(told.map_err(|why| why as i32) == Err(refusal), || {
         format!("{told:?}, and not refused with {refusal}")
     })?;
@@ -110,16 +137,16 @@ fn check_lookups(ruler: &[u8], marks: &[(i32, i32)]) -> Result<(), String> {
     Ok(())
 }
 
-fn check(draft: Draft, out: &mut [u8]) -> Result<(), String> {
-    let (step, marks) = match draft.plotters() {
-        Err(refusal) => return check_refused(draft, refusal, out),
+fn check(kind: Kind, draft: Draft, out: &mut [u8]) -> Result<(), String> {
+    let (step, marks) = match draft.plotters(kind) {
+        Err(refusal) => return check_refused(kind, draft, refusal, out),
         Ok(told) => told,
     };
-    let wanted = bytes_of(draft, step, &marks);
+    let wanted = bytes_of(kind, draft, step, &marks);
     let size = wanted.len();
-    check_refused(draft, 13, &mut out[..size - 1])?;
+    check_refused(kind, draft, 13, &mut out[..size - 1])?;
     out.fill(77);
-    let told = write(draft.axis(), draft.limit(), draft.m, out);
+    let told = kind.write(draft, out);
     let (bytes, count) = (size, marks.len());
     ensure(
         told == Ok(Written {
@@ -139,6 +166,7 @@ fn check(draft: Draft, out: &mut [u8]) -> Result<(), String> {
         m,
         step,
         marks: count,
+        kind: kind as u32,
     };
     ensure(read(&wanted) == Ok(ruler), || {
         format!("read {:?}", read(&wanted))
@@ -146,10 +174,11 @@ fn check(draft: Draft, out: &mut [u8]) -> Result<(), String> {
     check_lookups(&wanted, &marks)
 }
 
-/// Copies of a ruler with one byte changed, cut, lengthened, two records exchanged, or a label
-/// filled with other bytes.
+/// Copies of a ruler with one byte changed, cut, lengthened, two records exchanged, a label filled
+/// with other bytes, or the kind through all 256 values.
 fn damaged(ruler: &[u8], random: &mut Random) -> Vec<Vec<u8>> {
     let mut copies: Vec<Vec<u8>> = (0..ruler.len()).map(|len| ruler[..len].to_vec()).collect();
+    copies.extend((0..=255).map(|kind| [&[kind], &ruler[1..]].concat()));
     copies.push([ruler, &[0]].concat());
     copies.push([ruler, &ruler[ruler.len() - 20..]].concat());
     for at in 0..ruler.len() {
@@ -175,30 +204,37 @@ fn is_ruler(bytes: &[u8]) -> bool {
     let Some(head) = bytes.get(..25) else {
         return false;
     };
+    let Some(kind) = Kind::of(head[0]) else {
+        return false;
+    };
     let word = |at: usize| i32::from_le_bytes(head[at..at + 4].try_into().unwrap());
     let draft = Draft {
         ends: [word(1), word(5)],
         limits: [word(9), word(13)],
         m: word(17) as u32,
     };
+    // plotters is asked only where there are not many marks more than the bytes have room for
     let right_size = draft
         .rule()
-        .is_ok_and(|rule| bytes.len() == 25 + 20 * rule.count);
+        .is_ok_and(|rule| bytes.len() <= 25 + 20 * rule.count && 20 * rule.count <= bytes.len());
     right_size
         && draft
-            .plotters()
-            .is_ok_and(|(step, marks)| bytes == bytes_of(draft, step, &marks))
+            .plotters(kind)
+            .is_ok_and(|(step, marks)| bytes == bytes_of(kind, draft, step, &marks))
 }
 
-fn compare_damaged() -> bool {
-    let mut tally = Tally::new("damaged rulers");
+fn compare_damaged(kind: Kind) -> bool {
+    let mut tally = Tally::new(match kind {
+        Cut => "damaged rulers of kind 1",
+        Inside => "damaged rulers of kind 3",
+    });
     let mut random = Random::fixed(2);
     for _ in 0..DAMAGED {
         let draft = Draft::random(&mut random);
-        let Ok((step, marks)) = draft.plotters() else {
+        let Ok((step, marks)) = draft.plotters(kind) else {
             continue;
         };
-        for copy in damaged(&bytes_of(draft, step, &marks), &mut random) {
+        for copy in damaged(&bytes_of(kind, draft, step, &marks), &mut random) {
             let found = read(&copy);
             let agrees = match is_ruler(&copy) {
                 true => found.is_ok(),
@@ -211,22 +247,96 @@ fn compare_damaged() -> bool {
     tally.close()
 }
 
-pub fn compare() -> bool {
-    let mut tally = Tally::new("rulers: write, read, label, pair");
+fn compare_drawn(kind: Kind) -> bool {
+    let mut tally = Tally::new(match kind {
+        Cut => "rulers of kind 1: write, read, label, pair",
+        Inside => "rulers of kind 3: write, read, label, pair",
+    });
     let mut random = Random::new();
     let mut out = [0; 400];
     for _ in 0..DRAWN {
         let draft = Draft::random(&mut random);
-        tally.count(draft.size(), draft, check(draft, &mut out));
+        tally.count(draft.size(), draft, check(kind, draft, &mut out));
     }
-    [tally.close(), compare_damaged()]
+    tally.close()
+}
+
+/// Pairs of rulers of either kind, the marks of both looked up.
+fn compare_pairs() -> bool {
+    let mut tally = Tally::new("rulers: pairs of mixed kinds");
+    let mut random = Random::fixed(3);
+    for _ in 0..DAMAGED {
+        let mut side = || {
+            let kind = [Cut, Inside][random.below(2) as usize];
+            let draft = Draft::random(&mut random);
+            let (step, marks) = draft.plotters(kind).ok()?;
+            Some((draft, bytes_of(kind, draft, step, &marks), marks))
+        };
+        let (Some((draft, left, lefts)), Some((_, right, rights))) = (side(), side()) else {
+            continue;
+        };
+        for (needle, _) in lefts.iter().chain(&rights) {
+            let (ruler, marks) = if *needle < 0 { (&left, &lefts) } else { (&right, &rights) };
+            let place = marks.iter().position(|(other, _)| other == needle);
+            let wanted = place.map_or(&[][..], |k| &ruler[25 + 20 * k..][..20]);
+            let found = pair_record(&left, &right, *needle);
+            let what = || format!("record of {needle}: {found:?}");
+            tally.count(draft.size(), draft, ensure(found == wanted, what));
+        }
+    }
+    tally.close()
+}
+
+pub fn compare() -> bool {
+    let drawn = [Cut, Inside].map(compare_drawn);
+    let damaged = [Cut, Inside].map(compare_damaged);
+    [drawn, damaged, [compare_pairs(), true]]
+        .concat()
         .iter()
         .all(|&agrees| agrees)
 }
 
-/// Writes and reads a ruler of a million marks, in bytes a second.
+const MARKS: usize = 1_000_000;
+
+type Writer = unsafe extern "C" fn(
+    i32,
+    i32,
+    i32,
+    i32,
+    u32,
+    *mut u8,
+    usize,
+    *mut usize,
+    *mut usize,
+) -> i32;
+
+fn write_million(writer: Writer, out: &mut [u8]) -> usize {
+    let (a, b, p, q, m) = black_box((-500_000, 499_999, -1_000, 1_000, MARKS as u32));
+    let (code, told) = written(out, |out, (bytes, marks): &mut (usize, usize)| {
+        let (to, len) = (out.as_mut_ptr(), out.len());
+        // SAFETY: `out` is bytes of that length, and the results are one number each.
+        unsafe { writer(a, b, p, q, m, to, len, bytes, marks) }
+    });
+    assert_eq!((code, told.1), (0, MARKS));
+    told.0
+}
+
+fn read_million(out: &mut [u8]) -> usize {
+    let ruler = black_box(&out[..out.len() - 20]);
+    let (from, len) = (ruler.as_ptr(), ruler.len());
+    let ([mut a, mut b, mut p, mut q, mut d], mut m, mut marks) = ([0; 5], 0, 0);
+    // SAFETY: `ruler` is bytes of that length, and the results are locals of their own.
+    let code = unsafe {
+        culv_ruler_read(
+            from, len, &mut a, &mut b, &mut p, &mut q, &mut m, &mut d, &mut marks,
+        )
+    };
+    assert_eq!((code, marks), (0, MARKS));
+    len
+}
+
+/// Writes and reads a ruler of a million marks of each kind, in bytes a second.
 pub fn bench() {
-    const MARKS: usize = 1_000_000;
     let mut out = vec![0; 25 + 20 * (MARKS + 1)];
     let mut rate = |title: &str, call: &mut dyn FnMut(&mut [u8]) -> usize| {
         let best = (0..9).map(|_| {
@@ -235,31 +345,15 @@ pub fn bench() {
         });
         let best = best.fold(0.0, f64::max);
         println!(
-            "{title} a ruler of a million marks: {:.0} million bytes a second",
+            "{title}, a million marks: {:.0} million bytes a second",
             best / 1e6
         );
     };
-    rate("writing", &mut |out| {
-        let (a, b, p, q, m) = black_box((-500_000, 499_999, -1_000, 1_000, MARKS as u32));
-        let (code, told) = written(out, |out, (bytes, marks): &mut (usize, usize)| {
-            let (to, len) = (out.as_mut_ptr(), out.len());
-            // SAFETY: `out` is bytes of that length, and the results are one number each.
-            unsafe { culv_ruler_write(a, b, p, q, m, to, len, bytes, marks) }
+    let kinds = [(1, culv_ruler_write as Writer), (3, culv_ruler_write_inside)];
+    for (kind, writer) in kinds {
+        rate(&format!("writing a ruler of kind {kind}"), &mut |out| {
+            write_million(writer, out)
         });
-        assert_eq!((code, told.1), (0, MARKS));
-        told.0
-    });
-    rate("reading", &mut |out| {
-        let ruler = black_box(&out[..out.len() - 20]);
-        let (from, len) = (ruler.as_ptr(), ruler.len());
-        let ([mut a, mut b, mut p, mut q, mut d], mut m, mut marks) = ([0; 5], 0, 0);
-        // SAFETY: `ruler` is bytes of that length, and the results are locals of their own.
-        let code = unsafe {
-            culv_ruler_read(
-                from, len, &mut a, &mut b, &mut p, &mut q, &mut m, &mut d, &mut marks,
-            )
-        };
-        assert_eq!((code, marks), (0, MARKS));
-        len
-    });
+        rate(&format!("reading a ruler of kind {kind}"), &mut read_million);
+    }
 }

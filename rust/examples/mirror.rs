@@ -1,6 +1,6 @@
-//! Writes the ruler of a draft and that of its mirror, and prints beside each other the records
-//! that must match: the mirror's are negated and stand in reverse order. One ruler may have one
-//! mark more, its last.
+//! Writes the ruler of a draft and that of its mirror, of either kind, and prints beside each other
+//! the records that must match: the mirror's are negated and stand in reverse order. Of kind 1 one
+//! ruler may have one mark more, its last; the marks of kind 3 stay on the axis, and always match.
 //!
 //!     mirror [a b p q m]
 
@@ -8,7 +8,7 @@ use std::env;
 use std::fmt;
 use std::process::ExitCode;
 
-use culvraod::ruler::{read, write, Ruler};
+use culvraod::ruler::{read, write, write_inside, Ruler};
 use culvraod::{Limit, RangedCoordi32, Refusal};
 
 const AXIS_BYTES: usize = 25;
@@ -39,12 +39,14 @@ impl Draft {
         }
     }
 
-    /// Its ruler, in the memory that is lent for it.
-    fn ruler(self, out: &mut [u8]) -> Result<&[u8], Refusal> {
+    /// Its ruler of a kind, in the memory that is lent for it.
+    fn ruler(self, kind: u32, out: &mut [u8]) -> Result<&[u8], Refusal> {
+        let write = if kind == 1 { write } else { write_inside };
         let told = write(self.axis, self.limit, self.m, out);
+        print!("kind {kind}, {self}: ");
         match told {
-            Ok(written) => println!("{self}: {} bytes, {} marks", written.bytes, written.marks),
-            Err(refusal) => println!("{self}: refused {}", refusal.number()),
+            Ok(written) => println!("{} bytes, {} marks", written.bytes, written.marks),
+            Err(refusal) => println!("refused {}", refusal.number()),
         }
         told.map(|written| &out[..written.bytes])
     }
@@ -89,12 +91,12 @@ fn marks(ruler: &[u8]) -> Vec<Mark<'_>> {
     records.map(mark).collect()
 }
 
-/// Ends and limits negated, the same m and step.
+/// Ends and limits negated, the same kind, m and step.
 fn axes_match(one: Ruler, other: Ruler) -> bool {
     let (RangedCoordi32(a, b), Limit(p, q)) = (one.axis, one.limit);
     other.axis == RangedCoordi32(-a, -b)
         && other.limit == Limit(-p, -q)
-        && (other.m, other.step) == (one.m, one.step)
+        && (other.kind, other.m, other.step) == (one.kind, one.m, one.step)
 }
 
 fn said(matches: bool) -> &'static str {
@@ -123,11 +125,11 @@ fn print_difference(one: &[u8], other: &[u8]) -> Result<(), Refusal> {
     Ok(())
 }
 
-fn run(draft: Draft) -> Result<(), Refusal> {
+fn run(kind: u32, draft: Draft) -> Result<(), Refusal> {
     let mut out = [[0; 65536]; 2];
     let [one, other] = &mut out;
-    let one = draft.ruler(one)?;
-    let other = draft.mirror().ruler(other)?;
+    let one = draft.ruler(kind, one)?;
+    let other = draft.mirror().ruler(kind, other)?;
     print_difference(one, other)
 }
 
@@ -149,8 +151,9 @@ fn draft_of(words: &[String]) -> Draft {
 
 fn main() -> ExitCode {
     let words: Vec<String> = env::args().skip(1).collect();
-    match run(draft_of(&words)) {
-        Ok(()) => ExitCode::SUCCESS,
-        Err(_) => ExitCode::FAILURE,
+    let draft = draft_of(&words);
+    match [1, 3].map(|kind| run(kind, draft)) {
+        [Ok(()), Ok(())] => ExitCode::SUCCESS,
+        _ => ExitCode::FAILURE,
     }
 }

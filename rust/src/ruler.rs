@@ -18,7 +18,20 @@ extern "C" {
         marks: *mut usize,
     ) -> i32;
 
-    /// The C function behind [`read`].
+    /// The C function behind [`write_inside`].
+    pub fn culv_ruler_write_inside(
+        a: i32,
+        b: i32,
+        p: i32,
+        q: i32,
+        m: u32,
+        out: *mut u8,
+        len: usize,
+        bytes: *mut usize,
+        marks: *mut usize,
+    ) -> i32;
+
+    /// What [`read`] tells, without kind and twist.
     pub fn culv_ruler_read(
         bytes: *const u8,
         len: usize,
@@ -29,6 +42,21 @@ extern "C" {
         m: *mut u32,
         step: *mut i32,
         marks: *mut usize,
+    ) -> i32;
+
+    /// The C function behind [`read`].
+    pub fn culv_ruler_read_kind(
+        bytes: *const u8,
+        len: usize,
+        a: *mut i32,
+        b: *mut i32,
+        p: *mut i32,
+        q: *mut i32,
+        m: *mut u32,
+        step: *mut i32,
+        marks: *mut usize,
+        kind: *mut u32,
+        twist: *mut u32,
     ) -> i32;
 
     /// The C function behind [`label_of`].
@@ -75,13 +103,26 @@ pub struct Ruler {
     pub step: i32,
     /// The number of marks.
     pub marks: usize,
+    /// 1 for the marks that plotters gives, 3 for those that stay on the axis.
+    pub kind: u32,
 }
 
-/// Writes the ruler of the axis, its limits on the film and the mark limit to `out`.
-///
-/// Refused as [`Refusal::WholeNotAdmitted`], [`Refusal::LimitNotAdmitted`],
-/// [`Refusal::NoStep`] or [`Refusal::OutTooShort`].
-pub fn write(
+/// A C function that writes a ruler.
+type Writer = unsafe extern "C" fn(
+    i32,
+    i32,
+    i32,
+    i32,
+    u32,
+    *mut u8,
+    usize,
+    *mut usize,
+    *mut usize,
+) -> i32;
+
+fn written_by(
+    name: &'static str,
+    writer: Writer,
     axis: RangedCoordi32,
     limit: Limit,
     m: u32,
@@ -90,7 +131,7 @@ pub fn write(
     let mut told = Written::default();
     // SAFETY: `out` is bytes of that length, and the two results are locals of their own.
     let code = unsafe {
-        culv_ruler_write(
+        writer(
             axis.0,
             axis.1,
             limit.0,
@@ -102,16 +143,42 @@ pub fn write(
             &mut told.marks,
         )
     };
-    answered("culv_ruler_write", code, told)
+    answered(name, code, told)
 }
 
-/// Reads a ruler, or refuses bytes that are none as [`Refusal::NotARuler`].
+/// Writes the ruler of the axis, its limits on the film and the mark limit to `out`: of kind 1,
+/// with the marks that plotters gives, of which the last may lie past a larger end below zero.
+///
+/// Refused as [`Refusal::WholeNotAdmitted`], [`Refusal::LimitNotAdmitted`],
+/// [`Refusal::NoStep`] or [`Refusal::OutTooShort`].
+pub fn write(
+    axis: RangedCoordi32,
+    limit: Limit,
+    m: u32,
+    out: &mut [u8],
+) -> Result<Written, Refusal> {
+    written_by("culv_ruler_write", culv_ruler_write, axis, limit, m, out)
+}
+
+/// The same of kind 3, whose marks stay on the axis: the multiples of the step from the smaller end
+/// to the larger one.
+pub fn write_inside(
+    axis: RangedCoordi32,
+    limit: Limit,
+    m: u32,
+    out: &mut [u8],
+) -> Result<Written, Refusal> {
+    let (name, writer) = ("culv_ruler_write_inside", culv_ruler_write_inside);
+    written_by(name, writer, axis, limit, m, out)
+}
+
+/// Reads a ruler of any kind, or refuses bytes that are none as [`Refusal::NotARuler`].
 pub fn read(bytes: &[u8]) -> Result<Ruler, Refusal> {
     let (mut axis, mut limit) = (RangedCoordi32(0, 0), Limit(0, 0));
-    let (mut m, mut step, mut marks) = (0, 0, 0);
+    let (mut m, mut step, mut marks, mut kind, mut twist) = (0, 0, 0, 0, 0);
     // SAFETY: `bytes` has that length, and the results are locals of their own.
     let code = unsafe {
-        culv_ruler_read(
+        culv_ruler_read_kind(
             bytes.as_ptr(),
             bytes.len(),
             &mut axis.0,
@@ -121,6 +188,8 @@ pub fn read(bytes: &[u8]) -> Result<Ruler, Refusal> {
             &mut m,
             &mut step,
             &mut marks,
+            &mut kind,
+            &mut twist,
         )
     };
     let ruler = Ruler {
@@ -129,8 +198,9 @@ pub fn read(bytes: &[u8]) -> Result<Ruler, Refusal> {
         m,
         step,
         marks,
+        kind,
     };
-    answered("culv_ruler_read", code, ruler)
+    answered("culv_ruler_read_kind", code, ruler)
 }
 
 /// The label of a mark, without its blanks: a part of the ruler, or empty.
@@ -144,7 +214,7 @@ pub fn label_of(bytes: &[u8], value: i32) -> &[u8] {
 }
 
 /// The record of a mark in the left ruler if it is below zero, otherwise in the right one: a part
-/// of that ruler, or empty.
+/// of that ruler, or empty. The two may be of different kinds.
 pub fn pair_record<'a>(left: &'a [u8], right: &'a [u8], value: i32) -> &'a [u8] {
     let (mut which, mut start, mut len) = (0, 0, 0);
     // SAFETY: both rulers have those lengths, and the three results are locals of their own.
@@ -184,6 +254,7 @@ mod tests {
             m: 4,
             step,
             marks,
+            kind: 1,
         };
         assert_eq!(read(ruler), Ok(whole));
         assert_eq!(label_of(ruler, -10), b"-10");
@@ -191,6 +262,22 @@ mod tests {
         assert_eq!(pair_record(ruler, &[], -10), &ruler[45..65]);
         assert_eq!(pair_record(&[], ruler, 0), &ruler[85..105]);
         assert_eq!(pair_record(&[], ruler, -10), b"");
+    }
+
+    #[test]
+    fn marks_stay_on_the_axis() {
+        let mut out = [77; 110];
+        let told = write_inside(RangedCoordi32(-15, -3), Limit(0, 120), 4, &mut out);
+        let (bytes, marks) = (85, 3);
+        assert_eq!(told, Ok(Written { bytes, marks }));
+        let ruler = &out[..85];
+        assert_eq!(read(ruler).map(|ruler| ruler.kind), Ok(3));
+        assert_eq!(label_of(ruler, -5), b"-5");
+        assert_eq!(label_of(ruler, 0), b"");
+        let mut other = [0; 105];
+        write(RangedCoordi32(3, 15), Limit(0, -120), 4, &mut other).unwrap();
+        assert_eq!(pair_record(ruler, &other[..85], 10), &other[45..65]);
+        assert_eq!(pair_record(ruler, &other[..85], -10), &ruler[45..65]);
     }
 
     #[test]

@@ -22,6 +22,6 @@ lowest-first = record {
   stepped = steps-rise;
   segmented = segments-rise;
   ruler-plan = λ a b limit m. tt;
-  ruler-write = λ a b limit m old. tt;
+  ruler-write = λ c a b limit m old. tt;
   print = λ n h e old. tt;
 }

@@ -19,7 +19,8 @@ use Rattle.linspace.specs.Calls as steps
 use Rattle.segmented.specs.Values.{Segment}
 use Rattle.segmented.specs.Segments.{Axis, Finder}
 use Rattle.segmented.specs.Segments as segments
-use Rattle.ruler.specs.Rule.{noRuler, writeReasons}
+use Rattle.numeric.specs.declared.Choice.{Choice}
+use Rattle.ruler.specs.Rule.{noRuler, writeReasonsBy}
 use Rattle.float.specs.Calls.{printReasons}
 
 abbrev pub Rising : List Reason → Type 0
@@ -54,5 +55,5 @@ pub record LowestFirst : Type 1 where
   pub stepped : {A : Type 0} (kind : Kind A) (a b d : A) → StepsRise kind a b d
   pub segmented : {A : Type 0} (axis : Axis A) → SegmentsRise axis
   pub ruler-plan : (a b : ℤ) (limit : Limit) (m : ℕ) → Rising (noRuler a b limit m)
-  pub ruler-write : (a b : ℤ) (limit : Limit) (m : ℕ) (old : List ℕ) → Rising (writeReasons a b limit m old)
+  pub ruler-write : (c : Choice) (a b : ℤ) (limit : Limit) (m : ℕ) (old : List ℕ) → Rising (writeReasonsBy c a b limit m old)
   pub print : (n : Float) (h e : ℕ) (old : List ℕ) → Rising (printReasons n h e old)

@@ -16,8 +16,8 @@ ghost use Rattle.culvraod.specs.Steps.{listC};
 ghost use Rattle.float.specs.Calls.{tellLabel, labelPrint};
 ghost use Rattle.search.specs.Lists.{wholeSearch, realSearch};
 ghost use Rattle.culvraod.specs.Search.{methodOf, byMethod};
-ghost use Rattle.ruler.specs.Rule.{rulerWrite, rulerOf, rulerRead, recordIn, labelIn, sideOf};
-ghost use Rattle.culvraod.specs.Ruler.{readC, partC, pairC};
+ghost use Rattle.ruler.specs.Rule.{tellWrote, rulerWrite, rulerWriteInside, rulerOf, rulerRead, recordIn, labelIn, sideOf};
+ghost use Rattle.culvraod.specs.Ruler.{readC, readKindC, partC, pairC};
 ghost use Rattle.culvraod.specs.Boundary.{single};
 ghost use Rattle.culvraod.specs.Numeric.{marksC, keyPointsC};
 use discrete::Index;
@@ -173,6 +173,19 @@ fn give_marks(x: Marks, step: &mut i32, count: &mut usize) -> i32
     }
 }
 
+fn give_wrote(x: Wrote, bytes: &mut usize, marks: &mut usize) -> i32
+    ensures { λ r. ⌜ (r, now (bytes .exit), now (marks .exit)) ≡ marksC (tellWrote x) (now (bytes .entry)) (now (marks .entry)) ⌝ }
+{
+    match x {
+        Wrote::Bytes(n, k) => {
+            *bytes = n;
+            *marks = k;
+            0
+        }
+        Wrote::Refused(r) => refused(r),
+    }
+}
+
 #[no_mangle]
 pub extern "C" fn culv_whole_key_points(
     a: i32,
@@ -270,18 +283,28 @@ pub extern "C" fn culv_ruler_write(
 ) -> i32
     ensures { λ r. ⌜ (r, now (out .exit), now (bytes .exit), now (marks .exit)) ≡ keyPointsC (rulerWrite a b (limitOf p q) m (now (out .entry))) (now (bytes .entry)) (now (marks .entry)) ⌝ }
 {
-    match ruler::write(a, b, Limit(p, q), m, out) {
-        Wrote::Bytes(n, k) => {
-            *bytes = n;
-            *marks = k;
-            0
-        }
-        Wrote::Refused(r) => refused(r),
-    }
+    give_wrote(ruler::write(a, b, Limit(p, q), m, out), bytes, marks)
 }
 
 #[no_mangle]
-pub extern "C" fn culv_ruler_read(
+pub extern "C" fn culv_ruler_write_inside(
+    a: i32,
+    b: i32,
+    p: i32,
+    q: i32,
+    m: u32,
+    out: &mut [u8],
+    bytes: &mut usize,
+    marks: &mut usize,
+) -> i32
+    ensures { λ r. ⌜ (r, now (out .exit), now (bytes .exit), now (marks .exit)) ≡ keyPointsC (rulerWriteInside a b (limitOf p q) m (now (out .entry))) (now (bytes .entry)) (now (marks .entry)) ⌝ }
+{
+    give_wrote(ruler::write_inside(a, b, Limit(p, q), m, out), bytes, marks)
+}
+
+// The numbers of the ruler in the bytes, its kind, and its twist, which kinds 1 and 3 do not have: 0.
+#[no_mangle]
+pub extern "C" fn culv_ruler_read_kind(
     bytes: &[u8],
     a: &mut i32,
     b: &mut i32,
@@ -290,8 +313,10 @@ pub extern "C" fn culv_ruler_read(
     m: &mut u32,
     step: &mut i32,
     marks: &mut usize,
+    kind: &mut u32,
+    twist: &mut u32,
 ) -> i32
-    ensures { λ r. ⌜ (r, now (a .exit), now (b .exit), now (p .exit), now (q .exit), now (m .exit), now (step .exit), now (marks .exit)) ≡ readC (rulerRead (now (bytes .entry))) (rulerOf (now (a .entry)) (now (b .entry)) (limitOf (now (p .entry)) (now (q .entry))) (now (m .entry)) (now (step .entry)) (now (marks .entry))) ⌝ }
+    ensures { λ r. ⌜ (r, now (a .exit), now (b .exit), now (p .exit), now (q .exit), now (m .exit), now (step .exit), now (marks .exit), now (kind .exit), now (twist .exit)) ≡ readKindC (rulerRead (now (bytes .entry))) (rulerOf (now (a .entry)) (now (b .entry)) (limitOf (now (p .entry)) (now (q .entry))) (now (m .entry)) (now (step .entry)) (now (marks .entry))) (now (kind .entry)) (now (twist .entry)) ⌝ }
 {
     match ruler::read(bytes) {
         Reading::Ruler(r) => {
@@ -307,10 +332,31 @@ pub extern "C" fn culv_ruler_read(
             *m = r.m;
             *step = s;
             *marks = r.marks;
+            *kind = r.kind;
+            *twist = 0;
             0
         }
         Reading::Refused(why) => refused(why),
     }
+}
+
+// The same without kind and twist.
+#[no_mangle]
+pub extern "C" fn culv_ruler_read(
+    bytes: &[u8],
+    a: &mut i32,
+    b: &mut i32,
+    p: &mut i32,
+    q: &mut i32,
+    m: &mut u32,
+    step: &mut i32,
+    marks: &mut usize,
+) -> i32
+    ensures { λ r. ⌜ (r, now (a .exit), now (b .exit), now (p .exit), now (q .exit), now (m .exit), now (step .exit), now (marks .exit)) ≡ readC (rulerRead (now (bytes .entry))) (rulerOf (now (a .entry)) (now (b .entry)) (limitOf (now (p .entry)) (now (q .entry))) (now (m .entry)) (now (step .entry)) (now (marks .entry))) ⌝ }
+{
+    let mut kind: u32 = 0;
+    let mut twist: u32 = 0;
+    culv_ruler_read_kind(bytes, a, b, p, q, m, step, marks, &mut kind, &mut twist)
 }
 
 #[no_mangle]

@@ -11,7 +11,8 @@ use Rattle.ranged1d.specs.Admitted.{endsAdmitted}
 use Rattle.ranged1d.specs.declared.Limit.{Limit}
 use Rattle.real.specs.Mirror as film
 use Rattle.real.proofs.Mirror as places
-use Rattle.numeric.specs.Marks.{noStep, stepOf, marks}
+use Rattle.numeric.specs.declared.Choice.{Choice}
+use Rattle.numeric.specs.Marks.{noStep, stepOf, marks, marksBy}
 use Rattle.numeric.specs.Calls.{planReasons, keyPointsReasons, wholeKeyPoints}
 use Rattle.numeric.specs.Mirror.{stepOnly}
 use Rattle.numeric.proofs.Mirror as marks-mirror
@@ -26,44 +27,44 @@ use Rattle.segmented.specs.Segments.{segmentKeyPointsReasons, segmentKeyPoints}
 use Rattle.segmented.specs.Axes.{steppedAxis}
 use Rattle.segmented.specs.Mirror as segment
 use Rattle.segmented.proofs.Mirror as segments
-use Rattle.ruler.specs.Rule.{noRuler, rulerBytes, writeReasons, rulerWrite, hasRuler}
+use Rattle.ruler.specs.Rule.{noRuler, bytesBy, writeReasonsBy, writeBy, hasRuler}
 use Rattle.ruler.specs.Mirror.{accepted, verdict}
 use Rattle.ruler.proofs.Mirror as rulers-mirror
 use Rattle.mirror.specs.Mirror.{wrote, ruling, rulingBack, Rulers, marking, markingBack, Marks, Lists, StepMarks, SegmentMarks, Stepped, DemandThree}
 use Rattle.mirror.proofs.Written.{accepted-is, accepted-tests, wrote-is, turned-wrote}
 
 -- ---- rulers
-module _ (a b : ℤ) (limit : Limit) (m : ℕ) where
+module _ (c : Choice) (a b : ℤ) (limit : Limit) (m : ℕ) where
   abbrev numbers : ℕ × ℕ
-  numbers = (length (rulerBytes a b limit m), length (marks a b m))
+  numbers = (length (bytesBy c a b limit m), length (marksBy c a b m))
 
   -- an accepted writer has a ruler, and has written its bytes
-  ruled : (old : List ℕ) → verdict (rulerWrite a b limit m old .0) ≡ accepted → hasRuler a b limit m ≡ true
-  unfolding rulerWrite hasRuler
+  ruled : (old : List ℕ) → verdict (writeBy c a b limit m old .0) ≡ accepted → hasRuler a b limit m ≡ true
+  unfolding writeBy hasRuler
   ruled old e =
-      let tests = accepted-tests numbers (writeReasons a b limit m old) e in
+      let tests = accepted-tests numbers (writeReasonsBy c a b limit m old) e in
       rw (tests .0, tests .1 .0, tests .1 .1 .0)
 
-  bytes-written : (old : List ℕ) → verdict (rulerWrite a b limit m old .0) ≡ accepted → wrote (λ x. x .0) (rulerWrite a b limit m old) ≡ rulerBytes a b limit m
-  unfolding rulerWrite
+  bytes-written : (old : List ℕ) → verdict (writeBy c a b limit m old .0) ≡ accepted → wrote (λ x. x .0) (writeBy c a b limit m old) ≡ bytesBy c a b limit m
+  unfolding writeBy
   bytes-written old e =
-      wrote-is {A = ℕ × ℕ} (λ x. x .0) (lowest (writeReasons a b limit m old) (given numbers)) numbers (rulerBytes a b limit m) old refl (accepted-is numbers (writeReasons a b limit m old) e)
+      wrote-is {A = ℕ × ℕ} (λ x. x .0) (lowest (writeReasonsBy c a b limit m old) (given numbers)) numbers (bytesBy c a b limit m) old refl (accepted-is numbers (writeReasonsBy c a b limit m old) e)
 
-module _ (a b : ℤ) (limit : Limit) (m : ℕ) (old old' : List ℕ) (alike : BothLong (noRuler a b limit m) (length (rulerBytes a b limit m)) old (length (rulerBytes (negℤ a) (negℤ b) (film.mirrored limit) m)) old') where
-  verdicts : verdict (rulingBack a b limit m old old' .0) ≡ verdict (ruling a b limit m old old' .0)
-  verdicts = rulers-mirror.mirror a b limit m .same-verdict old old' alike
+module _ (c : Choice) (a b : ℤ) (limit : Limit) (m : ℕ) (old old' : List ℕ) (alike : BothLong (noRuler a b limit m) (length (bytesBy c a b limit m)) old (length (bytesBy c (negℤ a) (negℤ b) (film.mirrored limit) m)) old') where
+  verdicts : verdict (rulingBack c a b limit m old old' .0) ≡ verdict (ruling c a b limit m old old' .0)
+  verdicts = rulers-mirror.mirror c a b limit m .same-verdict old old' alike
 
-  back-written : verdict (ruling a b limit m old old' .0) ≡ accepted → wrote (λ x. x .0) (rulingBack a b limit m old old') ≡ rulerBytes (negℤ a) (negℤ b) (film.mirrored limit) m
-  back-written e = bytes-written (negℤ a) (negℤ b) (film.mirrored limit) m old' (verdicts ∙ e)
+  back-written : verdict (ruling c a b limit m old old' .0) ≡ accepted → wrote (λ x. x .0) (rulingBack c a b limit m old old') ≡ bytesBy c (negℤ a) (negℤ b) (film.mirrored limit) m
+  back-written e = bytes-written c (negℤ a) (negℤ b) (film.mirrored limit) m old' (verdicts ∙ e)
 
-  rulers : Rulers a b limit m old old'
+  rulers : Rulers c a b limit m old old'
   rulers =
       record {
         verdicts = verdicts;
-        match-exactly = λ e. rw (back-written e, bytes-written a b limit m old e) (rulers-mirror.mirror a b limit m .match-exactly (ruled a b limit m old e));
-        one-half = rulers-mirror.mirror a b limit m .one-half;
-        one-more-below = λ e f l. rw (back-written e, bytes-written a b limit m old e) (rulers-mirror.mirror a b limit m .one-more-below (ruled a b limit m old e) f l);
-        one-more-above = λ e f l. rw (back-written e, bytes-written a b limit m old e) (rulers-mirror.mirror a b limit m .one-more-above (ruled a b limit m old e) f l);
+        match-exactly = λ e. rw (back-written e, bytes-written c a b limit m old e) (rulers-mirror.mirror c a b limit m .match-exactly (ruled c a b limit m old e));
+        one-half = rulers-mirror.mirror c a b limit m .one-half;
+        one-more-below = λ e f l. rw (back-written e, bytes-written c a b limit m old e) (rulers-mirror.mirror c a b limit m .one-more-below (ruled c a b limit m old e) f l);
+        one-more-above = λ e f l. rw (back-written e, bytes-written c a b limit m old e) (rulers-mirror.mirror c a b limit m .one-more-above (ruled c a b limit m old e) f l);
       }
 
 -- ---- marks

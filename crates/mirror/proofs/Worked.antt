@@ -18,9 +18,11 @@ use Rattle.rounding.specs.Within.{wholeOf, within}
 use Rattle.real.specs.Place.{rising, falling, along, spot, wholePlace}
 use Rattle.real.specs.Mirror as film
 use Rattle.decimal.specs.Print.{digits}
-use Rattle.numeric.specs.Marks.{high, stepAt, firstOf, chosen, noStepFor, stepFor, marksFor, stepOf, marks}
+use Rattle.numeric.specs.declared.Choice.{Choice}
+use Rattle.numeric.specs.declared.Choice.the-variants.{Cut, Inside}
+use Rattle.numeric.specs.Marks.{high, stepAt, firstOf, chosen, noStepFor, stepFor, marksFor, insideFor, stepOf}
 use Rattle.numeric.specs.Calls.{wholeKeyPoints}
-use Rattle.numeric.specs.Mirror.{mirrored, OneMore, stepOnly}
+use Rattle.numeric.specs.Mirror.{nearestZero, Divides, OneMore, stepOnly}
 use Rattle.numeric.proofs.Mirror.{cut-next}
 use Rattle.search.specs.Lists.{searchable, wholeSearch}
 use Rattle.search.specs.declared.RoundingMethod.{RoundingMethod}
@@ -29,8 +31,9 @@ use Rattle.linspace.specs.List.{whole, real, entries, stepped, against}
 use Rattle.linspace.specs.Calls.{stepValues}
 use Rattle.ruler.specs.Place.{placeOf}
 use Rattle.ruler.specs.Bytes.{axisBody, markBody, laid}
-use Rattle.ruler.specs.Rule.{noRuler, recordsOf, rulerBytes, rulerWrite}
+use Rattle.ruler.specs.Rule.{recordsBy, bytesBy, writeBy}
 use Rattle.ruler.specs.Mirror as ruler
+use Rattle.ruler.proofs.Mirror.{one-record-longer}
 use Rattle.ruler.specs.Mirror.{accepted, verdict}
 use Rattle.mirror.specs.Mirror.{wrote, ruling, rulingBack, marking, markingBack, Rulers, Marks}
 use Rattle.mirror.specs.Worked.{zeros, draftLimit, DraftMore, Worked}
@@ -38,25 +41,30 @@ use Rattle.mirror.proofs.Mirror.{demand-three}
 
 -- ---- 01's draft
 draft : DraftMore
-unfolding rulerWrite rulerBytes laid axisBody markBody digits stepAt firstOf chosen noStepFor stepFor marksFor placeOf wholePlace spot along rising falling within wholeOf eq sub div mul add ofInt ofBits
+unfolding writeBy bytesBy laid axisBody markBody digits stepAt firstOf chosen noStepFor stepFor marksFor placeOf wholePlace spot along rising falling within wholeOf eq sub div mul add ofInt ofBits
 draft = record {
   extra = pos 0;
   is-next = cut-next 5 (omega arith) 2 (λ e. let n : ⊥ = omega (arith, e) in n);
   place = pos 150;
   placed = refl;
-  others = recordsOf (pos 15) (pos 3) (film.mirrored draftLimit) 4;
+  others = recordsBy Cut (pos 15) (pos 3) (film.mirrored draftLimit) 4;
   fewer-are = refl;
   others-match = refl;
 }
 
+-- of kind 3
+draft-inside : ruler.MirrorOf (wrote (λ x. x .0) (rulingBack Inside (negsuc 14) (negsuc 2) draftLimit 4 (zeros 85) (zeros 85))) (wrote (λ x. x .0) (ruling Inside (negsuc 14) (negsuc 2) draftLimit 4 (zeros 85) (zeros 85)))
+unfolding writeBy bytesBy laid axisBody markBody digits stepAt firstOf chosen noStepFor stepFor marksFor insideFor placeOf wholePlace spot along rising falling within wholeOf eq sub div mul add ofInt ofBits
+draft-inside = (recordsBy Inside (negsuc 14) (negsuc 2) draftLimit 4, refl, refl)
+
 pub worked : Worked
-unfolding draft rulerWrite rulerBytes wholeKeyPoints stepAt firstOf chosen noStepFor stepFor marksFor
-worked = record { draft-more = draft; draft-extra = refl; draft-place = refl; no-ruler = (refl, refl); no-marks = (refl, refl) }
+unfolding draft draft-inside writeBy bytesBy wholeKeyPoints stepAt firstOf chosen noStepFor stepFor marksFor
+worked = record { draft-more = draft; draft-extra = refl; draft-place = refl; draft-inside = draft-inside; no-ruler = (refl, refl); no-marks = (refl, refl) }
 
 -- ---- nothing to write: the theorem asks nothing of what is lent
-pub no-ruler-lent : (old old' : List ℕ) → Rulers (negsuc 4) (negsuc 2) draftLimit 0 old old'
+pub no-ruler-lent : (c : Choice) (old old' : List ℕ) → Rulers c (negsuc 4) (negsuc 2) draftLimit 0 old old'
 unfolding stepAt firstOf chosen noStepFor
-no-ruler-lent old old' = demand-three .rulers (negsuc 4) (negsuc 2) draftLimit 0 old old' (λ e. absurd (true≢false (sym e)))
+no-ruler-lent c old old' = demand-three .rulers c (negsuc 4) (negsuc 2) draftLimit 0 old old' (λ e. absurd (true≢false (sym e)))
 
 pub no-marks-lent : (old old' : List ℤ) → Marks (negsuc 4) (negsuc 2) 0 old old'
 unfolding stepAt firstOf chosen noStepFor
@@ -73,15 +81,28 @@ searches-not-kept h = not-none (sym (h (pos 0 ∷ []) (pos 1) Ceil))
 -- ---- wrong: no mark more. −3..−1 with m 1 has the step 10 and the mark 0, and 1..3 has none.
 abbrev AlwaysMirrored : Type 0
 AlwaysMirrored =
-    (a b : ℤ) (limit : Limit) (m : ℕ) (old old' : List ℕ) → verdict (ruling a b limit m old old' .0) ≡ accepted → verdict (rulingBack a b limit m old old' .0) ≡ accepted
-    → ruler.MirrorOf (wrote (λ x. x .0) (rulingBack a b limit m old old')) (wrote (λ x. x .0) (ruling a b limit m old old'))
+    (a b : ℤ) (limit : Limit) (m : ℕ) (old old' : List ℕ) → verdict (ruling Cut a b limit m old old' .0) ≡ accepted → verdict (rulingBack Cut a b limit m old old' .0) ≡ accepted
+    → ruler.MirrorOf (wrote (λ x. x .0) (rulingBack Cut a b limit m old old')) (wrote (λ x. x .0) (ruling Cut a b limit m old old'))
 
 pub not-always-mirrored : AlwaysMirrored → ⊥
-unfolding rulerWrite rulerBytes laid axisBody markBody digits stepAt firstOf chosen noStepFor stepFor marksFor placeOf wholePlace spot eq ofInt
+unfolding writeBy bytesBy laid axisBody markBody digits stepAt firstOf chosen noStepFor stepFor marksFor placeOf wholePlace spot eq ofInt
 not-always-mirrored h =
     let film = limitOf (pos 0) (pos 0) in
     let back = h (negsuc 2) (negsuc 0) film 1 (zeros 45) (zeros 25) refl refl in
-    let n : _≡_ {A = ℕ} 1 0 = demand-three .rulers (negsuc 2) (negsuc 0) film 1 (zeros 45) (zeros 25) (λ e. refl) .match-exactly refl .0 back in
+    let n : _≡_ {A = ℕ} 1 0 = demand-three .rulers Cut (negsuc 2) (negsuc 0) film 1 (zeros 45) (zeros 25) (λ e. refl) .match-exactly refl .0 back in
+    let z : ⊥ = omega (arith, n) in z
+
+-- ---- wrong, 02 (a): one mark more of kind 3, where the step does not divide the needle nearest zero. −3..−1 with m 1 has no mark, and 1..3 has none.
+abbrev InsideMore : Type 0
+InsideMore =
+    (a b : ℤ) (limit : Limit) (m : ℕ) (old old' : List ℕ) → verdict (ruling Inside a b limit m old old' .0) ≡ accepted → (Divides (stepOf a b m) (nearestZero a b) → ⊥) → high a b <ℤ pos 0
+    → ruler.OneMore a b limit m (high a b) (wrote (λ x. x .0) (ruling Inside a b limit m old old')) (wrote (λ x. x .0) (rulingBack Inside a b limit m old old'))
+
+pub not-inside-more : InsideMore → ⊥
+unfolding writeBy bytesBy laid axisBody stepAt firstOf chosen noStepFor stepFor insideFor
+not-inside-more h =
+    let o = h (negsuc 2) (negsuc 0) (limitOf (pos 0) (pos 0)) 1 (zeros 25) (zeros 25) refl (λ e. let z : ⊥ = omega (arith, e) in z) (yes-lt refl) in
+    let n : _≡_ {A = ℕ} 25 45 = one-record-longer o in
     let z : ⊥ = omega (arith, n) in z
 
 -- ---- wrong: one mark more on every axis below zero, also where the step divides its needle nearest zero. −1..−1 with m 0 has the mark −1, and 1..1 has 1.

@@ -16,6 +16,7 @@ use Rattle.real.specs.Place.{wholePlace, realPlace}
 use Rattle.real.specs.Reading.{realReading}
 use Rattle.real.specs.Mirror as film
 use Rattle.real.specs.Mirror.{negated, Opposite}
+use Rattle.numeric.specs.declared.Choice.{Choice}
 use Rattle.numeric.specs.Marks.{low, high, stepOf, marks}
 use Rattle.numeric.specs.Calls.{planReasons, wholeKeyPoints}
 use Rattle.numeric.specs.Mirror.{mirrored, nearestZero, Divides, OneMore, stepOnly}
@@ -30,7 +31,7 @@ use Rattle.segmented.specs.Segments as segments
 use Rattle.segmented.specs.Segments.{segmentIndexOf, segmentPlace, segmentKeyPoints}
 use Rattle.segmented.specs.Axes.{steppedAxis, steppedFinder}
 use Rattle.segmented.specs.Mirror.{across}
-use Rattle.ruler.specs.Rule.{noRuler, rulerBytes, rulerWrite}
+use Rattle.ruler.specs.Rule.{noRuler, bytesBy, writeBy}
 use Rattle.ruler.specs.Mirror as ruler
 use Rattle.ruler.specs.Mirror.{accepted, verdict}
 
@@ -50,26 +51,28 @@ wrote many done = firstOf many (done .0) (done .1)
 
 -- What two calls wrote is a ruler and its mirror: `ruler.MirrorOf`. The half below zero is the axis (a, b), and z its needle nearest zero: what was
 -- written for it has exactly one mark more than what was written for the other half. It is the last, the next multiple of the step past z, toward zero,
--- and stands where this axis's own rule places it; all others match: `ruler.OneMore`. Both are of ruler/specs/Mirror.
-module _ (a b : ℤ) (limit : Limit) (m : ℕ) (old old' : List ℕ) where
+-- and stands where this axis's own rule places it; all others match: `ruler.OneMore`. Both are of ruler/specs/Mirror. 02 (a): the statement is one over
+-- the kinds, 1 with its marks cut at the larger end and 3 with those on the axis.
+module _ (c : Choice) (a b : ℤ) (limit : Limit) (m : ℕ) (old old' : List ℕ) where
   -- what writing the ruler of the draft does, and that of its mirror
   abbrev pub ruling : Answer (ℕ × ℕ) × List ℕ
-  ruling = rulerWrite a b limit m old
+  ruling = writeBy c a b limit m old
 
   abbrev pub rulingBack : Answer (ℕ × ℕ) × List ℕ
-  rulingBack = rulerWrite (negℤ a) (negℤ b) (film.mirrored limit) m old'
+  rulingBack = writeBy c (negℤ a) (negℤ b) (film.mirrored limit) m old'
 
   pub record Rulers : Type 0 where
     -- Both are refused with the same number, or both are accepted.
     pub verdicts : verdict (rulingBack .0) ≡ verdict (ruling .0)
-    -- Accepted, the mirrored axis has the mirrored ruler exactly when the step divides the needle nearest zero.
+    -- Accepted, the mirrored axis has the mirrored ruler exactly where the marks match: of kind 1 when the step divides the needle nearest zero, of
+    -- kind 3 on every axis (`Matches` of ruler/specs/Mirror).
     pub match-exactly : verdict (ruling .0) ≡ accepted
-        → ruler.MirrorOf (wrote (λ x. x .0) rulingBack) (wrote (λ x. x .0) ruling) ↔ Divides (stepOf a b m) (nearestZero a b)
+        → ruler.MirrorOf (wrote (λ x. x .0) rulingBack) (wrote (λ x. x .0) ruling) ↔ ruler.Matches c a b m
     -- Otherwise the axis lies below zero or above it, and the half below zero, which is this axis or its mirror, has exactly one mark more.
-    pub one-half : (Divides (stepOf a b m) (nearestZero a b) → ⊥) → (high a b <ℤ pos 0) ⊎ (pos 0 <ℤ low a b)
-    pub one-more-below : verdict (ruling .0) ≡ accepted → (Divides (stepOf a b m) (nearestZero a b) → ⊥) → high a b <ℤ pos 0
+    pub one-half : (ruler.Matches c a b m → ⊥) → (high a b <ℤ pos 0) ⊎ (pos 0 <ℤ low a b)
+    pub one-more-below : verdict (ruling .0) ≡ accepted → (ruler.Matches c a b m → ⊥) → high a b <ℤ pos 0
         → ruler.OneMore a b limit m (high a b) (wrote (λ x. x .0) ruling) (wrote (λ x. x .0) rulingBack)
-    pub one-more-above : verdict (ruling .0) ≡ accepted → (Divides (stepOf a b m) (nearestZero a b) → ⊥) → pos 0 <ℤ low a b
+    pub one-more-above : verdict (ruling .0) ≡ accepted → (ruler.Matches c a b m → ⊥) → pos 0 <ℤ low a b
         → ruler.OneMore (negℤ a) (negℤ b) (film.mirrored limit) m (negℤ (low a b)) (wrote (λ x. x .0) rulingBack) (wrote (λ x. x .0) ruling)
 
 -- ---- 01: marks of whole axes match when negated and in reverse order (`mirrored` of numeric/specs/Mirror); the same theorem for the call that writes
@@ -136,9 +139,10 @@ module _ {A : Type 0} (kind : Kind A) (opposite : A → A) (Turned : List A → 
 
 -- ---- the theorem
 pub record DemandThree : Type 0 where
-  -- Rulers, of any whole axis, limits and mark limit, with bytes lent that are enough on both sides or on neither, where there is a ruler to write.
-  pub rulers : (a b : ℤ) (limit : Limit) (m : ℕ) (old old' : List ℕ)
-      → BothLong (noRuler a b limit m) (length (rulerBytes a b limit m)) old (length (rulerBytes (negℤ a) (negℤ b) (film.mirrored limit) m)) old' → Rulers a b limit m old old'
+  -- Rulers of either kind, of any whole axis, limits and mark limit, with bytes lent that are enough on both sides or on neither, where there is a ruler
+  -- to write.
+  pub rulers : (c : Choice) (a b : ℤ) (limit : Limit) (m : ℕ) (old old' : List ℕ)
+      → BothLong (noRuler a b limit m) (length (bytesBy c a b limit m)) old (length (bytesBy c (negℤ a) (negℤ b) (film.mirrored limit) m)) old' → Rulers c a b limit m old old'
   -- Marks of any whole axis, likewise.
   pub whole-marks : (a b : ℤ) (m : ℕ) (old old' : List ℤ)
       → BothLong (planReasons (endsAdmitted a b) a b m) (length (marks a b m)) old (length (marks (negℤ a) (negℤ b) m)) old' → Marks a b m old old'

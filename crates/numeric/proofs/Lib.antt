@@ -3,6 +3,7 @@ pub mod First
 pub mod Steps
 pub mod Signs
 pub mod Bounds
+pub mod Inside
 pub mod Plans
 pub mod Worked
 pub mod Reflect
@@ -15,3 +16,4 @@ pub mod Theorems
 pub mod Readings
 pub mod WorkedReadings
 pub mod Discrete
+pub mod OnAxis

@@ -16,12 +16,14 @@ use Rattle.ranged1d.specs.Answer.{given, BothLong}
 use Rattle.ranged1d.specs.Admitted.{wholeAdmitted, endsAdmitted}
 use Rattle.ranged1d.proofs.Lowest.{lowest-then, last-same}
 use Rattle.ranged1d.proofs.Whole.{admitted-neg, low-neg, high-neg, low-high, neg-far, less-not-above, yes-le, yes-lt, lt-yes, neg-below, below-all, neg-le, neg-lt, neg-times, quot-neg}
-use Rattle.numeric.specs.Marks.{low, high, distance, stepAt, chosen, ceilDiv, firstIndex, lastIndex, multiple, multiples, noStepFor, stepFor, marksFor, noStep, stepOf, marks}
+use Rattle.numeric.specs.declared.Choice.the-variants.{Inside}
+use Rattle.numeric.specs.Marks.{low, high, distance, stepAt, chosen, ceilDiv, firstIndex, lastIndex, multiple, multiples, noStepFor, stepFor, marksFor, noStep, stepOf, marks, marksBy, lastInside}
 use Rattle.numeric.specs.Calls.{planReasons, keyPointsReasons, wholeKeyPoints}
 use Rattle.numeric.specs.Mirror.{mirrored, nearest, Divides, NextTowardZero, OneMore, stepOnly, Mirrored}
 use Rattle.numeric.proofs.Steps.{step-pos}
 use Rattle.numeric.proofs.Reflect.{reflect, one-more, mirrored-cons}
 use Rattle.numeric.proofs.Theorems.{first-least}
+use Rattle.numeric.proofs.Inside.{marks-by}
 
 -- ---- z cut to a multiple of s toward zero, for z below zero and no multiple itself, is the next multiple toward zero
 abbrev cut : ℕ → ℤ → ℤ
@@ -48,8 +50,8 @@ module _ (s : ℕ) (hs : 0 < s) (n : ℕ) (odd : suc n % s ≡ 0 → ⊥) where
   }
 
 -- ---- an axis from lo to hi, with the step s
-abbrev marksBy : ℤ → ℤ → ℕ → List ℤ
-marksBy lo hi s = multiples (firstIndex lo s) (lastIndex hi s) s
+abbrev marksCut : ℤ → ℤ → ℕ → List ℤ
+marksCut lo hi s = multiples (firstIndex lo s) (lastIndex hi s) s
 
 ceil-even : (n s : ℕ) → 0 < s → n % s ≡ 0 → ceilDiv n s ≡ n / s
 ceil-even n s h e =
@@ -78,7 +80,7 @@ module _ (s : ℕ) (hs : 0 < s) where
   first-hi (pos p) (negsuc q) l e = absurd (subst T (sym l) tt)
   first-hi (negsuc p) (negsuc q) l e = ap pos (ceil-even (suc q) s hs e)
 
-  even-at : (lo hi : ℤ) → leZ lo hi ≡ true → Divides s (nearest lo hi) → marksBy (negℤ hi) (negℤ lo) s ≡ mirrored (marksBy lo hi s)
+  even-at : (lo hi : ℤ) → leZ lo hi ≡ true → Divides s (nearest lo hi) → marksCut (negℤ hi) (negℤ lo) s ≡ mirrored (marksCut lo hi s)
   even-at lo hi l e =
       ap₂ (λ (f g : ℤ). multiples f g s) (first-hi lo hi l e ∙ quot-neg hi s) (quot-neg lo s)
       ∙ reflect (quotZ lo (pos s)) (quotZ hi (pos s)) s
@@ -92,7 +94,7 @@ module _ (s : ℕ) (hs : 0 < s) where
   first-neg (suc q) = refl
 
   -- where it does not, and the axis lies above zero, its mirror has one mark more: its end nearest zero, cut toward zero
-  above-at : (p q : ℕ) → p ≤ q → (p % s ≡ 0 → ⊥) → marksBy (negℤ (pos q)) (negℤ (pos p)) s ≡ mirrored (marksBy (pos p) (pos q) s) ++ (cut s (negℤ (pos p)) ∷ [])
+  above-at : (p q : ℕ) → p ≤ q → (p % s ≡ 0 → ⊥) → marksCut (negℤ (pos q)) (negℤ (pos p)) s ≡ mirrored (marksCut (pos p) (pos q) s) ++ (cut s (negℤ (pos p)) ∷ [])
   above-at p q l e =
       let x = p / s in
       let y = q / s in
@@ -103,7 +105,7 @@ module _ (s : ℕ) (hs : 0 < s) where
       ∙ ap₂ (λ (n : ℕ) (z : ℤ). mirrored (multiples (pos n) (pos y) s) ++ (z ∷ [])) (sym (ceil-odd p s hs e)) (sym (neg-times (pos x) s) ∙ ap (λ (z : ℤ). z *ℤ pos s) (sym (quot-neg (pos p) s)))
 
   -- the same, for an axis whose ends are any numbers above zero
-  above-more : (lo hi : ℤ) → leZ lo hi ≡ true → (Divides s lo → ⊥) → ltZ (pos 0) lo ≡ true → OneMore s (negℤ lo) (marksBy (negℤ hi) (negℤ lo) s) (marksBy lo hi s)
+  above-more : (lo hi : ℤ) → leZ lo hi ≡ true → (Divides s lo → ⊥) → ltZ (pos 0) lo ≡ true → OneMore s (negℤ lo) (marksCut (negℤ hi) (negℤ lo) s) (marksCut lo hi s)
   above-more (negsuc p) hi l e u = absurd (subst T (sym u) tt)
   above-more (pos p) (negsuc q) l e u = absurd (subst T (sym l) tt)
   above-more (pos zero) (pos q) l e u = absurd (e (zero-mod s))
@@ -159,13 +161,13 @@ module _ (a b : ℤ) (m : ℕ) where
   unfolding stepFor
   step-neg = ap₂ (λ (x y : ℤ). stepAt (chosen (distance x y) m)) (low-neg a b) (high-neg a b) ∙ ap (λ (d : ℕ). stepAt (chosen d m)) (distance-neg (low a b) (high a b))
 
-  marks-are : marks a b m ≡ marksBy lo hi s
+  marks-are : marks a b m ≡ marksCut lo hi s
   unfolding lo hi s marksFor
   marks-are = refl
 
-  marks-neg : marks (negℤ a) (negℤ b) m ≡ marksBy (negℤ hi) (negℤ lo) s
+  marks-neg : marks (negℤ a) (negℤ b) m ≡ marksCut (negℤ hi) (negℤ lo) s
   unfolding lo hi s marksFor
-  marks-neg = ap₂ (λ (x y : ℤ). marksBy x y (stepOf (negℤ a) (negℤ b) m)) (low-neg a b) (high-neg a b) ∙ ap (λ (n : ℕ). marksBy (negℤ hi) (negℤ lo) n) step-neg
+  marks-neg = ap₂ (λ (x y : ℤ). marksCut x y (stepOf (negℤ a) (negℤ b) m)) (low-neg a b) (high-neg a b) ∙ ap (λ (n : ℕ). marksCut (negℤ hi) (negℤ lo) n) step-neg
 
   verdict : (old old′ : List ℤ) → BothLong (planReasons (endsAdmitted a b) a b m) (length (marks a b m)) old (length (marks (negℤ a) (negℤ b) m)) old′ → stepOnly (wholeKeyPoints (negℤ a) (negℤ b) m old′ .0) ≡ stepOnly (wholeKeyPoints a b m old .0)
   unfolding wholeKeyPoints
@@ -196,8 +198,8 @@ module _ (a b : ℤ) (m : ℕ) where
     more-below : (Divides s (nearest lo hi) → ⊥) → hi <ℤ pos 0 → OneMore s hi (marks a b m) (marks (negℤ a) (negℤ b) m)
     more-below e h =
         rw (marks-neg, marks-are)
-        (subst (λ (x : ℤ). OneMore s x (marksBy lo x s) (marksBy (negℤ hi) (negℤ lo) s)) (negℤ-negℤ hi)
-        (subst (λ (x : ℤ). OneMore s (negℤ (negℤ hi)) (marksBy x (negℤ (negℤ hi)) s) (marksBy (negℤ hi) (negℤ lo) s)) (negℤ-negℤ lo)
+        (subst (λ (x : ℤ). OneMore s x (marksCut lo x s) (marksCut (negℤ hi) (negℤ lo) s)) (negℤ-negℤ hi)
+        (subst (λ (x : ℤ). OneMore s (negℤ (negℤ hi)) (marksCut x (negℤ (negℤ hi)) s) (marksCut (negℤ hi) (negℤ lo) s)) (negℤ-negℤ lo)
         (above-more s s-pos (negℤ hi) (negℤ lo) (neg-le hi lo ∙ ends-in-order)
         (λ d. e (rw (nearest-below lo hi ends-in-order h) (ap (λ (n : ℕ). n % s) (sym (neg-far hi)) ∙ d)))
         (neg-lt (pos 0) hi ∙ lt-yes h))))
@@ -227,3 +229,17 @@ mirror a b m = record {
   one-more-below = more-below a b m;
   one-more-above = more-above a b m;
 }
+
+-- ---- 02 (a): the marks on the axis match those of the mirror on every axis
+inside-turned : (lo hi : ℤ) (s : ℕ) → multiples (firstIndex (negℤ hi) s) (lastInside (negℤ lo) s) s ≡ mirrored (multiples (firstIndex lo s) (lastInside hi s) s)
+inside-turned lo hi s =
+    ap₂ (λ (f g : ℤ). multiples f (negℤ (firstIndex g s)) s) (sym (negℤ-negℤ (firstIndex (negℤ hi) s))) (negℤ-negℤ lo)
+    ∙ reflect (firstIndex lo s) (lastInside hi s) s
+
+pub inside-mirrored : (a b : ℤ) (m : ℕ) → marksBy Inside (negℤ a) (negℤ b) m ≡ mirrored (marksBy Inside a b m)
+inside-mirrored a b m =
+    marks-by Inside (negℤ a) (negℤ b) m
+    ∙ ap (λ (s : ℕ). multiples (firstIndex (low (negℤ a) (negℤ b)) s) (lastInside (high (negℤ a) (negℤ b)) s) s) (step-neg a b m)
+    ∙ ap₂ (λ (x y : ℤ). multiples (firstIndex x (stepOf a b m)) (lastInside y (stepOf a b m)) (stepOf a b m)) (low-neg a b) (high-neg a b)
+    ∙ inside-turned (low a b) (high a b) (stepOf a b m)
+    ∙ ap mirrored (sym (marks-by Inside a b m))

@@ -13,9 +13,10 @@ use lib.ListN.{length}
 use lib.Signed.{leZ}
 use Rattle.ranged1d.specs.Numbers.{raised}
 use Rattle.ranged1d.proofs.Whole.{low-high, sub-cases, sub-size}
-use Rattle.numeric.specs.Marks.{low, high, howMany, firstIndex, lastIndex, distance, stepAt, powerOfTen, ceilDiv, serves, firstOf, chosen, noStepFor, noStep, stepFor, marksFor, marks}
+use Rattle.numeric.specs.declared.Choice.{Choice}
+use Rattle.numeric.specs.Marks.{low, high, howMany, firstIndex, lastIndex, distance, stepAt, powerOfTen, ceilDiv, serves, firstOf, chosen, noStepFor, noStep, stepFor, marksBy}
 use Rattle.numeric.proofs.Steps.{step-pos}
-use Rattle.numeric.proofs.Lists.{length-of}
+use Rattle.numeric.proofs.Inside.{count-by, fewer}
 use Rattle.numeric.proofs.Reflect.{many-pos, many-turned}
 
 -- what the search found passes the test
@@ -90,11 +91,12 @@ module _ (s : ℕ) (hs : 0 < s) where
       rw (many-turned (pos (suc q / s)) (pos (suc p / s)), many-pos (suc q / s) (suc p / s), apart-neg p q (leb-true q p h))
       (omega (arith, few (suc q / s) (suc p / s) (p - q) (omega (arith, leb-true q p h, div-mul-le-self (suc p) s, lt-div-mul-add {a = suc q} hs))))
 
-pub at-most : (a b : ℤ) (m : ℕ) → noStep a b m ≡ false → length (marks a b m) ≤ m + 1
-unfolding noStepFor marksFor stepFor
-at-most a b m h =
+pub at-most : (c : Choice) (a b : ℤ) (m : ℕ) → noStep a b m ≡ false → length (marksBy c a b m) ≤ m + 1
+unfolding noStepFor stepFor
+at-most c a b m h =
     let lo = low a b in
     let hi = high a b in
     let k = chosen (distance lo hi) m in
     let l : k < 28 = leb-false 28 k h in
-    rw length-of (omega (arith, count-few (stepAt k) (step-pos k l) lo hi (low-high a b), serves-few (distance lo hi) m k (chosen-serves (distance lo hi) m l)))
+    rw (count-by c a b m)
+    (omega (arith, fewer (stepAt k) (step-pos k l) c (firstIndex lo (stepAt k)) hi, count-few (stepAt k) (step-pos k l) lo hi (low-high a b), serves-few (distance lo hi) m k (chosen-serves (distance lo hi) m l)))

@@ -15,14 +15,15 @@ use mir.Facts.{and-yes}
 use lib.Signed.{leZ}
 use Rattle.ranged1d.proofs.Whole.{low-high, turned-far, sub-cases, sub-size, neg-far, neg-times, times-far, minus-shift, from-start, back-to-start}
 use Rattle.ranged1d.specs.Answer.{given}
+use Rattle.numeric.specs.declared.Choice.{Choice}
 use Rattle.numeric.specs.declared.KeyPoints.{KeyPoints}
-use Rattle.numeric.proofs.Lists.{length-of}
 use Rattle.numeric.proofs.Bounds.{between, last-times, max-times, multiple-element}
-use Rattle.numeric.proofs.Plans.{one-near, Good, planned-good}
+use Rattle.numeric.proofs.Plans.{one-near, GoodBy, planned-good-by}
+use Rattle.numeric.proofs.Inside.{count-by, fewer}
 use Rattle.numeric.proofs.NoStep.{differ, served-none}
 use Rattle.ranged1d.proofs.Table.{at}
-use Rattle.numeric.specs.Marks.{low, high, distance, stepAt, powerOfTen, ceilDiv, chosen, firstIndex, lastIndex, howMany, listOf, multiple, stepFor, marksFor}
-use Rattle.numeric.specs.Calls.{wholePlan, planOf, element}
+use Rattle.numeric.specs.Marks.{low, high, distance, stepAt, powerOfTen, ceilDiv, chosen, firstIndex, lastIndex, lastBy, howMany, multiple, stepFor}
+use Rattle.numeric.specs.Calls.{planWith, planBy, element}
 use Rattle.numeric.proofs.Steps.{steps, step-pos}
 use Rattle.numeric.proofs.Reflect.{many-pos, many-turned}
 use Rattle.numeric.proofs.Most.{apart-pos, apart-neg, many-across, chosen-first}
@@ -169,19 +170,18 @@ module _ (a b : ℤ) (m : ℕ) (ha : natAbs a ≤ 1000000000) (hb : natAbs b ≤
     unfolding lo hi
     near-a d = either (leZ a b) (ends-near d)
 
--- every mark that a plan streams is admitted, and it lies at most eleven times as far from a as b does
-pub mark-near : (a b : ℤ) (m : ℕ) {p : KeyPoints} → wholePlan a b m ≡ given p → (k : ℕ) → k < p .count → (natAbs (element (p .first) (p .step) k) ≤ 1000000000) × ((a ≡ b → ⊥) → natAbs (element (p .first) (p .step) k -ℤ a) ≤ 11 * natAbs (b -ℤ a))
-unfolding lo hi s v stepFor marksFor
-mark-near a b m {p} e k l =
-    let good = planned-good a b m e in
+-- every mark that a plan of either choice streams is admitted, and it lies at most eleven times as far from a as b does
+pub mark-near : (c : Choice) (a b : ℤ) (m : ℕ) {p : KeyPoints} → planBy c a b m ≡ given p → (k : ℕ) → k < p .count → (natAbs (element (p .first) (p .step) k) ≤ 1000000000) × ((a ≡ b → ⊥) → natAbs (element (p .first) (p .step) k -ℤ a) ≤ 11 * natAbs (b -ℤ a))
+unfolding lo hi s v stepFor
+mark-near c a b m {p} e k l =
+    let good = planned-good-by c a b m e in
     subst (λ (q : KeyPoints). k < q .count → (natAbs (element (q .first) (q .step) k) ≤ 1000000000) × ((a ≡ b → ⊥) → natAbs (element (q .first) (q .step) k -ℤ a) ≤ 11 * natAbs (b -ℤ a))) (good .plan) (known good) l
   where
-    known : Good a b m p → k < planOf a b m .count → (natAbs (element (planOf a b m .first) (planOf a b m .step) k) ≤ 1000000000) × ((a ≡ b → ⊥) → natAbs (element (planOf a b m .first) (planOf a b m .step) k -ℤ a) ≤ 11 * natAbs (b -ℤ a))
+    known : GoodBy c a b m p → k < planWith c a b m .count → (natAbs (element (planWith c a b m .first) (planWith c a b m .step) k) ≤ 1000000000) × ((a ≡ b → ⊥) → natAbs (element (planWith c a b m .first) (planWith c a b m .step) k -ℤ a) ≤ 11 * natAbs (b -ℤ a))
     known good l =
         let h = good .in-table in
         let i = firstIndex (low a b) (stepAt (chosen (distance (low a b) (high a b)) m)) in
         let st = stepAt (chosen (distance (low a b) (high a b)) m) in
-        let n = howMany i (lastIndex (high a b) st) in
-        let n-is : length (listOf (multiple i st) n) ≡ n = length-of (multiple i st) n in
-        let below : k < n = omega arith in
+        let n-is = count-by c a b m in
+        let below : k < howMany i (lastIndex (high a b) st) = omega (arith, n-is, fewer st (step-pos _ h) c i (high a b)) in
         rw (← multiple-element i st k) (admitted a b m (good .ends .0) (good .ends .1) h k below, λ f. near-a a b m (good .ends .0) (good .ends .1) h k below (differ a b f))

@@ -15,10 +15,11 @@ use Rattle.rounding.specs.declared.Whole.the-variants.{Number}
 use Rattle.real.specs.Place.{along, spot, realPlace, wholeSpot, wholePlace, spotAnswer}
 use Rattle.real.proofs.Exact.{int-self, same-int, whole-share}
 use Rattle.real.proofs.Placed.{Placed, whole-is-real, whole-placed}
+use Rattle.numeric.specs.declared.Choice.{Choice}
 use Rattle.numeric.specs.declared.KeyPoints.{KeyPoints}
-use Rattle.numeric.specs.Calls.{wholePlan, element}
+use Rattle.numeric.specs.Calls.{planBy, element}
 use Rattle.numeric.specs.Whole.{endsAdmitted}
-use Rattle.numeric.proofs.Plans.{planned-good}
+use Rattle.numeric.proofs.Plans.{planned-good-by}
 use Rattle.numeric.proofs.Near.{mark-near}
 
 -- what a call answers once the ends, and then the value, are tested
@@ -42,10 +43,10 @@ unfolding spot
 sloped-spot a b v limit ha hb hv n =
     rw (not-eq-not {b = false} .0 (λ e. n (same-int a b (omega arith) (omega arith) e))) (ap (along (limit .0) (limit .1) (limit .1 -ℤ limit .0)) (whole-share a b v (omega arith) (omega arith) (omega arith)))
 
--- every mark that a plan streams has a place on every film: 5 does not arise
-pub mark-placed : (a b : ℤ) (m : ℕ) {p : KeyPoints} → wholePlan a b m ≡ given p → (limit : Limit) → limitAdmitted limit ≡ true
+-- every mark that a plan of either choice streams has a place on every film: 5 does not arise
+pub mark-placed : (c : Choice) (a b : ℤ) (m : ℕ) {p : KeyPoints} → planBy c a b m ≡ given p → (limit : Limit) → limitAdmitted limit ≡ true
     → (k : ℕ) → k < p .count → Placed (wholePlace a b (element (p .first) (p .step) k) limit)
-mark-placed a b m {p} e limit h k l =
-    let good = planned-good a b m e in
-    let near = mark-near a b m e k l in
+mark-placed c a b m {p} e limit h k l =
+    let good = planned-good-by c a b m e in
+    let near = mark-near c a b m e k l in
     whole-placed a b _ limit h (le-leb _ _ (good .ends .0)) (le-leb _ _ (good .ends .1)) (le-leb _ _ (near .0)) (near .1)

@@ -15,56 +15,66 @@ use Rattle.ranged1d.proofs.Answers.{given-is}
 use Rattle.ranged1d.proofs.Bools as tests
 use Rattle.ranged1d.proofs.Lowest.{given-tests, lowest-then}
 use Rattle.ranged1d.proofs.Whole.{both-near}
+use Rattle.numeric.specs.declared.Choice.{Choice}
+use Rattle.numeric.specs.declared.Choice.the-variants.{Cut}
 use Rattle.numeric.specs.declared.KeyPoints.{KeyPoints}
-use Rattle.numeric.specs.Marks.{low, high, distance, chosen, stepAt, firstIndex, lastIndex, howMany, listOf, multiple, noStepFor, stepFor, stepOf, marksFor, marks}
-use Rattle.numeric.specs.Calls.{planReasons, keyPointsBy, wholeKeyPoints, wholePlan, planOf, element, indexMarks, indexKeyPoints}
+use Rattle.numeric.specs.Marks.{low, high, distance, chosen, stepAt, firstIndex, lastBy, howMany, listOf, multiple, noStepFor, stepFor, stepOf, marks, marksBy}
+use Rattle.numeric.specs.Calls.{planReasons, keyPointsBy, wholeKeyPoints, wholePlan, planOf, planWith, planBy, element, indexMarks, indexKeyPoints}
 use Rattle.numeric.proofs.Lists.{length-of, list-ext, map-list}
 use Rattle.numeric.proofs.Steps.{step-pos, step-top}
 use Rattle.numeric.proofs.Bounds.{multiple-element, marks-near, count-near}
+use Rattle.numeric.proofs.Inside.{marks-by, count-by, plan-by, fewer}
 
 -- of the two ends of an admitted axis each is admitted
 pub one-near : (a b : ℤ) → natAbs a ≤ 1000000000 → natAbs b ≤ 1000000000 → (t : Bool) → natAbs (cond t a b) ≤ 1000000000
 one-near a b ha hb t = tests.chosen (λ (z : ℤ). natAbs z ≤ 1000000000) t ha hb
 
--- what is known of a plan that was given
-pub record Good (a b : ℤ) (m : ℕ) (p : KeyPoints) : Type 0 where
+-- what is known of a plan that was given, of either choice
+pub record GoodBy (c : Choice) (a b : ℤ) (m : ℕ) (p : KeyPoints) : Type 0 where
   pub ends : (natAbs a ≤ 1000000000) × (natAbs b ≤ 1000000000)
   pub in-table : chosen (distance (low a b) (high a b)) m < 28
-  pub plan : planOf a b m ≡ p
-  pub marks-are : marks a b m ≡ listOf (element (p .first) (p .step)) (p .count)
+  pub plan : planWith c a b m ≡ p
+  pub marks-are : marksBy c a b m ≡ listOf (element (p .first) (p .step)) (p .count)
   pub few : p .count ≤ 2000000001
   pub near : (k : ℕ) → k < p .count → (natAbs (pos k *ℤ p .step) ≤ 2000000000) × (natAbs (element (p .first) (p .step) k) ≤ 2000000000)
 
-module _ (a b : ℤ) (m : ℕ) where
-  good-plan : natAbs a ≤ 1000000000 → natAbs b ≤ 1000000000 → chosen (distance (low a b) (high a b)) m < 28 → Good a b m (planOf a b m)
-  unfolding stepFor marksFor
+abbrev pub Good : ℤ → ℤ → ℕ → KeyPoints → Type 0
+Good a b m p = GoodBy Cut a b m p
+
+module _ (c : Choice) (a b : ℤ) (m : ℕ) where
+  good-plan : natAbs a ≤ 1000000000 → natAbs b ≤ 1000000000 → chosen (distance (low a b) (high a b)) m < 28 → GoodBy c a b m (planWith c a b m)
+  unfolding stepFor
   good-plan ha hb h =
       let k = chosen (distance (low a b) (high a b)) m in
       let s = stepAt k in
       let lo = low a b in
       let hi = high a b in
       let i = firstIndex lo s in
-      let n = howMany i (lastIndex hi s) in
+      let n = howMany i (lastBy c hi s) in
       let hl = one-near a b ha hb (leZ a b) in
       let hh = one-near b a hb ha (leZ a b) in
-      let n-is : length (listOf (multiple i s) n) ≡ n = length-of (multiple i s) n in
+      let n-is : length (marksBy c a b m) ≡ n = count-by c a b m in
+      let fewer-is = fewer s (step-pos k h) c i hi in
       record {
         ends = (ha, hb);
         in-table = h;
         plan = refl;
-        marks-are = list-ext (multiple i s) (element (i *ℤ pos s) (pos s)) n (λ j l. multiple-element i s j) ∙ ap (λ (c : ℕ). listOf (element (i *ℤ pos s) (pos s)) c) (sym n-is);
-        few = omega (arith, n-is, count-near lo hi s hl hh (step-pos k h) (step-top k h));
+        marks-are = marks-by c a b m ∙ list-ext (multiple i s) (element (i *ℤ pos s) (pos s)) n (λ j l. multiple-element i s j) ∙ ap (λ (x : ℕ). listOf (element (i *ℤ pos s) (pos s)) x) (sym n-is);
+        few = omega (arith, n-is, fewer-is, count-near lo hi s hl hh (step-pos k h) (step-top k h));
         near = λ j l.
-            let both = marks-near lo hi s hl hh (step-pos k h) (step-top k h) j (omega arith) in
+            let both = marks-near lo hi s hl hh (step-pos k h) (step-top k h) j (omega (arith, n-is, fewer-is)) in
             (omega (arith, both .0), rw (← multiple-element i s j) (both .1));
       }
 
-  pub planned-good : {p : KeyPoints} → wholePlan a b m ≡ given p → Good a b m p
-  unfolding wholePlan noStepFor
-  planned-good e =
-      let told = given-tests (planReasons (endsAdmitted a b) a b m) (given (planOf a b m)) e in
+  pub planned-good-by : {p : KeyPoints} → planBy c a b m ≡ given p → GoodBy c a b m p
+  unfolding noStepFor
+  planned-good-by e =
+      let told = given-tests (planReasons (endsAdmitted a b) a b m) (given (planWith c a b m)) (sym (plan-by c a b m) ∙ e) in
       let near = both-near 1_000_000_000 a b (not-false (endsAdmitted a b) (told .0 .0)) in
-      subst (Good a b m) (given-is (told .1)) (good-plan (near .0) (near .1) (leb-false _ _ (told .0 .1 .0)))
+      subst (GoodBy c a b m) (given-is (told .1)) (good-plan (near .0) (near .1) (leb-false _ _ (told .0 .1 .0)))
+
+pub planned-good : (a b : ℤ) (m : ℕ) {p : KeyPoints} → wholePlan a b m ≡ given p → Good a b m p
+planned-good a b m e = planned-good-by Cut a b m e
 
 -- What `key_points` does, by the plan: one law for every element type A, with f from whole numbers to A and `new` the marks as A has
 -- them. The rules of specs/Calls are `ruleBy` at f = λ z. z and at f = natAbs.

@@ -15,29 +15,30 @@ use lib.Signed.{leZ, _≤ℤ_}
 use Rattle.ranged1d.specs.Answer.{given, none}
 use Rattle.ranged1d.specs.Numbers.{isI32}
 use Rattle.ranged1d.proofs.Whole.{yes-le, le-yes, neg-order, below-all, neg-times}
+use Rattle.numeric.specs.declared.Choice.{Choice}
 use Rattle.numeric.specs.declared.KeyPoints.{KeyPoints}
-use Rattle.numeric.specs.Marks.{low, high, firstIndex, lastIndex, howMany, multiple, ceilDiv, stepOf, marksFor, marks}
-use Rattle.numeric.specs.Calls.{wholePlan, element, pointAt, indexMarks}
+use Rattle.numeric.specs.Marks.{low, high, firstIndex, lastIndex, howMany, multiple, ceilDiv, stepOf, marksFor, marks, marksBy}
+use Rattle.numeric.specs.Calls.{planBy, element, pointAt, indexMarks}
 use Rattle.numeric.proofs.Lists.{entry, list-ext, map-list}
-use Rattle.numeric.proofs.Plans.{planned-good, low-pos}
+use Rattle.numeric.proofs.Plans.{planned-good-by, low-pos}
 
 -- ---- a plan streams the marks: asked for mark i, `get` gives entry i of the list that `key_points` writes, and none from its end on
 near-i32 : (z : ℤ) → natAbs z ≤ 2000000000 → isI32 z ≡ true
 near-i32 (pos n) h = le-leb n 2147483647 (omega arith)
 near-i32 (negsuc n) h = rw (le-leb n 2147483647 (omega arith))
 
-module _ (a b : ℤ) (m : ℕ) {p : KeyPoints} (e : wholePlan a b m ≡ given p) (i : ℕ) where
-  count-is : length (marks a b m) ≡ p .count
-  count-is = ap (λ (q : KeyPoints). q .count) (planned-good a b m e .plan)
+module _ (c : Choice) (a b : ℤ) (m : ℕ) {p : KeyPoints} (e : planBy c a b m ≡ given p) (i : ℕ) where
+  count-is : length (marksBy c a b m) ≡ p .count
+  count-is = ap (λ (q : KeyPoints). q .count) (planned-good-by c a b m e .plan)
 
-  pub streamed : i < length (marks a b m) → pointAt p i ≡ given (getD (marks a b m) i (pos 0))
+  pub streamed : i < length (marksBy c a b m) → pointAt p i ≡ given (getD (marksBy c a b m) i (pos 0))
   unfolding pointAt
   streamed h =
       let l : i < p .count = omega (arith, count-is) in
-      let good = planned-good a b m e in
+      let good = planned-good-by c a b m e in
       rw (lt-ltb i (p .count) l, near-i32 (element (p .first) (p .step) i) (good .near i l .1), good .marks-are, entry (element (p .first) (p .step)) (pos 0) (p .count) i l)
 
-  pub streamed-end : length (marks a b m) ≤ i → pointAt p i ≡ none
+  pub streamed-end : length (marksBy c a b m) ≤ i → pointAt p i ≡ none
   unfolding pointAt
   streamed-end h = rw (le-ltb i (p .count) (omega (arith, count-is)))
 

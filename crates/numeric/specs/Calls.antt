@@ -10,6 +10,8 @@ use Rattle.ranged1d.specs.Answer.{Answer, given, none, refused, Reason, _when_,
 use Rattle.ranged1d.specs.Refusals.{numberOf}
 use Rattle.ranged1d.specs.Admitted.{endsAdmitted, indexAdmitted}
 use Rattle.ranged1d.specs.Numbers.{isI32}
+use Rattle.numeric.specs.declared.Choice.{Choice}
+use Rattle.numeric.specs.declared.Choice.the-variants.{Cut, Inside}
 use Rattle.numeric.specs.declared.KeyPoints.{KeyPoints}
 use Rattle.numeric.specs.declared.Marks.{Marks}
 use Rattle.numeric.specs.declared.Marks.the-variants as marks-are
@@ -19,7 +21,7 @@ use Rattle.numeric.specs.declared.Planned.{Planned}
 use Rattle.numeric.specs.declared.Planned.the-variants as planned-is
 use Rattle.numeric.specs.declared.Point.{Point}
 use Rattle.numeric.specs.declared.Point.the-variants as point-is
-use Rattle.numeric.specs.Marks.{low, firstIndex, noStep, stepOf, marks}
+use Rattle.numeric.specs.Marks.{low, firstIndex, noStep, stepOf, marks, marksBy}
 
 -- ---- the answers' cases, by 01's numbers and values: step and count; step and count; first mark, step and count; the mark
 abbrev pub tellMarks : Marks → Answer (ℤ × ℕ)
@@ -56,15 +58,26 @@ wholeKeyPoints a b m old = keyPointsBy (endsAdmitted a b) (pos (stepOf a b m)) a
 
 -- `plan`: the same marks unwritten: where the first of them lies, the step to the next, and how many they are. Where there is no
 -- mark, `first` is the multiple that would be the first.
-abbrev pub planOf : ℤ → ℤ → ℕ → KeyPoints
-planOf a b m = record {
+abbrev pub planWith : Choice → ℤ → ℤ → ℕ → KeyPoints
+planWith c a b m = record {
   first = firstIndex (low a b) (stepOf a b m) *ℤ pos (stepOf a b m);
   step = pos (stepOf a b m);
-  count = length (marks a b m);
+  count = length (marksBy c a b m);
 }
+
+abbrev pub planOf : ℤ → ℤ → ℕ → KeyPoints
+planOf a b m = planWith Cut a b m
 
 unfoldable pub wholePlan : ℤ → ℤ → ℕ → Answer KeyPoints
 wholePlan a b m = lowest (planReasons (endsAdmitted a b) a b m) (given (planOf a b m))
+
+-- 02 (a): the same of the marks on the axis, and of either
+unfoldable pub insidePlan : ℤ → ℤ → ℕ → Answer KeyPoints
+insidePlan a b m = lowest (planReasons (endsAdmitted a b) a b m) (given (planWith Inside a b m))
+
+abbrev pub planBy : Choice → ℤ → ℤ → ℕ → Answer KeyPoints
+planBy Cut a b m = wholePlan a b m
+planBy Inside a b m = insidePlan a b m
 
 -- ---- KeyPoints
 -- `get`: mark i, counted from 0; none from the count on. A value of the struct that no plan gives may lead past the range of an i32:

@@ -1,5 +1,5 @@
--- 01 "Marks on a whole axis": the choice of the step, and the marks. An end is a whole number, a ℤ; a step, a count and the mark
--- limit m are naturals. Assumes nothing.
+-- 01 "Marks on a whole axis": the choice of the step, and the marks; 02 (a): the marks that stay on the axis. An end is a whole number, a ℤ;
+-- a step, a count and the mark limit m are naturals. Assumes nothing.
 use Prim.Native.Nat.{ℕ, zero, suc, _+_, _-_, _*_, _/_, _%_, _^_}
 use mathlib.Core.Bool.{Bool, cond}
 use mathlib.Core.List.{List, [], _∷_, _++_}
@@ -8,6 +8,8 @@ use lib.IntN.{ℤ, pos, negsuc, negℤ, natAbs, _+ℤ_, _-ℤ_, _*ℤ_}
 use lib.Signed.{quotZ}
 use Rattle.ranged1d.specs.Numbers.{raised}
 pub use Rattle.ranged1d.specs.Numbers.{low, high}
+use Rattle.numeric.specs.declared.Choice.{Choice}
+use Rattle.numeric.specs.declared.Choice.the-variants.{Cut, Inside}
 
 -- ---- the ends, `low` and `high`: how far they are apart
 abbrev pub distance : ℤ → ℤ → ℕ
@@ -85,3 +87,20 @@ stepOf a b m = stepFor (low a b) (high a b) m
 
 abbrev pub marks : ℤ → ℤ → ℕ → List ℤ
 marks a b m = marksFor (low a b) (high a b) m
+
+-- ---- 02 (a): marks that stay on the axis. The last is the greatest multiple of s that is not above hi: the negation of the least
+-- that is not below −hi. Step and first mark are as before.
+abbrev pub lastInside : ℤ → ℕ → ℤ
+lastInside hi s = negℤ (firstIndex (negℤ hi) s)
+
+unfoldable pub insideFor : ℤ → ℤ → ℕ → List ℤ
+insideFor lo hi m = multiples (firstIndex lo (stepFor lo hi m)) (lastInside hi (stepFor lo hi m)) (stepFor lo hi m)
+
+-- ---- the marks by the choice of the last: hi cut toward zero, as plotters has it, or the last on the axis
+abbrev pub lastBy : Choice → ℤ → ℕ → ℤ
+lastBy Cut hi s = lastIndex hi s
+lastBy Inside hi s = lastInside hi s
+
+abbrev pub marksBy : Choice → ℤ → ℤ → ℕ → List ℤ
+marksBy Cut a b m = marks a b m
+marksBy Inside a b m = insideFor (low a b) (high a b) m

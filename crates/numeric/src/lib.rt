@@ -7,8 +7,8 @@ ghost use lib.IntN.{ℤ, pos, natAbs, _*ℤ_};
 ghost use lib.ListN.{length, drop};
 ghost use lib.Signed.{leZ};
 ghost use Rattle.ranged1d.specs.Answer.{given, _when_, lowest};
-ghost use Rattle.numeric.specs.Marks.{stepAt, serves, chosen, firstIndex, lastIndex, howMany, distance, listOf, noStepFor};
-ghost use Rattle.numeric.specs.Calls.{tellMarks, tellIndexMarks, tellPlanned, tellPoint, wholeKeyPoints, wholePlan, planOf, element, pointAt, indexKeyPoints};
+ghost use Rattle.numeric.specs.Marks.{stepAt, serves, chosen, firstIndex, lastIndex, lastBy, howMany, distance, listOf, noStepFor};
+ghost use Rattle.numeric.specs.Calls.{tellMarks, tellIndexMarks, tellPlanned, tellPoint, wholeKeyPoints, planWith, planBy, wholePlan, insidePlan, element, pointAt, indexKeyPoints};
 
 mod whole;
 
@@ -25,6 +25,12 @@ pub struct RangedCoordi32(pub i32, pub i32);
 
 // An axis of indices.
 pub struct RangedCoordusize(pub usize, pub usize);
+
+// Which multiple is the last mark: the upper end cut toward zero, or the last that is not above it.
+pub enum Choice {
+    Cut,
+    Inside,
+}
 
 // Marks that are not written: the first, the step to the next, and how many there are.
 pub struct KeyPoints {
@@ -147,6 +153,18 @@ fn last_index(hi: i32, s: u32) -> i32
     hi / (s as i32)
 }
 
+// Which multiple of s is the last mark, by the choice.
+fn last_by(choice: Choice, hi: i32, s: u32) -> i32
+    requires { ⌜ natAbs hi ≤ 1000000000 ⌝ }
+    requires { ⌜ (0 < s) × (s ≤ 1000000000) ⌝ }
+    ensures { λ r. ⌜ r ≡ lastBy choice hi s ⌝ }
+{
+    match choice {
+        Choice::Cut => last_index(hi, s),
+        Choice::Inside => 0 - first_index(0 - hi, s),
+    }
+}
+
 // How many whole numbers there are from i to j.
 fn how_many(i: i32, j: i32) -> u32
     requires { ⌜ natAbs i ≤ 1000000000 ⌝ }
@@ -158,11 +176,11 @@ fn how_many(i: i32, j: i32) -> u32
 }
 
 // The marks from lo to hi, unwritten.
-fn plan_sorted(lo: i32, hi: i32, m: u32) -> Planned
+fn plan_sorted(choice: Choice, lo: i32, hi: i32, m: u32) -> Planned
     requires { ⌜ natAbs lo ≤ 1000000000 ⌝ }
     requires { ⌜ natAbs hi ≤ 1000000000 ⌝ }
     requires { ⌜ leZ lo hi ≡ true ⌝ }
-    ensures { λ r. ⌜ tellPlanned r ≡ lowest (3 when noStepFor lo hi m ∷ []) (given (planOf lo hi m)) ⌝ }
+    ensures { λ r. ⌜ tellPlanned r ≡ lowest (3 when noStepFor lo hi m ∷ []) (given (planWith choice lo hi m)) ⌝ }
 {
     let k = choose(span(lo, hi), m);
     if 28 <= k {
@@ -170,7 +188,7 @@ fn plan_sorted(lo: i32, hi: i32, m: u32) -> Planned
     }
     let s = step_at(k);
     let i = first_index(lo, s);
-    let n = how_many(i, last_index(hi, s));
+    let n = how_many(i, last_by(choice, hi, s));
     let t = s as i32;
     let f = i * t;
     Planned::Points(KeyPoints {
@@ -232,15 +250,29 @@ impl RangedCoordi32 {
     pub fn plan(self, m: u32) -> Planned
         ensures { λ r. ⌜ tellPlanned r ≡ wholePlan (self .0) (self .1) m ⌝ }
     {
+        self.plan_by(Choice::Cut, m)
+    }
+
+    // The marks on the axis, likewise.
+    pub fn plan_inside(self, m: u32) -> Planned
+        ensures { λ r. ⌜ tellPlanned r ≡ insidePlan (self .0) (self .1) m ⌝ }
+    {
+        self.plan_by(Choice::Inside, m)
+    }
+
+    // Either, by the choice.
+    pub fn plan_by(self, choice: Choice, m: u32) -> Planned
+        ensures { λ r. ⌜ tellPlanned r ≡ planBy choice (self .0) (self .1) m ⌝ }
+    {
         let a = self.0;
         let b = self.1;
         if !self.admitted() {
             return Planned::Refused(Refusal::WholeNotAdmitted);
         }
         if a <= b {
-            plan_sorted(a, b, m)
+            plan_sorted(choice, a, b, m)
         } else {
-            plan_sorted(b, a, m)
+            plan_sorted(choice, b, a, m)
         }
     }
 

@@ -8,4 +8,5 @@ pub mod Lookups
 pub mod Places
 pub mod Theorems
 pub mod Mirror
+pub mod OnFilm
 pub mod Worked

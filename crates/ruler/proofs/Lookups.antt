@@ -15,7 +15,7 @@ use Rattle.ranged1d.proofs.Bools.{both-true}
 use Rattle.ranged1d.proofs.Whole.{same-yes, same-is}
 use Rattle.numeric.specs.declared.KeyPoints.{KeyPoints}
 use Rattle.numeric.specs.Marks.{listOf}
-use Rattle.numeric.specs.Calls.{planOf, element}
+use Rattle.numeric.specs.Calls.{planWith, element}
 use Rattle.numeric.proofs.Lists.{length-of}
 use Rattle.decimal.specs.Print.{decimal}
 use Rattle.decimal.proofs.Digits.{decimal-most}
@@ -23,7 +23,7 @@ use Rattle.ruler.specs.declared.Draft.{Draft}
 use Rattle.ruler.specs.declared.Part.{Part}
 use Rattle.ruler.specs.Bytes.{whole, mark, markBody, laid}
 use Rattle.ruler.specs.Place.{placeOf}
-use Rattle.ruler.specs.Rule.{markAt, aIn, bIn, limitIn, mIn, marksIn, isRuler, indexOf, hasMark, recordText, labelText, recordAt, labelAt, nowhere, recordIn, labelIn, part, further}
+use Rattle.ruler.specs.Rule.{markAt, choiceIn, aIn, bIn, limitIn, mIn, marksIn, isRuler, indexOf, hasMark, recordText, labelText, recordAt, labelAt, nowhere, recordIn, labelIn, part, further}
 use Rattle.ruler.specs.Steps.{Inside, draftIn}
 use Rattle.ruler.proofs.Lists.{drop-take}
 use Rattle.ruler.proofs.Records.{run-at}
@@ -54,7 +54,7 @@ no-record l v e = rw e
 
 -- ---- a mark of a ruler
 pub record Marked (l : List ℕ) (v : ℤ) : Type 0 where
-  pub known : Known l (draftIn l) (planOf (aIn l) (bIn l) (mIn l))
+  pub known : Known l (draftIn l) (planWith (choiceIn l) (aIn l) (bIn l) (mIn l))
   pub index : indexOf v (marksIn l) < length (marksIn l)
 
 pub marked : (l : List ℕ) (v : ℤ) → hasMark l v ≡ true → Marked l v
@@ -71,12 +71,12 @@ module _ (l : List ℕ) (v : ℤ) (w : Marked l v) where
   record-here : take 20 (drop (25 + 20 * indexOf v (marksIn l)) l) ≡ laid (markAt (aIn l) (bIn l) (limitIn l) v)
   record-here =
       let g = w .known in
-      let p = planOf (aIn l) (bIn l) (mIn l) in
+      let p = planWith (choiceIn l) (aIn l) (bIn l) (mIn l) in
       let f = element (p .first) (p .step) in
       let k = indexOf v (marksIn l) in
       let at-k : f k ≡ v = ap (λ (x : List ℤ). f (indexOf v x)) (known-marks g) ∙ index-found v f (p .count) (subst (λ (x : List ℤ). indexOf v x < p .count) (known-marks g) (w .index)) in
       ap (take 20) (sym (drop-drop (20 * k) 25 l))
-      ∙ ap (λ (x : List ℕ). take 20 (drop (20 * k) x)) (ap (drop 25) (g .bytes) ∙ ruler-rest _ _ _ _ (g .plan))
+      ∙ ap (λ (x : List ℕ). take 20 (drop (20 * k) x)) (ap (drop 25) (g .bytes) ∙ ruler-rest _ _ _ _ _ (g .plan))
       ∙ run-at (aIn l) (bIn l) (limitIn l) f (p .count) k (w .index)
       ∙ ap (λ (x : ℤ). laid (markAt (aIn l) (bIn l) (limitIn l) x)) at-k
 

@@ -10,10 +10,12 @@ use Rattle.ranged1d.specs.Answer.{Answer, given}
 use Rattle.ranged1d.specs.Admitted.{limitAdmitted, endsAdmitted}
 use Rattle.ranged1d.specs.declared.Limit.{Limit}
 use Rattle.ranged1d.proofs.Lowest.{NoneOf, none-of}
-use Rattle.numeric.specs.Marks.{marks, noStep}
-use Rattle.numeric.specs.Calls.{wholePlan, planOf, element}
+use Rattle.numeric.specs.declared.Choice.{Choice}
+use Rattle.numeric.specs.Marks.{marksBy, noStep}
+use Rattle.numeric.specs.Calls.{planBy, planWith, element}
 use Rattle.numeric.proofs.Lists.{entry}
-use Rattle.numeric.proofs.Plans.{planned-good}
+use Rattle.numeric.proofs.Plans.{planned-good-by}
+use Rattle.numeric.proofs.Inside.{plan-by}
 use Rattle.numeric.proofs.Places.{mark-placed}
 use Rattle.real.specs.Place.{wholePlace}
 use Rattle.ruler.specs.Place.{placeIn, placeOf}
@@ -33,16 +35,15 @@ module _ (a b : ℤ) (limit : Limit) (m : ℕ) (h : hasRuler a b limit m ≡ tru
   pub served : noStep a b m ≡ false
   served = stopped-by-none .1 .1 .0
 
-  plan : wholePlan a b m ≡ given (planOf a b m)
-  unfolding wholePlan
-  plan = rw (ends, served) refl
+  plan : (c : Choice) → planBy c a b m ≡ given (planWith c a b m)
+  plan c = plan-by c a b m ∙ rw (ends, served) refl
 
-  pub every-placed : (k : ℕ) → k < length (marks a b m) → wholePlace a b (getD (marks a b m) k (pos 0)) limit ≡ given (placeOf a b limit (getD (marks a b m) k (pos 0)))
+  pub every-placed : (c : Choice) (k : ℕ) → k < length (marksBy c a b m) → wholePlace a b (getD (marksBy c a b m) k (pos 0)) limit ≡ given (placeOf a b limit (getD (marksBy c a b m) k (pos 0)))
   unfolding placeOf
-  every-placed k l =
-      let g = planned-good a b m plan in
-      let p = planOf a b m in
+  every-placed c k l =
+      let g = planned-good-by c a b m (plan c) in
+      let p = planWith c a b m in
       let v = element (p .first) (p .step) k in
-      let at = mark-placed a b m plan limit film k l in
-      let v-is : getD (marks a b m) k (pos 0) ≡ v = ap (λ (x : List ℤ). getD x k (pos 0)) (g .marks-are) ∙ entry (element (p .first) (p .step)) (pos 0) (p .count) k l in
+      let at = mark-placed c a b m (plan c) limit film k l in
+      let v-is : getD (marksBy c a b m) k (pos 0) ≡ v = ap (λ (x : List ℤ). getD x k (pos 0)) (g .marks-are) ∙ entry (element (p .first) (p .step)) (pos 0) (p .count) k l in
       rw v-is (at .is ∙ sym (ap (λ (r : Answer ℤ). given (placeIn r)) (at .is)))

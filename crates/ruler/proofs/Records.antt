@@ -9,6 +9,7 @@ use lib.IntN.{ℤ}
 use lib.ListN.{length, take, drop, length-append, length-drop}
 use lib.Seq.{drop-append-le, take-append-le, drop-at, take-all}
 use Rattle.ranged1d.specs.declared.Limit.{Limit}
+use Rattle.numeric.specs.declared.Choice.{Choice}
 use Rattle.numeric.specs.declared.KeyPoints.{KeyPoints}
 use Rattle.numeric.specs.Marks.{listOf}
 use Rattle.numeric.specs.Calls.{element}
@@ -39,9 +40,9 @@ pub mark-long : (v x : ℤ) → length (laid (mark v x)) ≡ 20
 unfolding laid
 mark-long v x = omega (arith, mark-body-long v x)
 
-pub axis-long : (a b : ℤ) (limit : Limit) (m : ℕ) (s : ℤ) → length (laid (axis a b limit m s)) ≡ 25
+pub axis-long : (c : Choice) (a b : ℤ) (limit : Limit) (m : ℕ) (s : ℤ) → length (laid (axis c a b limit m s)) ≡ 25
 unfolding laid axisBody
-axis-long a b limit m s = refl
+axis-long c a b limit m s = refl
 
 -- how long the records of a list of marks are; one mark more is one more
 pub records-long : (a b : ℤ) (limit : Limit) (l : List ℤ) → length (joined (map (markAt a b limit) l)) ≡ 20 * length l
@@ -87,7 +88,7 @@ module _ (a b : ℤ) (limit : Limit) (f : ℕ → ℤ) where
 -- the first records of a ruler, at the start of a list
 module _ (d : Draft) (p : KeyPoints) where
   abbrev pub head : List ℕ
-  head = laid (axis (d .a) (d .b) (d .limit) (d .m) (p .step))
+  head = laid (axis (d .choice) (d .a) (d .b) (d .limit) (d .m) (p .step))
 
   abbrev pub marksOf : ℕ → List ℕ
   marksOf n = run (d .a) (d .b) (d .limit) (element (p .first) (p .step)) n
@@ -95,7 +96,7 @@ module _ (d : Draft) (p : KeyPoints) where
   pub first-long : (n : ℕ) → length (head ++ marksOf n) ≡ 25 + 20 * n
   first-long n =
       length-append head (marksOf n)
-      ∙ omega (arith, axis-long (d .a) (d .b) (d .limit) (d .m) (p .step), run-long (d .a) (d .b) (d .limit) (element (p .first) (p .step)) n)
+      ∙ omega (arith, axis-long (d .choice) (d .a) (d .b) (d .limit) (d .m) (p .step), run-long (d .a) (d .b) (d .limit) (element (p .first) (p .step)) n)
 
   pub first-more : (n : ℕ) → joined (firstOf d p (n + 1)) ≡ head ++ marksOf n
   unfolding firstOf

@@ -13,7 +13,7 @@ use Rattle.decimal.specs.Read.{sameBytes}
 use Rattle.real.specs.Place.{spot, wholePlace}
 use Rattle.ruler.specs.Place.{placeOf}
 use Rattle.ruler.specs.Bytes.{axisBody, markBody, laid}
-use Rattle.ruler.specs.Rule.{rulerBytes, rulerRead, hasRuler, isRuler, hasMark, recordIn, labelIn}
+use Rattle.ruler.specs.Rule.{rulerBytes, bytesBy, rulerRead, hasRuler, isRuler, hasMark, recordIn, labelIn}
 
 abbrev bytes : List ℕ
 bytes = rulerBytes (negsuc 6) (negsuc 6) (limitOf (negsuc 99) (negsuc 299)) 0
@@ -21,13 +21,13 @@ bytes = rulerBytes (negsuc 6) (negsuc 6) (limitOf (negsuc 99) (negsuc 299)) 0
 shown : bytes
     ≡ 1 ∷ 249 ∷ 255 ∷ 255 ∷ 255 ∷ 249 ∷ 255 ∷ 255 ∷ 255 ∷ 156 ∷ 255 ∷ 255 ∷ 255 ∷ 212 ∷ 254 ∷ 255 ∷ 255 ∷ 0 ∷ 0 ∷ 0 ∷ 0 ∷ 1 ∷ 0 ∷ 0 ∷ 0
     ∷ 2 ∷ 249 ∷ 255 ∷ 255 ∷ 255 ∷ 156 ∷ 255 ∷ 255 ∷ 255 ∷ 32 ∷ 32 ∷ 32 ∷ 32 ∷ 32 ∷ 32 ∷ 32 ∷ 32 ∷ 32 ∷ 45 ∷ 55 ∷ []
-unfolding rulerBytes laid axisBody markBody digits stepAt firstOf chosen stepFor marksFor placeOf wholePlace spot ofInt eq
+unfolding bytesBy laid axisBody markBody digits stepAt firstOf chosen stepFor marksFor placeOf wholePlace spot ofInt eq
 shown = refl
 
-taken : rulerRead bytes ≡ given (record { a = negsuc 6; b = negsuc 6; p = negsuc 99; q = negsuc 299; m = 0; step = pos 1; marks = 1 })
-unfolding rulerRead isRuler hasRuler noStepFor sameBytes rulerBytes laid axisBody markBody digits stepAt firstOf chosen stepFor marksFor placeOf wholePlace spot ofInt eq
+taken : rulerRead bytes ≡ given (record { a = negsuc 6; b = negsuc 6; p = negsuc 99; q = negsuc 299; m = 0; step = pos 1; marks = 1; kind = 1 })
+unfolding rulerRead isRuler hasRuler noStepFor sameBytes bytesBy laid axisBody markBody digits stepAt firstOf chosen stepFor marksFor placeOf wholePlace spot ofInt eq
 taken = refl
 
 found : labelIn bytes (negsuc 6) ≡ record { start = 43; end = 45 }
-unfolding labelIn recordIn hasMark isRuler hasRuler noStepFor sameBytes rulerBytes laid axisBody markBody digits stepAt firstOf chosen stepFor marksFor placeOf wholePlace spot ofInt eq
+unfolding labelIn recordIn hasMark isRuler hasRuler noStepFor sameBytes bytesBy laid axisBody markBody digits stepAt firstOf chosen stepFor marksFor placeOf wholePlace spot ofInt eq
 found = refl

@@ -1,12 +1,16 @@
--- 01 "Ruler bytes": how a record is laid out. A whole number is a ℤ, a byte a natural below 256. Assumes nothing.
+-- 01 "Ruler bytes", 02 (a): how a record is laid out. A whole number is a ℤ, a byte a natural below 256. Assumes nothing.
 use Prim.Native.Nat.{ℕ, _+_, _*_, _/_, _%_}
+use mathlib.Core.Bool.{cond}
 use mathlib.Core.List.{List, [], _∷_, _++_}
+use lib.Dec.{eqb}
 use lib.IntN.{ℤ}
 use lib.ListN.{getD}
 use mir.Syntax.{w32}
 use mir.Val.{ofZ, toZ}
 use Rattle.ranged1d.specs.declared.Limit.{Limit}
 use Rattle.decimal.specs.Print.{labelOf}
+use Rattle.numeric.specs.declared.Choice.{Choice}
+use Rattle.numeric.specs.declared.Choice.the-variants.{Cut, Inside}
 
 -- ---- numbers, 01 "Ruler bytes": four bytes, the lowest first. An i32 goes by its 32 bits in two's complement, a u32 as it is.
 abbrev pub word : ℕ → List ℕ
@@ -23,14 +27,22 @@ abbrev pub wholeAt : List ℕ → ℕ → ℤ
 wholeAt l at = toZ w32 (wordAt l at)
 
 -- ---- records, 01 "Ruler bytes": that of the axis has its ends, limits, mark limit and step; that of a mark its needle and place. The
--- label is no number of its own, as the needle gives it.
+-- label is no number of its own, as the needle gives it. Which marks follow is the choice.
 pub data Record : Type 0 where
-  axis : ℤ → ℤ → Limit → ℕ → ℤ → Record
+  axis : Choice → ℤ → ℤ → Limit → ℕ → ℤ → Record
   mark : ℤ → ℤ → Record
 
--- the kind, by which a reader knows the length of what follows
+-- the kind, by which a reader knows the length of what follows, and which marks the ruler has: 1 for those of plotters, 3 for those that
+-- stay on the axis. Any other number stands for no choice; it is read as the first, which does not begin with it.
+abbrev pub kindByte : Choice → ℕ
+kindByte Cut = 1
+kindByte Inside = 3
+
+abbrev pub choiceFor : ℕ → Choice
+choiceFor k = cond (eqb k 3) Inside Cut
+
 abbrev pub kindOf : Record → ℕ
-kindOf (axis a b limit m s) = 1
+kindOf (axis c a b limit m s) = kindByte c
 kindOf (mark v x) = 2
 
 -- the bodies: 24 bytes for the axis; 19 for a mark, its label filled with blanks to 11
@@ -41,7 +53,7 @@ unfoldable pub markBody : ℤ → ℤ → List ℕ
 markBody v x = whole v ++ whole x ++ labelOf v
 
 abbrev pub bodyOf : Record → List ℕ
-bodyOf (axis a b limit m s) = axisBody a b limit m s
+bodyOf (axis c a b limit m s) = axisBody a b limit m s
 bodyOf (mark v x) = markBody v x
 
 -- a record is its kind and then its body; records stand one behind another

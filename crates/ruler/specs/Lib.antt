@@ -3,3 +3,4 @@ pub mod Bytes
 pub mod Rule
 pub mod Steps
 pub mod Mirror
+pub mod OnFilm

@@ -1,20 +1,22 @@
 -- Rulers: what the writer gives, what the reader takes, and the two look-ups, on every input. 01 "Ruler bytes", with the refusals of 01
--- "Why a call stops". Assumes nothing.
+-- "Why a call stops"; 02 (a): the rule is one over the choice of the marks, of which `Cut` is 01's. Assumes nothing.
 use Prim.Native.Nat.{ℕ, suc, _+_, _-_, _*_}
 use mathlib.Core.Bool.{Bool, cond, not, _&&_}
 use mathlib.Core.List.{List, [], _∷_, _++_, map}
 use lib.Dec.{ltb}
 use lib.IntN.{ℤ, pos}
-use lib.ListN.{length, take, drop}
+use lib.ListN.{length, take, drop, getD}
 use lib.Signed.{ltZ}
 use Rattle.ranged1d.specs.Answer.{Answer, given, refused, Reason, _when_, lowest, noneOf, written}
 use Rattle.ranged1d.specs.Refusals.{numberOf}
 use Rattle.ranged1d.specs.Admitted.{endsAdmitted, limitAdmitted}
 use Rattle.ranged1d.specs.Numbers.{same}
 use Rattle.ranged1d.specs.declared.Limit.{Limit}
+use Rattle.numeric.specs.declared.Choice.{Choice}
+use Rattle.numeric.specs.declared.Choice.the-variants.{Cut, Inside}
 use Rattle.numeric.specs.declared.KeyPoints.{KeyPoints}
-use Rattle.numeric.specs.Marks.{noStep, stepOf, marks}
-use Rattle.numeric.specs.Calls.{planOf}
+use Rattle.numeric.specs.Marks.{noStep, stepOf, marksBy}
+use Rattle.numeric.specs.Calls.{planWith}
 use Rattle.decimal.specs.Print.{decimal}
 use Rattle.decimal.specs.Read.{sameBytes}
 use Rattle.ruler.specs.declared.Wrote.{Wrote}
@@ -23,7 +25,7 @@ use Rattle.ruler.specs.declared.Ruler.{Ruler}
 use Rattle.ruler.specs.declared.Reading.{Reading}
 use Rattle.ruler.specs.declared.Reading.the-variants as reading-is
 use Rattle.ruler.specs.declared.Part.{Part}
-use Rattle.ruler.specs.Bytes.{wordAt, wholeAt, Record, axis, mark, laid, joined}
+use Rattle.ruler.specs.Bytes.{wordAt, wholeAt, kindByte, choiceFor, Record, axis, mark, laid, joined}
 use Rattle.ruler.specs.Place.{placeOf}
 
 -- ---- the answers' cases, by 01's numbers and values: the number of bytes and of marks; the ruler that was read
@@ -41,11 +43,18 @@ abbrev pub markAt : ℤ → ℤ → Limit → ℤ → Record
 markAt a b limit v = mark v (placeOf a b limit v)
 
 -- the axis comes first, and then every mark, as the marks are listed
-abbrev pub recordsOf : ℤ → ℤ → Limit → ℕ → List Record
-recordsOf a b limit m = axis a b limit m (pos (stepOf a b m)) ∷ map (markAt a b limit) (marks a b m)
+abbrev pub recordsBy : Choice → ℤ → ℤ → Limit → ℕ → List Record
+recordsBy c a b limit m = axis c a b limit m (pos (stepOf a b m)) ∷ map (markAt a b limit) (marksBy c a b m)
 
-unfoldable pub rulerBytes : ℤ → ℤ → Limit → ℕ → List ℕ
-rulerBytes a b limit m = joined (recordsOf a b limit m)
+unfoldable pub bytesBy : Choice → ℤ → ℤ → Limit → ℕ → List ℕ
+bytesBy c a b limit m = joined (recordsBy c a b limit m)
+
+-- those of kind 1
+abbrev pub recordsOf : ℤ → ℤ → Limit → ℕ → List Record
+recordsOf a b limit m = recordsBy Cut a b limit m
+
+abbrev pub rulerBytes : ℤ → ℤ → Limit → ℕ → List ℕ
+rulerBytes a b limit m = bytesBy Cut a b limit m
 
 -- 01 "Why a call stops": why there is no ruler. 1 where an end is not admitted, 2 where a limit is not, 3 where no step serves. 5 is never met:
 -- `every-placed` of proofs/Places.
@@ -53,23 +62,40 @@ abbrev pub noRuler : ℤ → ℤ → Limit → ℕ → List Reason
 noRuler a b limit m = 1 when not (endsAdmitted a b) ∷ 2 when not (limitAdmitted limit) ∷ 3 when noStep a b m ∷ []
 
 -- `write`: 13 where the lent bytes are too few; else the number of bytes and of marks, and the ruler at the start of the lent bytes
-abbrev pub writeReasons : ℤ → ℤ → Limit → ℕ → List ℕ → List Reason
-writeReasons a b limit m old = noRuler a b limit m ++ (13 when ltb (length old) (length (rulerBytes a b limit m)) ∷ [])
+abbrev pub writeReasonsBy : Choice → ℤ → ℤ → Limit → ℕ → List ℕ → List Reason
+writeReasonsBy c a b limit m old = noRuler a b limit m ++ (13 when ltb (length old) (length (bytesBy c a b limit m)) ∷ [])
 
-unfoldable pub rulerWrite : ℤ → ℤ → Limit → ℕ → List ℕ → Answer (ℕ × ℕ) × List ℕ
-rulerWrite a b limit m old =
-    written (lowest (writeReasons a b limit m old) (given (length (rulerBytes a b limit m), length (marks a b m)))) (rulerBytes a b limit m) old
+unfoldable pub writeBy : Choice → ℤ → ℤ → Limit → ℕ → List ℕ → Answer (ℕ × ℕ) × List ℕ
+writeBy c a b limit m old =
+    written (lowest (writeReasonsBy c a b limit m old) (given (length (bytesBy c a b limit m), length (marksBy c a b m)))) (bytesBy c a b limit m) old
+
+-- that of kind 1
+abbrev pub rulerWrite : ℤ → ℤ → Limit → ℕ → List ℕ → Answer (ℕ × ℕ) × List ℕ
+rulerWrite a b limit m old = writeBy Cut a b limit m old
+
+-- and of kind 3, `write_inside`
+abbrev pub rulerWriteInside : ℤ → ℤ → Limit → ℕ → List ℕ → Answer (ℕ × ℕ) × List ℕ
+rulerWriteInside a b limit m old = writeBy Inside a b limit m old
 
 -- `plan`, the same without memory: the first mark, the step and the count, or the first reason that there is no ruler
-unfoldable pub rulerPlan : ℤ → ℤ → Limit → ℕ → Answer KeyPoints
-rulerPlan a b limit m = lowest (noRuler a b limit m) (given (planOf a b m))
+unfoldable pub rulerPlanBy : Choice → ℤ → ℤ → Limit → ℕ → Answer KeyPoints
+rulerPlanBy c a b limit m = lowest (noRuler a b limit m) (given (planWith c a b m))
+
+abbrev pub rulerPlan : ℤ → ℤ → Limit → ℕ → Answer KeyPoints
+rulerPlan a b limit m = rulerPlanBy Cut a b limit m
+
+abbrev pub rulerPlanInside : ℤ → ℤ → Limit → ℕ → Answer KeyPoints
+rulerPlanInside a b limit m = rulerPlanBy Inside a b limit m
 
 -- ---- 01 "Ruler bytes": the reader
 -- whether an axis has a ruler: nothing stops the writer but memory
 unfoldable pub hasRuler : ℤ → ℤ → Limit → ℕ → Bool
 hasRuler a b limit m = noneOf (noRuler a b limit m)
 
--- the numbers that stand where a ruler has its own
+-- the choice and the numbers that stand where a ruler has its own
+abbrev pub choiceIn : List ℕ → Choice
+choiceIn l = choiceFor (getD l 0 0)
+
 abbrev pub aIn : List ℕ → ℤ
 aIn l = wholeAt l 1
 
@@ -82,22 +108,25 @@ limitIn l = record { 0 = wholeAt l 9; 1 = wholeAt l 13 }
 abbrev pub mIn : List ℕ → ℕ
 mIn l = wordAt l 17
 
--- bytes are a ruler if, for the numbers in them, there is one, and it is these very bytes
+-- bytes are a ruler if, for the choice and the numbers in them, there is one, and it is these very bytes
 unfoldable pub isRuler : List ℕ → Bool
-isRuler l = hasRuler (aIn l) (bIn l) (limitIn l) (mIn l) && sameBytes l (rulerBytes (aIn l) (bIn l) (limitIn l) (mIn l))
+isRuler l = hasRuler (aIn l) (bIn l) (limitIn l) (mIn l) && sameBytes l (bytesBy (choiceIn l) (aIn l) (bIn l) (limitIn l) (mIn l))
 
 abbrev pub marksIn : List ℕ → List ℤ
-marksIn l = marks (aIn l) (bIn l) (mIn l)
+marksIn l = marksBy (choiceIn l) (aIn l) (bIn l) (mIn l)
 
--- a ruler by its numbers
+-- a ruler by its choice and its numbers; one of kind 1
+abbrev pub readAs : Choice → ℤ → ℤ → Limit → ℕ → ℤ → ℕ → Ruler
+readAs c a b limit m s n = record { a = a; b = b; p = limit .0; q = limit .1; m = m; step = s; marks = n; kind = kindByte c }
+
 abbrev pub rulerOf : ℤ → ℤ → Limit → ℕ → ℤ → ℕ → Ruler
-rulerOf a b limit m s n = record { a = a; b = b; p = limit .0; q = limit .1; m = m; step = s; marks = n }
+rulerOf a b limit m s n = readAs Cut a b limit m s n
 
--- `read`: those numbers, the step and the number of marks; 14 where the bytes are no ruler
+-- `read`: those numbers, the step, the number of marks and the kind; 14 where the bytes are no ruler
 unfoldable pub rulerRead : List ℕ → Answer Ruler
 rulerRead l =
     lowest (14 when not (isRuler l) ∷ [])
-    (given (rulerOf (aIn l) (bIn l) (limitIn l) (mIn l) (pos (stepOf (aIn l) (bIn l) (mIn l))) (length (marksIn l))))
+    (given (readAs (choiceIn l) (aIn l) (bIn l) (limitIn l) (mIn l) (pos (stepOf (aIn l) (bIn l) (mIn l))) (length (marksIn l))))
 
 -- ---- 01 "Ruler bytes": the look-ups
 -- where v stands first in a list; the list's length if it does not

@@ -6,14 +6,14 @@ use lib.IntN.{pos, natAbs, _*ℤ_}
 use lib.ListN.{length}
 use Rattle.numeric.specs.declared.KeyPoints.{KeyPoints}
 use Rattle.numeric.specs.Marks.{listOf}
-use Rattle.numeric.specs.Calls.{planOf, element}
+use Rattle.numeric.specs.Calls.{planWith, element}
 use Rattle.decimal.specs.Read.{sameBytes}
 use Rattle.ruler.specs.declared.Draft.{Draft}
 use Rattle.ruler.specs.declared.Part.{Part}
 use Rattle.ruler.specs.declared.Seen.{Seen}
 use Rattle.ruler.specs.declared.Seen.the-variants as seen-is
 use Rattle.ruler.specs.Bytes.{Record, axis}
-use Rattle.ruler.specs.Rule.{aIn, bIn, limitIn, mIn, markAt, rulerBytes, hasRuler}
+use Rattle.ruler.specs.Rule.{choiceIn, aIn, bIn, limitIn, mIn, markAt, bytesBy, hasRuler}
 
 -- the numbers on the way to mark k fit an i32
 pub record Reachable (p : KeyPoints) (k : ℕ) : Type 0 where
@@ -25,7 +25,7 @@ pub record Reachable (p : KeyPoints) (k : ℕ) : Type 0 where
 unfoldable pub firstOf : Draft → KeyPoints → ℕ → List Record
 firstOf d p zero = []
 firstOf d p (suc n) =
-    axis (d .a) (d .b) (d .limit) (d .m) (p .step)
+    axis (d .choice) (d .a) (d .b) (d .limit) (d .m) (p .step)
     ∷ map (markAt (d .a) (d .b) (d .limit)) (listOf (element (p .first) (p .step)) n)
 
 -- a part lies within the bytes
@@ -34,13 +34,13 @@ Inside l r = (r .start ≤ r .end) × (r .end ≤ length l)
 
 -- whether bytes are the ruler d; the ruler d, if they are
 abbrev pub isBy : List ℕ → Draft → Bool
-isBy l d = hasRuler (d .a) (d .b) (d .limit) (d .m) && sameBytes l (rulerBytes (d .a) (d .b) (d .limit) (d .m))
+isBy l d = hasRuler (d .a) (d .b) (d .limit) (d .m) && sameBytes l (bytesBy (d .choice) (d .a) (d .b) (d .limit) (d .m))
 
 unfoldable pub seenBy : List ℕ → Draft → Seen
-seenBy l d = cond (isBy l d) (seen-is.Ruler d (planOf (d .a) (d .b) (d .m))) seen-is.Nothing
+seenBy l d = cond (isBy l d) (seen-is.Ruler d (planWith (d .choice) (d .a) (d .b) (d .m))) seen-is.Nothing
 
 abbrev pub draftIn : List ℕ → Draft
-draftIn l = record { a = aIn l; b = bIn l; limit = limitIn l; m = mIn l }
+draftIn l = record { a = aIn l; b = bIn l; limit = limitIn l; m = mIn l; choice = choiceIn l }
 
 -- the ruler that bytes are
 abbrev pub seenOf : List ℕ → Seen

@@ -9,9 +9,10 @@ ghost use Rattle.numeric.specs.Marks.{listOf};
 ghost use Rattle.numeric.specs.Calls.{element, tellPlanned};
 ghost use Rattle.decimal.specs.Read.{sameBytes};
 ghost use Rattle.ruler.specs.Place.{placeOf};
-ghost use Rattle.ruler.specs.Bytes.{word, wordAt, axis, laid, joined};
-ghost use Rattle.ruler.specs.Rule.{tellWrote, tellReading, rulerPlan, markAt, rulerWrite, rulerRead, indexOf, recordIn, labelIn, recordText, labelText, part, further, sideOf};
+ghost use Rattle.ruler.specs.Bytes.{word, wordAt, kindByte, choiceFor, axis, laid, joined};
+ghost use Rattle.ruler.specs.Rule.{tellWrote, tellReading, rulerPlan, rulerPlanInside, rulerPlanBy, markAt, rulerWrite, rulerWriteInside, writeBy, rulerRead, indexOf, recordIn, labelIn, recordText, labelText, part, further, sideOf};
 ghost use Rattle.ruler.specs.Steps.{Reachable, Inside, firstOf, seenBy, seenOf};
+use numeric::Choice;
 use numeric::KeyPoints;
 use numeric::Place;
 use numeric::Planned;
@@ -34,6 +35,7 @@ pub struct Ruler {
     pub m: u32,
     pub step: i32,
     pub marks: usize,
+    pub kind: u32,
 }
 
 pub enum Reading {
@@ -47,12 +49,13 @@ pub struct Part {
     pub end: usize,
 }
 
-// What a ruler is drawn for: the axis, its limits on the film, the mark limit.
+// What a ruler is drawn for: the axis, its limits on the film, the mark limit, and which marks it has.
 struct Draft {
     a: i32,
     b: i32,
     limit: Limit,
     m: u32,
+    choice: Choice,
 }
 
 // Bytes that were examined: a ruler with its marks, or no ruler.
@@ -65,6 +68,27 @@ enum Seen {
 const AXIS: u8 = 1;
 
 const MARK: u8 = 2;
+
+const AXIS_INSIDE: u8 = 3;
+
+fn kind_of(d: Draft) -> u8
+    ensures { λ r. ⌜ r ≡ kindByte (d .choice) ⌝ }
+{
+    let choice = d.choice;
+    match choice {
+        Choice::Cut => AXIS,
+        Choice::Inside => AXIS_INSIDE,
+    }
+}
+
+fn choice_of(kind: u8) -> Choice
+    ensures { λ r. ⌜ r ≡ choiceFor kind ⌝ }
+{
+    if kind == AXIS_INSIDE {
+        return Choice::Inside;
+    }
+    Choice::Cut
+}
 
 // The bits of z in two's complement.
 fn bits(z: i32) -> u32
@@ -135,7 +159,7 @@ fn mark_words(v: u32, x: u32, t: [u8; 11]) -> [u8; 19]
 
 // The body of the axis's record.
 fn axis_body(d: Draft, p: KeyPoints) -> [u8; 24]
-    ensures { λ r. ⌜ (1 ∷ r ≡ laid (axis (d .a) (d .b) (d .limit) (d .m) (p .step))) × (24 ≡ length r) ⌝ }
+    ensures { λ r. ⌜ (kindByte (d .choice) ∷ r ≡ laid (axis (d .choice) (d .a) (d .b) (d .limit) (d .m) (p .step))) × (24 ≡ length r) ⌝ }
 {
     let limit = d.limit;
     axis_words(
@@ -193,6 +217,16 @@ fn put_record(kind: u8, body: &[u8], out: &mut [u8])
     bytes::copy(body, &mut out[1..]);
 }
 
+// The axis's record at the start of out.
+fn put_head(d: Draft, p: KeyPoints, out: &mut [u8])
+    requires { ⌜ 25 ≤ length (now out) ⌝ }
+    ensures { λ _. ⌜ now (out .exit) ≡ laid (axis (d .choice) (d .a) (d .b) (d .limit) (d .m) (p .step)) ++ drop 25 (now (out .entry)) ⌝ }
+{
+    let body = axis_body(d, p);
+    let kind = kind_of(d);
+    put_record(kind, &body, out);
+}
+
 // The records of n marks, one behind another.
 fn put_marks(d: Draft, p: KeyPoints, n: usize, out: &mut [u8])
     requires { ⌜ 20 * n ≤ length (now out) ⌝ }
@@ -217,37 +251,56 @@ fn put_records(d: Draft, p: KeyPoints, n: usize, out: &mut [u8])
     if n == 0 {
         return;
     }
-    let body = axis_body(d, p);
-    put_record(AXIS, &body, out);
+    put_head(d, p, out);
     put_marks(d, p, n - 1, &mut out[25..]);
 }
 
 // The marks of a ruler, or why there is none.
 fn planned(d: Draft) -> Planned
-    ensures { λ r. ⌜ tellPlanned r ≡ rulerPlan (d .a) (d .b) (d .limit) (d .m) ⌝ }
+    ensures { λ r. ⌜ tellPlanned r ≡ rulerPlanBy (d .choice) (d .a) (d .b) (d .limit) (d .m) ⌝ }
 {
     let a = d.a;
     let b = d.b;
     let limit = d.limit;
+    let choice = d.choice;
     if !RangedCoordi32(a, b).admitted() {
         return Planned::Refused(Refusal::WholeNotAdmitted);
     }
     if !limit.admitted() {
         return Planned::Refused(Refusal::LimitNotAdmitted);
     }
-    RangedCoordi32(a, b).plan(d.m)
+    RangedCoordi32(a, b).plan_by(choice, d.m)
 }
 
 // The marks of the ruler of the axis from a to b under the mark limit m, unwritten, for callers who stream.
 pub fn plan(a: i32, b: i32, limit: Limit, m: u32) -> Planned
     ensures { λ r. ⌜ tellPlanned r ≡ rulerPlan a b limit m ⌝ }
 {
-    planned(Draft { a, b, limit, m })
+    planned(Draft {
+        a,
+        b,
+        limit,
+        m,
+        choice: Choice::Cut,
+    })
+}
+
+// The same of the ruler whose marks stay on the axis.
+pub fn plan_inside(a: i32, b: i32, limit: Limit, m: u32) -> Planned
+    ensures { λ r. ⌜ tellPlanned r ≡ rulerPlanInside a b limit m ⌝ }
+{
+    planned(Draft {
+        a,
+        b,
+        limit,
+        m,
+        choice: Choice::Inside,
+    })
 }
 
 // A ruler, written to the start of out.
 fn write_draft(d: Draft, out: &mut [u8]) -> Wrote
-    ensures { λ r. ⌜ (tellWrote r, now (out .exit)) ≡ rulerWrite (d .a) (d .b) (d .limit) (d .m) (now (out .entry)) ⌝ }
+    ensures { λ r. ⌜ (tellWrote r, now (out .exit)) ≡ writeBy (d .choice) (d .a) (d .b) (d .limit) (d .m) (now (out .entry)) ⌝ }
 {
     match planned(d) {
         Planned::Refused(r) => Wrote::Refused(r),
@@ -268,7 +321,32 @@ fn write_draft(d: Draft, out: &mut [u8]) -> Wrote
 pub fn write(a: i32, b: i32, limit: Limit, m: u32, out: &mut [u8]) -> Wrote
     ensures { λ r. ⌜ (tellWrote r, now (out .exit)) ≡ rulerWrite a b limit m (now (out .entry)) ⌝ }
 {
-    write_draft(Draft { a, b, limit, m }, out)
+    write_draft(
+        Draft {
+            a,
+            b,
+            limit,
+            m,
+            choice: Choice::Cut,
+        },
+        out,
+    )
+}
+
+// The same with the marks that stay on the axis.
+pub fn write_inside(a: i32, b: i32, limit: Limit, m: u32, out: &mut [u8]) -> Wrote
+    ensures { λ r. ⌜ (tellWrote r, now (out .exit)) ≡ rulerWriteInside a b limit m (now (out .entry)) ⌝ }
+{
+    write_draft(
+        Draft {
+            a,
+            b,
+            limit,
+            m,
+            choice: Choice::Inside,
+        },
+        out,
+    )
 }
 
 fn wide(x: u8) -> u32
@@ -296,6 +374,15 @@ fn is_record(kind: u8, body: &[u8], l: &[u8]) -> bool
         return false;
     }
     check::same(&l[1..], body)
+}
+
+// Whether l is the axis's record.
+fn is_head(d: Draft, p: KeyPoints, l: &[u8]) -> bool
+    ensures { λ r. ⌜ r ≡ sameBytes (now (l .entry)) (laid (axis (d .choice) (d .a) (d .b) (d .limit) (d .m) (p .step))) ⌝ }
+{
+    let body = axis_body(d, p);
+    let kind = kind_of(d);
+    is_record(kind, &body, l)
 }
 
 // Whether l is the records of n marks, one behind another.
@@ -327,8 +414,7 @@ fn compare(d: Draft, l: &[u8]) -> Seen
             if l.len() != 25 + 20 * n {
                 return Seen::Nothing;
             }
-            let body = axis_body(d, p);
-            if !is_record(AXIS, &body, &l[0..25]) {
+            if !is_head(d, p, &l[0..25]) {
                 return Seen::Nothing;
             }
             if !has_marks(d, p, n, &l[25..]) {
@@ -352,7 +438,17 @@ fn examine(l: &[u8]) -> Seen
     let q = ranged1d::signed(word_at(l, 13));
     let m = word_at(l, 17);
     let limit = Limit(p, q);
-    compare(Draft { a, b, limit, m }, l)
+    let choice = choice_of(l[0]);
+    compare(
+        Draft {
+            a,
+            b,
+            limit,
+            m,
+            choice,
+        },
+        l,
+    )
 }
 
 // Reads a ruler.
@@ -371,6 +467,7 @@ pub fn read(bytes: &[u8]) -> Reading
                 m: d.m,
                 step: p.step,
                 marks: p.count as usize,
+                kind: kind_of(d) as u32,
             })
         }
     }

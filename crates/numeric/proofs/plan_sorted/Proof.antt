@@ -10,12 +10,12 @@ use lib.ListN.{length}
 use mir.Facts.{toZ-ofZ, toZ-pos}
 use mir.Syntax.{w32}
 use mir.Val.{SFits, toZ, ofZ}
-use Rattle.ranged1d.proofs.Whole.{fits32, minus-far, quotient-far}
-use Rattle.numeric.specs.Marks.{distance, chosen, firstIndex, lastIndex, noStepFor, stepFor, marksFor, marks}
+use Rattle.ranged1d.proofs.Whole.{fits32, minus-far}
+use Rattle.numeric.specs.Marks.{distance, chosen, firstIndex, lastBy, noStepFor, stepFor, marksBy}
 use Rattle.ranged1d.specs.Answer.{given}
-use Rattle.numeric.specs.Calls.{planOf}
+use Rattle.numeric.specs.Calls.{planWith}
 use Rattle.numeric.proofs.Steps.{step-pos, step-top}
-use Rattle.numeric.proofs.Lists.{length-of}
+use Rattle.numeric.proofs.Inside.{count-by, last-far}
 use Rattle.numeric.proofs.Bounds.{first-far, first-near}
 use Rattle.numeric.proofs.plan_sorted.Statement.{statement}
 use Rattle.numeric.proofs.plan_sorted.Tie as tie
@@ -56,20 +56,20 @@ index-near c =
 first-fits : (c : tie.After-first-index) → SFits w32 (c .first-index .result)
 first-fits c = fits32 _ (omega (arith, index-near c))
 
-last-index-requires : tie.Need-last-index-requires
-last-index-requires c κs =
+last-by-requires : tie.Need-last-by-requires
+last-by-requires c κs =
     let at = c .before .before .before .before .before in
     rw (toZ-ofZ (at .fits .hi)) (at .pre .1 .0, step-range (c .before))
 
-last-is : (c : tie.After-last-index) → c .last-index .result ≡ lastIndex (c .before .before .before .before .before .before .args .hi) (c .before .before .step-at .result)
-last-is c = rw (toZ-ofZ (c .before .before .before .before .before .before .fits .hi)) at (c .last-index .ensures)
+last-is : (c : tie.After-last-by) → c .last-by .result ≡ lastBy (c .before .before .before .before .before .before .args .choice) (c .before .before .before .before .before .before .args .hi) (c .before .before .step-at .result)
+last-is c = rw (toZ-ofZ (c .before .before .before .before .before .before .fits .hi)) at (c .last-by .ensures)
 
-last-near : (c : tie.After-last-index) → natAbs (c .last-index .result) ≤ 1000000000
+last-near : (c : tie.After-last-by) → natAbs (c .last-by .result) ≤ 1000000000
 last-near c =
     let at = c .before .before .before .before .before .before in
-    rw (last-is c) (omega (arith, quotient-far (at .args .hi) (pos (c .before .before .step-at .result)), at .pre .1 .0))
+    rw (last-is c) (omega (arith, last-far (at .args .choice) (at .args .hi) (c .before .before .step-at .result) (step-range (c .before .before) .0), at .pre .1 .0))
 
-last-fits : (c : tie.After-last-index) → SFits w32 (c .last-index .result)
+last-fits : (c : tie.After-last-by) → SFits w32 (c .last-by .result)
 last-fits c = fits32 _ (omega (arith, last-near c))
 
 how-many-requires : tie.Need-how-many-requires
@@ -101,19 +101,19 @@ module _ (c : tie.After-how-many) where
   unfolding at
   first-mark = fits32 _ (omega (arith, first-near (at .args .lo) (at .args .hi) step (at .pre .0) (at .pre .1 .0) (range .0) (range .1)))
 
-  n-is : c .how-many .result ≡ length (marks (at .args .lo) (at .args .hi) (at .args .m))
-  unfolding at step marksFor
+  n-is : c .how-many .result ≡ length (marksBy (at .args .choice) (at .args .lo) (at .args .hi) (at .args .m))
+  unfolding at step
   n-is =
       let lo = at .args .lo in
       let hi = at .args .hi in
       (rw (toZ-ofZ (first-fits (c .before .before)), toZ-ofZ (last-fits (c .before)), first-is (c .before .before), last-is (c .before)) at (c .how-many .ensures))
-      ∙ sym (rw (at .pre .1 .1, step-is, length-of))
+      ∙ sym (count-by (at .args .choice) lo hi (at .args .m) ∙ rw (at .pre .1 .1, step-is))
 
   index-whole : toZ w32 (ofZ w32 (c .before .before .first-index .result)) ≡ firstIndex (at .args .lo) step
   unfolding at step
   index-whole = toZ-ofZ (first-fits (c .before .before)) ∙ first-is (c .before .before)
 
-  planned : planOf (at .args .lo) (at .args .hi) (at .args .m) ≡ record { first = firstIndex (at .args .lo) step *ℤ pos step; step = pos step; count = c .how-many .result }
+  planned : planWith (at .args .choice) (at .args .lo) (at .args .hi) (at .args .m) ≡ record { first = firstIndex (at .args .lo) step *ℤ pos step; step = pos step; count = c .how-many .result }
   planned = rw (← n-is, at .pre .1 .1, step-is)
 
 cast-t : tie.Need-cast-t
@@ -137,7 +137,7 @@ plan-sorted-spec =
     returns
     step-at-requires
     first-index-requires
-    last-index-requires
+    last-by-requires
     how-many-requires
     cast-t
     mul-f

@@ -7,7 +7,7 @@ use lib.ListN.{length}
 use mir.Facts.{toZ-ofZ}
 use mir.Syntax.{w32}
 use mir.Val.{ofZ, toZ, SFits}
-use Rattle.ruler.specs.Bytes.{axisBody, laid}
+use Rattle.ruler.specs.Bytes.{kindByte, axisBody, laid}
 use Rattle.ruler.proofs.Lists.{axis-same}
 use borrow.Author.Needs.{needs}
 use Rattle.ruler.proofs.axis_body.Statement.{statement}
@@ -44,7 +44,7 @@ returns c =
     let two = three .before .before in
     let one = two .before .before in
     let at = one .before .before .before in (
-      ap (λ (l : List ℕ). 1 ∷ l) (c .axis-words .ensures
+      ap (λ (l : List ℕ). kindByte (at .args .d .choice) ∷ l) (c .axis-words .ensures
           ∙ axis-same (at .args .d .m)
           (same-bits {z = at .args .d .a} (record { sfits = one .before .struct-told .given .0 .1 }) (one .bits .ensures))
           (same-bits {z = at .args .d .b} (record { sfits = two .before .struct-told2 .given .1 .0 .1 }) (two .bits2 .ensures))

@@ -55,48 +55,40 @@ module _ (c : tie.After-p) where
   others = marksOf (at .args .d) (c .p .given .0 .0) (c .p .given .0 .0 .count)
 
 -- what was compared: the first record, and the others
-first-told : (c : tie.After-is-record) → let q = c .before .before .before .before .before .before .before in c .is-record .result ≡ sameBytes (take 25 (l q)) (first q)
+first-told : (c : tie.After-is-head) → let q = c .before .before .before .before .before in c .is-head .result ≡ sameBytes (take 25 (l q)) (first q)
 unfolding first
-first-told c =
-    let made = c .before .before .before in
-    c .is-record .ensures ∙ ap (sameBytes (take 25 (l (made .before .before .before .before)))) (made .axis-body .ensures .0)
+first-told c = c .is-head .ensures
 
-others-told : (c : tie.After-has-marks) → let q = c .before .before .before .before .before .before .before .before .before .before in c .has-marks .result ≡ sameBytes (drop 25 (l q)) (others q)
+others-told : (c : tie.After-has-marks) → let q = c .before .before .before .before .before .before .before .before in c .has-marks .result ≡ sameBytes (drop 25 (l q)) (others q)
 unfolding others
 others-told c =
-    let q = c .before .before .before .before .before .before .before .before .before .before in
+    let q = c .before .before .before .before .before .before .before .before in
     c .has-marks .ensures ∙ ap (λ (t : List ℕ). sameBytes t (others q)) (rest-is 25 (l q))
 
 returns : tie.Need-returns
 returns c =
     let q = c .before .before .before in
-    sym (seen-other _ (at q .args .d) (plan-is q) (λ e. c .if1 .taken (ap length e ∙ ruler-long _ _ _ _ (plan-is q))))
+    sym (seen-other _ (at q .args .d) (plan-is q) (λ e. c .if1 .taken (ap length e ∙ ruler-long _ _ _ _ _ (plan-is q))))
 
-axis-body-requires : tie.Need-axis-body-requires
-axis-body-requires c κs = search needs
+sub-is-head : tie.Need-sub-is-head
+sub-is-head c = search needs
 
-slice-aggregate-is-record : tie.Need-slice-aggregate-is-record
-slice-aggregate-is-record c = search needs
+part-is-head-start : tie.Need-part-is-head-start
+part-is-head-start c = search needs
 
-sub-is-record : tie.Need-sub-is-record
-sub-is-record c = search needs
+part-is-head-end : tie.Need-part-is-head-end
+part-is-head-end c = search needs
 
-part-is-record-start : tie.Need-part-is-record-start
-part-is-record-start c = search needs
-
-part-is-record-end : tie.Need-part-is-record-end
-part-is-record-end c = search needs
-
-is-record-requires : tie.Need-is-record-requires
-is-record-requires c κs = search needs
+is-head-requires : tie.Need-is-head-requires
+is-head-requires c κs = search needs
 
 returns-2 : tie.Need-returns-2
 unfolding first
 returns-2 c =
     let told = c .before in
-    let q = told .before .before .before .before .before .before .before in
-    let agree : l q ≡ bytesOf (at q .args .d) → told .is-record .result ≡ true = λ e. first-told told ∙ same-yes _ _ (ap (take 25) e ∙ ruler-head _ _ _ _ (plan-is q)) in
-    sym (seen-other _ (at q .args .d) (plan-is q) (λ e. subst T (sym (agree e) ∙ not-true (told .is-record .result) (c .if2 .taken)) tt))
+    let q = told .before .before .before .before .before in
+    let agree : l q ≡ bytesOf (at q .args .d) → told .is-head .result ≡ true = λ e. first-told told ∙ same-yes _ _ (ap (take 25) e ∙ ruler-head _ _ _ _ _ (plan-is q)) in
+    sym (seen-other _ (at q .args .d) (plan-is q) (λ e. subst T (sym (agree e) ∙ not-true (told .is-head .result) (c .if2 .taken)) tt))
 
 sub-has-marks : tie.Need-sub-has-marks
 sub-has-marks c = search needs
@@ -109,15 +101,15 @@ part-has-marks-end c = search needs
 
 has-marks-requires : tie.Need-has-marks-requires
 has-marks-requires c κs =
-    let q = c .before .before .before .before .before .before .before .before .before in
-    (rw (rest-is 25 (l q), length-drop) (omega arith), is-drawn _ _ _ _ (plan-is q) .reachable)
+    let q = c .before .before .before .before .before .before .before in
+    (rw (rest-is 25 (l q), length-drop) (omega arith), is-drawn _ _ _ _ _ (plan-is q) .reachable)
 
 returns-3 : tie.Need-returns-3
 unfolding others
 returns-3 c =
     let told = c .before in
-    let q = told .before .before .before .before .before .before .before .before .before .before in
-    let agree : l q ≡ bytesOf (at q .args .d) → told .has-marks .result ≡ true = λ e. others-told told ∙ same-yes _ _ (ap (drop 25) e ∙ ruler-rest _ _ _ _ (plan-is q)) in
+    let q = told .before .before .before .before .before .before .before .before in
+    let agree : l q ≡ bytesOf (at q .args .d) → told .has-marks .result ≡ true = λ e. others-told told ∙ same-yes _ _ (ap (drop 25) e ∙ ruler-rest _ _ _ _ _ (plan-is q)) in
     sym (seen-other _ (at q .args .d) (plan-is q) (λ e. subst T (sym (agree e) ∙ not-true (told .has-marks .result) (c .if3 .taken)) tt))
 
 returns-4 : tie.Need-returns-4
@@ -130,10 +122,10 @@ unfolding first others
 returns-5 c =
     let told = c .before in
     let two = told .before .before in
-    let q = two .before .before .before .before .before .before .before .before in
-    let one = same-equal _ _ (sym (first-told (two .before)) ∙ not-false (two .before .is-record .result) (two .if2 .left)) in
+    let q = two .before .before .before .before .before .before in
+    let one = same-equal _ _ (sym (first-told (two .before)) ∙ not-false (two .before .is-head .result) (two .if2 .left)) in
     let rest = same-equal _ _ (sym (others-told told) ∙ not-false (told .has-marks .result) (c .if3 .left)) in
-    sym (seen-same (l q) (at q .args .d) (plan-is q) (ruler-whole _ _ _ _ (plan-is q) (l q) one rest))
+    sym (seen-same (l q) (at q .args .d) (plan-is q) (ruler-whole _ _ _ _ _ (plan-is q) (l q) one rest))
 
 pub compare-spec : {M : Type 1} → statement M
 compare-spec =
@@ -146,12 +138,10 @@ compare-spec =
     mul-if1
     add-if1
     returns
-    axis-body-requires
-    slice-aggregate-is-record
-    sub-is-record
-    part-is-record-start
-    part-is-record-end
-    is-record-requires
+    sub-is-head
+    part-is-head-start
+    part-is-head-end
+    is-head-requires
     returns-2
     sub-has-marks
     part-has-marks-start

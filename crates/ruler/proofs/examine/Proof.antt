@@ -37,12 +37,18 @@ signed-requires-4 c κs = search needs
 word-at-requires-5 : tie.Need-word-at-requires-5
 word-at-requires-5 c κs = search needs
 
+shared-slice-read-choice-of : tie.Need-shared-slice-read-choice-of
+shared-slice-read-choice-of c = search needs
+
+choice-of-requires : tie.Need-choice-of-requires
+choice-of-requires c κs = search needs
+
 compare-requires : tie.Need-compare-requires
 compare-requires c κs = search needs
 
 returns-2 : tie.Need-returns-2
 returns-2 c =
-    let five = c .before in
+    let five = c .before .before .before in
     let four = five .before in
     let three = four .before .before in
     let two = three .before .before in
@@ -51,7 +57,7 @@ returns-2 c =
     let b-is = read-is (two .signed2 .ok) (two .signed2 .ensures) (two .before .word-at2 .ensures) in
     let p-is = read-is (three .signed3 .ok) (three .signed3 .ensures) (three .before .word-at3 .ensures) in
     let q-is = read-is (four .signed4 .ok) (four .signed4 .ensures) (four .before .word-at4 .ensures) in
-    rw (a-is, b-is, p-is, q-is, five .word-at5 .ensures) at (c .compare .ensures)
+    rw (a-is, b-is, p-is, q-is, five .word-at5 .ensures, c .before .choice-of .ensures) at (c .compare .ensures)
 
 pub examine-spec : {M : Type 1} → statement M
 examine-spec =
@@ -67,5 +73,7 @@ examine-spec =
     word-at-requires-4
     signed-requires-4
     word-at-requires-5
+    shared-slice-read-choice-of
+    choice-of-requires
     compare-requires
     returns-2)

@@ -5,8 +5,8 @@ use mir.Facts.{toZ-ofZ}
 use mir.Syntax.{w32}
 use mir.Val.{toZ, ofZ}
 use Rattle.ranged1d.specs.Admitted.{endsAdmitted, limitAdmitted}
-use Rattle.numeric.specs.Calls.{wholePlan}
-use Rattle.ruler.specs.Rule.{rulerPlan}
+use Rattle.numeric.proofs.Inside.{plan-by}
+use Rattle.ruler.specs.Rule.{rulerPlanBy}
 use borrow.Author.Needs.{needs}
 use borrow.Author.Tests.{not-true, not-false}
 use Rattle.ruler.proofs.planned.Statement.{statement}
@@ -34,29 +34,31 @@ admitted-requires : tie.Need-admitted-requires
 admitted-requires c κs = search needs
 
 returns : tie.Need-returns
-unfolding rulerPlan
+unfolding rulerPlanBy
 returns c = rw (sym (ends-told (c .before)) ∙ not-true (c .before .admitted .result) (c .if1 .taken))
 
 admitted-requires-2 : tie.Need-admitted-requires-2
 admitted-requires-2 c κs = search needs
 
 returns-2 : tie.Need-returns-2
-unfolding rulerPlan
+unfolding rulerPlanBy
 returns-2 c =
     let one = c .before .before in
     let no : limitAdmitted (at (one .before .before) .args .d .limit) ≡ false = sym (c .before .admitted2 .ensures) ∙ not-true (c .before .admitted2 .result) (c .if2 .taken) in
     rw (ends-yes one, no)
 
-plan-requires : tie.Need-plan-requires
-plan-requires c κs = search needs
+plan-by-requires : tie.Need-plan-by-requires
+plan-by-requires c κs = search needs
 
 returns-3 : tie.Need-returns-3
-unfolding rulerPlan wholePlan
+unfolding rulerPlanBy
 returns-3 c =
     let two = c .before in
     let one = two .before .before in
     let film : limitAdmitted (at (one .before .before) .args .d .limit) ≡ true = sym (two .before .admitted2 .ensures) ∙ not-false (two .before .admitted2 .result) (two .if2 .left) in
-    rw (ends-yes one, film) (rw (a-is (one .before .before), b-is (one .before .before), ends-yes one) at (c .plan .ensures))
+    let d = at (one .before .before) .args .d in
+    let told = (rw (a-is (one .before .before), b-is (one .before .before)) at (c .plan-by .ensures)) ∙ plan-by (d .choice) (d .a) (d .b) (d .m) in
+    rw (ends-yes one, film) (rw (ends-yes one) at told)
 
 pub planned-spec : {M : Type 1} → statement M
-planned-spec = tie.close (tie.spec admitted-requires returns admitted-requires-2 returns-2 plan-requires returns-3)
+planned-spec = tie.close (tie.spec admitted-requires returns admitted-requires-2 returns-2 plan-by-requires returns-3)

@@ -47,7 +47,7 @@ module _ (c : tie.After-p) where
 returns : tie.Need-returns
 returns c =
     let q = c .before .before .before in
-    sym (write-short _ _ _ _ (plan-is q) (old q) (c .if1 .taken))
+    sym (write-short _ _ _ _ _ (plan-is q) (old q) (c .if1 .taken))
 
 add-records : tie.Need-add-records
 add-records c = search needs
@@ -56,13 +56,13 @@ put-records-requires : tie.Need-put-records-requires
 put-records-requires c κs =
     let left = c .before in
     let q = left .before .before .before in
-    (omega (arith, left .if1 .left), λ k h. is-drawn _ _ _ _ (plan-is q) .reachable k (omega (arith, h)))
+    (omega (arith, left .if1 .left), λ k h. is-drawn _ _ _ _ _ (plan-is q) .reachable k (omega (arith, h)))
 
 returns-2 : tie.Need-returns-2
 returns-2 c =
     let r = c .before in
     let at = r .before .before .before .before in
-    sym (write-refused _ _ _ _ (at .args .out .now) (sym (r .before .before .planned .ensures) ∙ ap tellPlanned (r .r .given .1)))
+    sym (write-refused _ _ _ _ _ (at .args .out .now) (sym (r .before .before .planned .ensures) ∙ ap tellPlanned (r .r .given .1)))
 
 same-length : tie.Need-same-length
 same-length c = search needs
@@ -74,7 +74,7 @@ returns-3 c =
     let q = left .before .before .before in
     let n = p q .count in
     ap (λ (l : List ℕ). (given (25 + 20 * n, n), l)) (all-put (at q .args .d) (plan-is q) (old q) (filled .put-records .ensures))
-    ∙ sym (write-fits _ _ _ _ (plan-is q) (old q) (left .if1 .left))
+    ∙ sym (write-fits _ _ _ _ _ (plan-is q) (old q) (left .if1 .left))
 
 pub write-draft-spec : {M : Type 1} → statement M
 write-draft-spec =

@@ -1,4 +1,4 @@
--- `numeric::RangedCoordi32::plan` meets its contract. Assumes nothing.
+-- `numeric::RangedCoordi32::plan_by` meets its contract. Assumes nothing.
 use mathlib.Core.Path.{_≡_, sym, _∙_}
 use mathlib.Core.Bool.{true}
 use borrow.Author.Needs.{needs}
@@ -8,11 +8,11 @@ use mir.Facts.{toZ-ofZ}
 use mir.Syntax.{w32}
 use mir.Val.{toZ, ofZ}
 use Rattle.ranged1d.proofs.Whole.{other-way}
-use Rattle.numeric.specs.Calls.{wholePlan}
+use Rattle.numeric.proofs.Inside.{plan-by, turned-plan}
 use Rattle.numeric.specs.Whole.{endsAdmitted}
 use Rattle.numeric.proofs.Readings.{ends-near}
-use Rattle.numeric.proofs.RangedCoordi32.plan.Statement.{statement}
-use Rattle.numeric.proofs.RangedCoordi32.plan.Tie as tie
+use Rattle.numeric.proofs.RangedCoordi32.plan_by.Statement.{statement}
+use Rattle.numeric.proofs.RangedCoordi32.plan_by.Tie as tie
 
 admitted-requires : tie.Need-admitted-requires
 admitted-requires c κs = search needs
@@ -38,8 +38,7 @@ unfolding a b
 ends c = sym (c .before .admitted .ensures) ∙ not-false _ (c .if1 .left)
 
 returns : tie.Need-returns
-unfolding wholePlan
-returns c = rw (sym (c .before .admitted .ensures) ∙ not-true _ (c .if1 .taken))
+returns c = rw (plan-by, sym (c .before .admitted .ensures) ∙ not-true _ (c .if1 .taken))
 
 plan-sorted-requires : tie.Need-plan-sorted-requires
 unfolding a b
@@ -56,21 +55,21 @@ plan-sorted-requires-2 c κs =
     rw (a-is at, b-is at) (near .1, (near .0, other-way (a at) (b at) (rw (a-is at, b-is at) at (c .if2 .left))))
 
 returns-2 : tie.Need-returns-2
-unfolding a b wholePlan
+unfolding a b
 returns-2 c =
     let at = c .before .before .before .before in
     let way = rw (a-is at, b-is at) at (c .before .if2 .taken) in
-    rw (ends (c .before .before), way) (rw (a-is at, b-is at, way) at (c .plan-sorted .ensures))
+    rw (plan-by, ends (c .before .before), way) (rw (a-is at, b-is at, way) at (c .plan-sorted .ensures))
 
 returns-3 : tie.Need-returns-3
-unfolding a b wholePlan
+unfolding a b
 returns-3 c =
     let at = c .before .before .before .before in
     let way = rw (a-is at, b-is at) at (c .before .if2 .left) in
-    rw (ends (c .before .before), way) (rw (a-is at, b-is at, other-way (a at) (b at) way) at (c .plan-sorted2 .ensures))
+    rw (plan-by, ends (c .before .before), ← turned-plan _ (a at) (b at) _ way, way) (rw (a-is at, b-is at) at (c .plan-sorted2 .ensures))
 
-pub plan-spec : {M : Type 1} → statement M
-plan-spec =
+pub plan-by-spec : {M : Type 1} → statement M
+plan-by-spec =
     tie.close
     (tie.spec
     admitted-requires
