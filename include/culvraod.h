@@ -630,7 +630,8 @@ int32_t culv_ruler_pair(const uint8_t *left, size_t left_len,
  * from zero, without the zeros at their end, and filled up with zeros. Without
  * decimals the number is cut toward zero: 2.9 with max_decimal 0 is "2".
  * Where rounding makes a whole one of the decimals, it is carried into the
- * whole part. A negative zero is "-0".
+ * whole part. A label whose digits are all zero carries no minus sign:
+ * -0.000001 with max_decimal 5 and min_decimal 1 is "0.0".
  *
  * 0: *written is the number of bytes of the label.
  * Refused:

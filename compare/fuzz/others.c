@@ -210,6 +210,15 @@ static size_t label_length(double n, uint32_t max_decimal, uint32_t min_decimal)
     return written;
 }
 
+/* Request (b): a minus sign only on a number below zero, and never before zeros alone. */
+static int sign_right(double n, const uint8_t *text, size_t length)
+{
+    size_t k = 0;
+    while (k < length && (text[k] < '1' || '9' < text[k]))
+        k++;
+    return text[0] != '-' || (n < 0 && k < length);
+}
+
 static void label(void)
 {
     double n = draw_real("n");
@@ -223,6 +232,7 @@ static void label(void)
     int32_t code = CALLED(culv_label(n, max_decimal, min_decimal, out, len, written));
     int32_t wanted = lower(fabs(n) < 0x1p53 ? 0 : 11, max_decimal > 10 || min_decimal > 20 ? 12 : 0);
     counted(code, out, 1, written, length);
+    demand(code != 0 || sign_right(n, out, length), "a minus sign where there may be none");
     settle(code, lower(wanted, len < length ? 13 : ANSWERED));
 }
 

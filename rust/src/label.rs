@@ -25,7 +25,8 @@ pub struct FloatPrettyPrinter {
 }
 
 impl FloatPrettyPrinter {
-    /// The label of `n`, which is written to the beginning of `out`.
+    /// The label of `n`, which is written to the beginning of `out`. A label whose digits are all
+    /// zero carries no minus sign.
     ///
     /// Refused as [`Refusal::NotPrintable`], [`Refusal::TooManyDecimals`] or
     /// [`Refusal::OutTooShort`].
@@ -37,6 +38,7 @@ impl FloatPrettyPrinter {
     /// let mut out = [0; LONGEST];
     /// assert_eq!(printer.print(3.0, &mut out), Ok("3.0"));
     /// assert_eq!(printer.print(1.25, &mut out), Ok("1.25"));
+    /// assert_eq!(printer.print(-0.000001, &mut out), Ok("0.0"));
     /// ```
     pub fn print(self, n: f64, out: &mut [u8]) -> Result<&str, Refusal> {
         let (most, least) = (self.max_decimal, self.min_decimal);
@@ -63,10 +65,12 @@ mod tests {
         let rows = [
             (3.0, 5, 1, "3.0"),
             (1.25, 5, 1, "1.25"),
-            (-0.000001, 5, 1, "-0.0"),
+            (-0.000001, 5, 1, "0.0"),
+            (-0.5, 0, 1, "0.0"),
+            (-0.5, 1, 1, "-0.5"),
             (0.015, 2, 0, "0.02"),
             (2.9, 0, 0, "2"),
-            (-0.0, 10, 0, "-0"),
+            (-0.0, 10, 0, "0"),
             (-1e15, 10, 20, "-1000000000000000.00000000000000000000"),
         ];
         for (n, h, e, label) in rows {

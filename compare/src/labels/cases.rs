@@ -88,6 +88,21 @@ pub fn drawn(random: &mut Random) -> Asked {
     asked(n, h, e)
 }
 
+/// A number below zero that is nearer to it than the tolerance, or not much further.
+#[cfg(feature = "library")]
+pub fn vanishing(random: &mut Random) -> Asked {
+    let h = random.below(11) as u32;
+    let tolerance = 1.0 / 10u64.pow(h) as f64;
+    let size = match random.below(8) {
+        0 => 0.0,
+        1 => f64::from_bits(random.below(1 << 52)),
+        2 => nudged(random, tolerance),
+        3 => tolerance * (1.0 + random.unit()),
+        _ => tolerance * random.unit(),
+    };
+    asked(-size, h, random.below(21) as u32)
+}
+
 /// Every number above, and its neighbours, with every number of decimals.
 #[cfg(feature = "library")]
 pub fn all() -> impl Iterator<Item = Asked> {

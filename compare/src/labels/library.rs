@@ -11,6 +11,7 @@ use crate::tally::{ensure, Tally};
 use crate::timing::{report_batch, written};
 
 const DRAWN: usize = 20_000_000;
+const VANISHING: usize = 2_000_000;
 const BATCH: usize = 1_000_000;
 
 /// How many decimals the timed labels have at most and at least.
@@ -88,7 +89,10 @@ fn check(asked: Asked, out: &mut Lent<u8>) -> Result<(), String> {
 pub fn compare() -> bool {
     let mut tally = Tally::new("label");
     let mut random = Random::new();
-    let drawn = (0..DRAWN).map(|_| cases::drawn(&mut random));
+    let drawn = (0..DRAWN + VANISHING).map(|k| match k < DRAWN {
+        true => cases::drawn(&mut random),
+        false => cases::vanishing(&mut random),
+    });
     let out = &mut Lent::new();
     let worked = cases::WORKED.iter().copied().chain(cases::all());
     for asked in worked.chain(drawn) {

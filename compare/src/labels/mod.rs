@@ -45,14 +45,15 @@ impl Asked {
         printer.print(self.n)
     }
 
-    /// What the call must give: the rule's label, if plotters does not gainsay it. plotters may
-    /// panic only where the decimals fill up to a one.
+    /// What the call must give: the rule's label, if plotters does not gainsay it. By request (b)
+    /// plotters' text is stripped first of a minus sign before zeros alone. plotters may panic only
+    /// where the decimals fill up to a one.
     fn wanted(self) -> Result<Result<String, i32>, String> {
         let label = match rule::label(self) {
             Err(refusal) => return Ok(Err(refusal)),
             Ok(label) => label,
         };
-        let agrees = match caught(|| self.plotters()) {
+        let agrees = match caught(|| self.plotters()).map(rule::zero_unsigned) {
             Some(given) if given == label.text => return Ok(Ok(label.text)),
             Some(given) => given,
             None if label.fills_up => return Ok(Ok(label.text)),

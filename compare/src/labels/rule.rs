@@ -1,4 +1,5 @@
-//! The rule for labels, from the scope document's own words, level by level and without recursion.
+//! The rule for labels, from the scope document's own words, level by level and without recursion,
+//! with the sign as request (b) has it.
 
 use super::Asked;
 
@@ -44,6 +45,15 @@ fn shortened(n: f64, h: u32) -> (f64, usize) {
     (value, floors.len())
 }
 
+/// A text whose digits are all zero carries no minus sign; any other is the text that it was.
+pub fn zero_unsigned(text: String) -> String {
+    let zeros = !text.contains(|c: char| ('1'..='9').contains(&c));
+    match text.strip_prefix('-') {
+        Some(rest) if zeros => rest.into(),
+        _ => text,
+    }
+}
+
 pub fn label(asked: Asked) -> Result<Label, i32> {
     refused(asked)?;
     let (value, levels) = shortened(asked.n, asked.h);
@@ -65,6 +75,6 @@ pub fn label(asked: Asked) -> Result<Label, i32> {
     }
     let sign = if value.is_sign_negative() { "-" } else { "" };
     let point = if shown.is_empty() { "" } else { "." };
-    let text = format!("{sign}{whole}{point}{shown}");
+    let text = zero_unsigned(format!("{sign}{whole}{point}{shown}"));
     Ok(Label { text, fills_up })
 }

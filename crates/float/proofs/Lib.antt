@@ -8,3 +8,4 @@ pub mod Casts
 pub mod Enough
 pub mod Printed
 pub mod Worked
+pub mod Zeros

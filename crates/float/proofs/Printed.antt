@@ -1,4 +1,4 @@
--- The rule of `print`, case by case; that the parts are written as the rule says; and that a label has at most 38 bytes. Assumes nothing.
+-- The rule of `print`, case by case; that the parts are written as the rule says; and that plotters' text has at most 38 bytes. Assumes nothing.
 use mathlib.Core.Path.{_≡_, refl}
 use mathlib.Core.Bool.{Bool, true, false, cond}
 use mathlib.Core.List.{List, []}
@@ -15,7 +15,7 @@ use Rattle.decimal.specs.Print.{longNatural}
 use Rattle.decimal.proofs.Digits.{digits-few}
 use Rattle.float.specs.declared.Parts.{Parts}
 use Rattle.float.specs.Shorten.{shorten, tolerance}
-use Rattle.float.specs.Text.{signOf, wholePart, decimalsOf, fillsUp, decimals, composed, shown, labelOf}
+use Rattle.float.specs.Text.{signOf, wholePart, decimalsOf, fillsUp, decimals, composed, shown, plottersText, labelOf}
 use Rattle.float.specs.Calls.{printable, labelPrint}
 use Rattle.float.specs.Steps.{parts, partsOf, trimmed, bytesOf}
 use Rattle.float.proofs.Cases.{Few, trim-few, tail-le, shorten-few}
@@ -73,8 +73,8 @@ bytes-shown x (suc p) e l = go (fillsUp x (suc p)) refl
     go true h = refl
     go false h = bytes-kept (signOf x) (wholePart x) (suc p) (decimalsOf x (suc p)) e l (leb-false (10 ^ suc p) (decimalsOf x (suc p)) h)
 
--- ---- a label has at most 38 bytes: a sign, 16 digits, and 21 bytes of the point and the decimals
-whole-grows : (x : Float) (p : ℕ) → partsOf x p .whole ≤ wholePart x + 1
+-- ---- plotters' text has at most 38 bytes: a sign, 16 digits, and 21 bytes of the point and the decimals
+pub whole-grows : (x : Float) (p : ℕ) → partsOf x p .whole ≤ wholePart x + 1
 unfolding partsOf
 whole-grows x p = chosen (λ (t : Parts). t .whole ≤ wholePart x + 1) (fillsUp x p) (omega arith) kept
   where
@@ -91,9 +91,9 @@ shown-short x p e w l k =
     rw (← bytes-shown x p e l, bytes-length t e (f .1))
     (omega (arith, front-most (t .minus) (t .whole), tail-le (t .places) e (omega (arith, f .0)) k))
 
-pub label-short : (n : Float) (h e : ℕ) → fits binary64 n ≡ true → printable n ≡ true → h ≤ 10 → e ≤ 20 → length (labelOf n h e) ≤ 38
-unfolding labelOf
-label-short n h e t a l k =
+pub text-short : (n : Float) (h e : ℕ) → fits binary64 n ≡ true → printable n ≡ true → h ≤ 10 → e ≤ 20 → length (plottersText n h e) ≤ 38
+unfolding plottersText
+text-short n h e t a l k =
     let r = shorten h n (tolerance h) in
     let f = shorten-few h n (tolerance h) in
     shown-short (r .value) (r .levels) e (stays-near h n (tolerance h) t (printable-at-most n a)) (omega arith) k

@@ -1,5 +1,5 @@
 -- What private functions promise on the way to `labelPrint`, and what they ask: no part of the rule. Assumes nothing.
-use mathlib.Core.Bool.{Bool, cond, _&&_}
+use mathlib.Core.Bool.{Bool, false, cond, _&&_}
 use mathlib.Core.List.{List, [], _++_}
 use Prim.Native.Nat.{ℕ, zero, suc, _+_, _/_, _%_, max}
 use lib.Dec.{eqb}
@@ -20,6 +20,10 @@ unfoldable pub partsOf : Float → ℕ → Parts
 partsOf x p =
     cond (fillsUp x p) (parts (signOf x) (wholePart x + 1) 0 0)
     (trimmed (signOf x) (wholePart x) p (decimalsOf x p))
+
+-- parts of which every digit is zero, a whole part of 0 and no decimals, lose their sign; of decimals the last is no zero (`parts-cut` of proofs/Zeros)
+unfoldable pub unsignedParts : Parts → Parts
+unsignedParts t = cond (eqb (t .whole) 0 && eqb (t .places) 0) (parts false 0 0 0) t
 
 -- k decimals, which are the digits of d
 abbrev pub placed : ℕ → ℕ → List ℕ

@@ -1,20 +1,22 @@
--- The text of a shortened number: 01 "Whole reading, segments, real labels", its paragraph on real labels, after `float_to_string` of plotters. Numbers
--- are taken to whole numbers by floor and by round, without a bound, so the rule has no cast that could cut. Assumes nothing.
-use mathlib.Core.Bool.{Bool, false, cond}
+-- The text of a shortened number: 01 "Whole reading, segments, real labels", its paragraph on real labels, after `float_to_string` of plotters; and 02
+-- (b), which drops a sign from it. Numbers are taken to whole numbers by floor and by round, without a bound, so the rule has no cast that could cut.
+-- Assumes nothing.
+use mathlib.Core.Bool.{Bool, false, cond, not, _&&_}
 use mathlib.Core.List.{List, [], _∷_, _++_}
 use Prim.Native.Nat.{ℕ, zero, suc, _+_, _-_, _^_}
-use lib.Dec.{leb, eqb}
+use lib.Dec.{leb, ltb, eqb}
 use lib.IntN.{pos, natAbs}
-use lib.ListN.{length, replicate}
+use lib.ListN.{length, drop, replicate}
 use lib.Ieee.{Float, nan, inf, fin, binary64, ofInt, sub, mul}
 use Rattle.rounding.specs.Integral.{floors, halves, floorOf}
 use Rattle.rounding.specs.Within.{wholeOf}
-use Rattle.decimal.specs.Print.{digit, longNatural, signedDigits, filledWith}
+use Rattle.ranged1d.specs.Numbers.{every}
+use Rattle.decimal.specs.Print.{digit, minus, longNatural, signedDigits, filledWith}
 use Rattle.float.specs.declared.Shortened.{Shortened}
 use Rattle.float.specs.Shorten.{shorten, tolerance}
 
 -- ---- a number taken apart
--- whether it has a minus sign; a zero keeps its own, so that negative zero prints one
+-- whether it has a minus sign; a zero keeps its own
 abbrev pub signOf : Float → Bool
 signOf nan = false
 signOf (inf s) = s
@@ -93,6 +95,32 @@ shown x p e =
 abbrev pub shownOf : Shortened → ℕ → List ℕ
 shownOf r e = shown (r .value) (r .levels) e
 
--- the label of n: what n is shortened to with h levels, and zeros until there are e decimals
+-- plotters' text of n: what n is shortened to with h levels, and zeros until there are e decimals
+unfoldable pub plottersText : Float → ℕ → ℕ → List ℕ
+plottersText n h e = shownOf (shorten h n (tolerance h)) e
+
+-- ---- 02 (b): no minus before zero
+-- a digit from 1 to 9
+abbrev pub isNonzero : ℕ → Bool
+isNonzero c = ltb nought c && leb c (digit 9)
+
+-- a text without such a digit: its digits are zeros, all of them
+abbrev pub allZero : List ℕ → Bool
+allZero t = every (λ c. not (isNonzero c)) t
+
+-- a text that begins with a minus sign
+abbrev pub hasMinus : List ℕ → Bool
+hasMinus [] = false
+hasMinus (c ∷ t) = eqb c minus
+
+-- a text without the minus sign that it begins with, if it does
+abbrev pub withoutMinus : List ℕ → List ℕ
+withoutMinus t = cond (hasMinus t) (drop 1 t) t
+
+-- a text whose digits are all zero carries no minus sign; any other is the text that it was
+unfoldable pub zeroUnsigned : List ℕ → List ℕ
+zeroUnsigned t = cond (allZero t) (withoutMinus t) t
+
+-- the label of n: plotters' text, without a minus sign where it shows nothing but zeros
 unfoldable pub labelOf : Float → ℕ → ℕ → List ℕ
-labelOf n h e = shownOf (shorten h n (tolerance h)) e
+labelOf n h e = zeroUnsigned (plottersText n h e)

@@ -12,7 +12,7 @@ ghost use Rattle.rounding.specs.Within.{AtMost};
 ghost use Rattle.float.specs.Shorten.{shorten};
 ghost use Rattle.float.specs.Text.{signOf, sizeOf};
 ghost use Rattle.float.specs.Calls.{tellLabel, printable, labelPrint};
-ghost use Rattle.float.specs.Steps.{trimmed, partsOf, placed, tailOf, tailLength, bytesOf};
+ghost use Rattle.float.specs.Steps.{trimmed, partsOf, unsignedParts, placed, tailOf, tailLength, bytesOf};
 
 // How a label is written: with at least min_decimal decimals, of which at most max_decimal say anything of the number.
 pub struct FloatPrettyPrinter {
@@ -164,6 +164,23 @@ fn take_apart(n: f64, p: u32) -> Parts
     trim(minus, whole, p, d)
 }
 
+// Without the sign where all digits are zeros: the whole part is 0, and decimals there are none, since the last of them is no zero.
+fn unsigned(t: Parts) -> Parts
+    ensures { λ r. ⌜ r ≡ unsignedParts t ⌝ }
+{
+    if t.whole == 0 {
+        if t.places == 0 {
+            return Parts {
+                minus: false,
+                whole: 0,
+                places: 0,
+                decimals: 0,
+            };
+        }
+    }
+    t
+}
+
 // Writes a text from `at` on, without its blanks.
 fn put_text(out: &mut [u8], at: usize, t: LongText)
     requires { ⌜ t .blanks ≤ 21 ⌝ ∗ ⌜ length (t .bytes) ≡ 21 ⌝ ∗ ⌜ at + (21 - t .blanks) ≤ length (now out) ⌝ }
@@ -283,6 +300,6 @@ impl FloatPrettyPrinter {
         let r = find_minimal_repr(n, eps, h);
         let value = r.value;
         let levels = r.levels;
-        float_to_string(take_apart(value, levels), e, out)
+        float_to_string(unsigned(take_apart(value, levels)), e, out)
     }
 }

@@ -13,12 +13,13 @@ use Rattle.rounding.proofs.Sizes.{in-float}
 use Rattle.float.specs.declared.Parts.{Parts}
 use Rattle.float.specs.declared.Shortened.{Shortened}
 use Rattle.float.specs.Shorten.{shorten, tolerance}
-use Rattle.float.specs.Text.{labelOf, shownOf}
+use Rattle.float.specs.Text.{labelOf, plottersText, zeroUnsigned, shownOf}
 use Rattle.float.specs.Calls.{printable}
-use Rattle.float.specs.Steps.{bytesOf}
+use Rattle.float.specs.Steps.{unsignedParts, bytesOf}
 use Rattle.float.proofs.Cases.{Few, pow-small, shorten-few}
 use Rattle.float.proofs.Bounds.{near, stays-near, printable-at-most}
-use Rattle.float.proofs.Printed.{print-11, print-12h, print-12e, print-some, parts-few, bytes-shown}
+use Rattle.float.proofs.Printed.{print-11, print-12h, print-12e, print-some, parts-few}
+use Rattle.float.proofs.Zeros.{parts-unsigned-few, bytes-unsigned}
 use borrow.Author.Needs.{needs}
 use Rattle.float.proofs.FloatPrettyPrinter.print.Statement.{statement}
 use Rattle.float.proofs.FloatPrettyPrinter.print.Tie as tie
@@ -80,21 +81,26 @@ find-minimal-repr-requires c κs = search needs
 take-apart-requires : tie.Need-take-apart-requires
 take-apart-requires c κs = (levels-few c, value-near c)
 
+unsigned-requires : tie.Need-unsigned-requires
+unsigned-requires c κs = search needs
+
 float-to-string-requires : tie.Need-float-to-string-requires
 float-to-string-requires c κs =
-    let p = c .before in
+    let u = c .before in
+    let p = u .before in
     let f = p .before in
-    let q : Few (f .find-minimal-repr .result .levels) (p .take-apart .result) = rw (p .take-apart .ensures) (parts-few (f .find-minimal-repr .result .value) (f .find-minimal-repr .result .levels)) in
+    let q : Few (f .find-minimal-repr .result .levels) (u .unsigned .result) = rw (u .unsigned .ensures, p .take-apart .ensures) (parts-unsigned-few (f .find-minimal-repr .result .levels) _ (parts-few (f .find-minimal-repr .result .value) (f .find-minimal-repr .result .levels))) in
     (omega (arith, levels-few f, q .0), (q .1, f .before .before .before .if3 .left))
 
 same-length : tie.Need-same-length
 same-length c = search needs
 
 returns-4 : tie.Need-returns-4
-unfolding labelOf
+unfolding labelOf plottersText
 returns-4 c =
     let g = c .before .before in
-    let p = g .before .before in
+    let u = g .before .before in
+    let p = u .before in
     let f = p .before in
     let w = f .before .before in
     let t = w .before in
@@ -103,7 +109,7 @@ returns-4 c =
     let n = s .args .n in
     let h = s .args .self .«max_decimal» in
     let e = s .args .self .«min_decimal» in
-    let b : bytesOf (p .take-apart .result) e ≡ labelOf n h e = ap (λ (r : Parts). bytesOf r e) (p .take-apart .ensures) ∙ bytes-shown (f .find-minimal-repr .result .value) (f .find-minimal-repr .result .levels) e (levels-few f) ∙ ap (λ (r : Shortened). shownOf r e) (found f) in
+    let b : bytesOf (u .unsigned .result) e ≡ labelOf n h e = ap (λ (r : Parts). bytesOf r e) (u .unsigned .ensures ∙ ap unsignedParts (p .take-apart .ensures)) ∙ bytes-unsigned (f .find-minimal-repr .result .value) (f .find-minimal-repr .result .levels) e (levels-few f) (value-near f) ∙ ap (λ (r : Shortened). zeroUnsigned (shownOf r e)) (found f) in
     g .float-to-string .ensures ∙ ap (λ (r : List ℕ). listWritten r (s .args .out .now)) b
     ∙ sym (print-some n h e (s .args .out .now) (labelled i) (t .before .if2 .left) (t .if3 .left))
 
@@ -119,6 +125,7 @@ print-spec =
     int-to-float-eps
     find-minimal-repr-requires
     take-apart-requires
+    unsigned-requires
     float-to-string-requires
     same-length
     returns-4)
