@@ -52,7 +52,9 @@ enum {
     CULV_NOT_PRINTABLE = 11,      /* NaN, an infinity, or a number of size 2^53 or more */
     CULV_TOO_MANY_DECIMALS = 12,  /* more decimals asked for than a label can have */
     CULV_OUT_TOO_SHORT = 13,      /* the list or the bytes to be written are too short */
-    CULV_NOT_A_RULER = 14         /* the bytes are no ruler */
+    CULV_NOT_A_RULER = 14,        /* the bytes are no ruler, or none of the kind that is asked for */
+    CULV_UNKNOWN_TWIST = 15,      /* the twist is neither 0 nor 1 */
+    CULV_TWIST_LOST = 16          /* a Z ruler is to move back */
 };
 
 /* ---- Axes of whole numbers and of indices ---- */
@@ -571,8 +573,50 @@ int32_t culv_ruler_write_inside(int32_t a, int32_t b, int32_t p, int32_t q,
                                 size_t *bytes, size_t *marks);
 
 /*
- * Reads a ruler of either kind: bytes that culv_ruler_write or
- * culv_ruler_write_inside gives for the numbers in them, and no others.
+ * Both with the thread's twist, 0 for S and 1 for Z, as a last byte of the
+ * axis's record, which then has 26: kind 5 is kind 1 with a twist, and kind 6
+ * is kind 3.
+ *
+ * 0: *bytes is the number of bytes written, 26 + 20 * *marks.
+ * Refused:
+ *    1, 2, 3, 13: as above;
+ *   15: twist is neither 0 nor 1.
+ */
+int32_t culv_ruler_write_twisted(int32_t a, int32_t b, int32_t p, int32_t q,
+                                 uint32_t m, uint32_t twist, uint8_t *out,
+                                 size_t len, size_t *bytes, size_t *marks);
+int32_t culv_ruler_write_inside_twisted(int32_t a, int32_t b, int32_t p,
+                                        int32_t q, uint32_t m, uint32_t twist,
+                                        uint8_t *out, size_t len, size_t *bytes,
+                                        size_t *marks);
+
+/*
+ * Moves a stored ruler of kind 1 or 3 over to kind 5 or 6, as S: out gets the
+ * bytes that the writer with the twist 0 gives for its numbers.
+ *
+ * 0: *written is the number of bytes, len + 1.
+ * Refused:
+ *   13: the bytes are such a ruler, and out_len is too small;
+ *   14: the bytes are no ruler of kind 1 or 3, whatever is lent.
+ */
+int32_t culv_ruler_upgrade(const uint8_t *bytes, size_t len, uint8_t *out,
+                           size_t out_len, size_t *written);
+
+/*
+ * Moves an S ruler of kind 5 or 6 back to kind 1 or 3: out gets its old bytes.
+ *
+ * 0: *written is the number of bytes, len - 1.
+ * Refused:
+ *   13: the bytes are a ruler of kind 5 or 6, and out_len is too small;
+ *   14: the bytes are no such ruler, whatever is lent;
+ *   16: the twist is Z.
+ */
+int32_t culv_ruler_downgrade(const uint8_t *bytes, size_t len, uint8_t *out,
+                             size_t out_len, size_t *written);
+
+/*
+ * Reads a ruler of any kind: bytes that one of the four writers gives for the
+ * numbers in them, and no others.
  *
  * 0: the numbers that it was written for, its step and the number of marks.
  * Refused:
@@ -583,8 +627,8 @@ int32_t culv_ruler_read(const uint8_t *bytes, size_t len, int32_t *a, int32_t *b
                         size_t *marks);
 
 /*
- * The same, and *kind is the kind, 1 or 3, and *twist the twist, which these
- * kinds do not have: 0.
+ * The same, and *kind is the kind, 1, 3, 5 or 6, and *twist the twist: 0 where
+ * the kind has none.
  */
 int32_t culv_ruler_read_kind(const uint8_t *bytes, size_t len, int32_t *a,
                              int32_t *b, int32_t *p, int32_t *q, uint32_t *m,
@@ -592,7 +636,7 @@ int32_t culv_ruler_read_kind(const uint8_t *bytes, size_t len, int32_t *a,
                              uint32_t *twist);
 
 /*
- * Where in a ruler of either kind the label of a mark lies, without its blanks.
+ * Where in a ruler of any kind the label of a mark lies, without its blanks.
  *
  * 0, always: *part_len bytes from bytes + *start on. Both are 0 where value is
  * no mark of the ruler, or the bytes are no ruler.

@@ -233,12 +233,23 @@ static uint8_t *put_mark(uint8_t *out, struct draft draft, int32_t needle)
     return out + 11;
 }
 
-/* Those of plotters; of kind 3 without the last if it lies past the axis. */
+/* The axis's record has a byte more where there is a twist. */
+size_t head_of(uint32_t kind)
+{
+    return kind > 3 ? 26 : 25;
+}
+
+size_t draft_size(struct draft draft)
+{
+    return head_of(draft.kind) + 20 * (size_t)draft_marks(draft).count;
+}
+
+/* Those of plotters; of kinds 3 and 6 without the last if it lies past the axis. */
 struct marks draft_marks(struct draft draft)
 {
     struct marks marks = model_marks(draft.a, draft.b, draft.m);
     int64_t most = draft.a < draft.b ? draft.b : draft.a;
-    if (draft.kind == 3 && marks.count > 0 && marks.first + (int64_t)(marks.count - 1) * marks.step > most)
+    if ((draft.kind == 3 || draft.kind == 6) && marks.count > 0 && marks.first + (int64_t)(marks.count - 1) * marks.step > most)
         marks.count--;
     return marks;
 }
@@ -250,6 +261,8 @@ size_t model_ruler(struct draft draft, uint8_t *out)
     *at++ = (uint8_t)draft.kind;
     at = put(put(put(at, (uint32_t)draft.a), (uint32_t)draft.b), (uint32_t)draft.p);
     at = put(put(put(at, (uint32_t)draft.q), draft.m), (uint32_t)marks.step);
+    if (draft.kind > 3)
+        *at++ = (uint8_t)draft.twist;
     for (uint64_t k = 0; k < marks.count; k++)
         at = put_mark(at, draft, (int32_t)(marks.first + (int64_t)k * marks.step));
     return (size_t)(at - out);
@@ -263,7 +276,7 @@ static uint32_t word(const uint8_t *at)
 struct draft draft_of(const uint8_t *bytes)
 {
     return (struct draft){(int32_t)word(bytes + 1), (int32_t)word(bytes + 5), (int32_t)word(bytes + 9),
-                          (int32_t)word(bytes + 13), word(bytes + 17), bytes[0]};
+                          (int32_t)word(bytes + 13), word(bytes + 17), bytes[0], bytes[0] > 3 ? bytes[25] : 0};
 }
 
 bool model_is_ruler(const uint8_t *bytes, size_t len)
@@ -271,8 +284,10 @@ bool model_is_ruler(const uint8_t *bytes, size_t len)
     static uint8_t written[1 << 20];
     if (len < 25 || len > sizeof written)
         return false;
+    if ((bytes[0] != 1 && bytes[0] != 3 && bytes[0] != 5 && bytes[0] != 6) || len < head_of(bytes[0]))
+        return false;
     struct draft draft = draft_of(bytes);
-    if ((draft.kind != 1 && draft.kind != 3) || draft_refused(draft) != 0 || len != 25 + 20 * draft_marks(draft).count)
+    if (draft.twist > 1 || draft_refused(draft) != 0 || len != draft_size(draft))
         return false;
     return model_ruler(draft, written) == len && memcmp(bytes, written, len) == 0;
 }
@@ -281,7 +296,7 @@ size_t model_record(const uint8_t *bytes, size_t len, int32_t value)
 {
     if (!model_is_ruler(bytes, len))
         return 0;
-    for (size_t at = 25; at < len; at += 20)
+    for (size_t at = head_of(bytes[0]); at < len; at += 20)
         if ((int32_t)word(bytes + at + 1) == value)
             return at;
     return 0;

@@ -65,11 +65,13 @@ int32_t model_search(const double *list, size_t len, double target, uint32_t met
 int32_t segments_refused(int64_t n);
 int32_t model_narrowed(int64_t n, int32_t p, int32_t q);
 
-/* Rulers of kind 1 or 3: what is written for a draft, and where in bytes a mark's record begins, or 0. */
+/* Rulers of kind 1, 3, 5 or 6: what is written for a draft, and where in bytes a mark's record begins, or 0. */
 struct draft {
     int32_t a, b, p, q;
-    uint32_t m, kind;
+    uint32_t m, kind, twist; /* twist is 0 where the kind has none */
 };
+size_t head_of(uint32_t kind);
+size_t draft_size(struct draft draft);
 int32_t draft_refused(struct draft draft);
 struct marks draft_marks(struct draft draft);
 size_t model_ruler(struct draft draft, uint8_t *out);

@@ -38,7 +38,7 @@ SEARCH(real, double, ALL_REALS)
 
 /* ---- Rulers ---- */
 
-enum { MOST_MARKS = 400, LONGEST_RULER = 25 + 20 * MOST_MARKS };
+enum { MOST_MARKS = 400, LONGEST_RULER = 26 + 20 * MOST_MARKS };
 
 static struct draft draw_draft(void)
 {
@@ -46,39 +46,56 @@ static struct draft draw_draft(void)
     draw_whole_ends(&draft.a, &draft.b);
     draw_film(&draft.p, &draft.q);
     draft.m = draw_limit_of_marks();
-    draft.kind = below(2) ? 1 : 3;
+    draft.kind = (uint32_t[]){1, 3, 5, 6}[below(4)];
+    draft.twist = draft.kind > 3 ? (uint32_t)below(2) : 0;
     return draft;
 }
 
 typedef int32_t writer(int32_t, int32_t, int32_t, int32_t, uint32_t, uint8_t *, size_t, size_t *, size_t *);
+typedef int32_t twisted(int32_t, int32_t, int32_t, int32_t, uint32_t, uint32_t, uint8_t *, size_t, size_t *, size_t *);
 
-static void write_by(writer *write, uint32_t kind)
+/* By the one or the other, as the kind has a twist or not. */
+static void write_by(writer *write, twisted *twist, uint32_t kind)
 {
     static uint8_t written[LONGEST_RULER];
     struct draft draft = draw_draft();
     draft.kind = kind;
-    int32_t refused = draft_refused(draft);
-    uint64_t count = refused != 0 ? 0 : draft_marks(draft).count;
-    size_t len = draw_length(25 + 20 * count, LONGEST_RULER);
+    draft.twist = kind < 5 ? 0 : below(4) ? (uint32_t)below(2) : (uint32_t)draw_index();
+    note_natural("twist", draft.twist);
+    int32_t refused = draft_refused(draft), unknown = draft.twist > 1 ? 15 : 0;
+    uint64_t count = refused != 0 ? 0 : draft_marks(draft).count, size = head_of(kind) + 20 * count;
+    size_t len = draw_length(size, LONGEST_RULER);
     size_t *bytes = RESULT(size_t), *marks = RESULT(size_t);
     uint8_t *out = LIST(uint8_t, len);
-    int32_t code = CALLED(write(draft.a, draft.b, draft.p, draft.q, draft.m, out, len, bytes, marks));
+    int32_t code = kind < 5
+        ? CALLED(write(draft.a, draft.b, draft.p, draft.q, draft.m, out, len, bytes, marks))
+        : CALLED(twist(draft.a, draft.b, draft.p, draft.q, draft.m, draft.twist, out, len, bytes, marks));
     if (code == ANSWERED) {
-        counted(code, out, 1, bytes, 25 + 20 * count);
+        counted(code, out, 1, bytes, size);
         demand(*marks == count, "another count than the rule's");
         demand(model_ruler(draft, written) == *bytes && memcmp(out, written, *bytes) == 0, "other bytes than the rule's");
     }
-    settle(code, lower(refused, len < 25 + 20 * count ? 13 : ANSWERED));
+    settle(code, lower(refused, lower(len < size ? 13 : ANSWERED, unknown)));
 }
 
 static void ruler_write(void)
 {
-    write_by(culv_ruler_write, 1);
+    write_by(culv_ruler_write, NULL, 1);
 }
 
 static void ruler_write_inside(void)
 {
-    write_by(culv_ruler_write_inside, 3);
+    write_by(culv_ruler_write_inside, NULL, 3);
+}
+
+static void ruler_write_twisted(void)
+{
+    write_by(NULL, culv_ruler_write_twisted, 5);
+}
+
+static void ruler_write_inside_twisted(void)
+{
+    write_by(NULL, culv_ruler_write_inside_twisted, 6);
 }
 
 /* Bytes without sense, behind a header with or without sense. */
@@ -97,21 +114,23 @@ static size_t draw_bytes(uint8_t *out)
     return len;
 }
 
-/* Another kind, a byte changed, some cut off or added, or two records exchanged. */
+/* Another kind or twist, a byte changed, some cut off or added, or two records exchanged. */
 static size_t damage(uint8_t *ruler, size_t len)
 {
     uint8_t record[20];
-    switch (below(5)) {
+    switch (below(6)) {
     case 0: ruler[0] = (uint8_t)bits(); return len;
+    case 5: ruler[len > 25 ? 25 : 0] = (uint8_t)below(4); return len;
     case 4: ruler[below(len)] ^= (uint8_t)(1 << below(8)); return len;
     case 1: return below(len);
     case 2: return len + below(40) + 1;
     default:
-        if (len < 65)
+        if (len < head_of(ruler[0]) + 40)
             return len;
-        memcpy(record, ruler + 25, 20);
-        memmove(ruler + 25, ruler + 45, 20);
-        memcpy(ruler + 45, record, 20);
+        ruler += head_of(ruler[0]);
+        memcpy(record, ruler, 20);
+        memmove(ruler, ruler + 20, 20);
+        memcpy(ruler + 20, record, 20);
         return len;
     }
 }
@@ -135,8 +154,9 @@ static const uint8_t *draw_ruler(const char *name, size_t *len)
 static int32_t draw_value(const uint8_t *ruler, size_t len)
 {
     int32_t value = draw_whole("or value");
-    if (len >= 45 && below(4) != 0) {
-        const uint8_t *at = ruler + 25 + 20 * below((len - 25) / 20);
+    size_t head = len == 0 ? 25 : head_of(ruler[0]);
+    if (len >= head + 20 && below(4) != 0) {
+        const uint8_t *at = ruler + head + 20 * below((len - head) / 20);
         memcpy(&value, at + 1, sizeof value);
     }
     note_whole("value", value);
@@ -155,10 +175,10 @@ static void read_by(bool tells)
     int32_t code = tells ? CALLED(culv_ruler_read_kind(bytes, len, a, b, p, q, m, step, marks, kind, twist))
                          : CALLED(culv_ruler_read(bytes, len, a, b, p, q, m, step, marks));
     if (code == ANSWERED) {
-        struct draft held = draft_of(bytes), draft = {*a, *b, *p, *q, *m, tells ? *kind : held.kind};
+        struct draft held = draft_of(bytes);
+        struct draft draft = {*a, *b, *p, *q, *m, tells ? *kind : held.kind, tells ? *twist : held.twist};
         demand(memcmp(&draft, &held, sizeof draft) == 0, "other numbers than those of the ruler");
-        demand(25 + 20 * *marks == len, "another count than that of the ruler");
-        demand(!tells || *twist == 0, "a twist where there is none");
+        demand(head_of(held.kind) + 20 * *marks == len, "another count than that of the ruler");
     }
     settle(code, model_is_ruler(bytes, len) ? ANSWERED : 14);
 }
@@ -197,6 +217,42 @@ static void ruler_pair(void)
     demand(*which == (value < 0 ? 0 : 1) && *start == record && *part == (record == 0 ? 0 : 20),
            "another part than the rule's");
     settle(code, ANSWERED);
+}
+
+typedef int32_t mover(const uint8_t *, size_t, uint8_t *, size_t, size_t *);
+
+/* Moves bytes over, which rulers without a twist can be, or back. */
+static void move_by(mover *move, bool over)
+{
+    static uint8_t wanted[LONGEST_RULER];
+    size_t len, size = 0;
+    const uint8_t *bytes = draw_ruler("bytes", &len);
+    bool moves = model_is_ruler(bytes, len) && (bytes[0] < 5) == over;
+    bool lost = moves && !over && bytes[25] == 1;
+    if (moves) {
+        struct draft draft = draft_of(bytes);
+        draft.kind = over ? (draft.kind == 1 ? 5 : 6) : (draft.kind == 5 ? 1 : 3);
+        draft.twist = 0;
+        size = model_ruler(draft, wanted);
+    }
+    size_t room = draw_length(size, LONGEST_RULER), *written = RESULT(size_t);
+    uint8_t *out = LIST(uint8_t, room);
+    int32_t code = CALLED(move(bytes, len, out, room, written));
+    if (code == ANSWERED) {
+        counted(code, out, 1, written, size);
+        demand(memcmp(out, wanted, size) == 0, "other bytes than the rule's");
+    }
+    settle(code, !moves ? 14 : room < size ? 13 : lost ? 16 : ANSWERED);
+}
+
+static void ruler_upgrade(void)
+{
+    move_by(culv_ruler_upgrade, true);
+}
+
+static void ruler_downgrade(void)
+{
+    move_by(culv_ruler_downgrade, false);
 }
 
 /* ---- Labels ---- */
@@ -240,5 +296,6 @@ static void label(void)
 
 const struct call OTHER_CALLS[OTHER_COUNT] = {
     CALL(search_whole), CALL(search_real), CALL(ruler_write), CALL(ruler_write_inside),
-    CALL(ruler_read), CALL(ruler_read_kind), CALL(ruler_label), CALL(ruler_pair), CALL(label),
+    CALL(ruler_write_twisted), CALL(ruler_write_inside_twisted), CALL(ruler_read), CALL(ruler_read_kind),
+    CALL(ruler_label), CALL(ruler_pair), CALL(ruler_upgrade), CALL(ruler_downgrade), CALL(label),
 };

@@ -20,7 +20,7 @@ enum {
     AREAS = 10,
     ROOM = 1 << 20,   /* bytes of an area between its two closed pages */
     GUARD = 64,       /* bytes on each side of lent memory that are looked at after each call */
-    CALLS = 50,
+    CALLS = 54,
     SECONDS = 20,     /* no call may take longer */
     STATUSES = 16
 };
@@ -223,7 +223,7 @@ int32_t call_done(void)
         size_t begin = guard_begin(area);
         ASAN_UNPOISON_MEMORY_REGION(area->memory + begin, guard_end(area) - begin);
     }
-    demand(returned >= -1 && returned <= 14, "a status that there is not");
+    demand(returned >= -1 && returned <= 16, "a status that there is not");
     now->calls++;
     now->statuses[returned + 1]++;
     return returned;

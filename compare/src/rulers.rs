@@ -1,7 +1,10 @@
 //! Rulers: built here from plotters' marks and places, and compared byte for byte.
 
-use culvraod::ruler::{culv_ruler_read, culv_ruler_write, culv_ruler_write_inside};
-use culvraod::ruler::{label_of, pair_record, read, write, write_inside, Ruler, Written};
+use culvraod::ruler::{culv_ruler_downgrade, culv_ruler_read, culv_ruler_upgrade};
+use culvraod::ruler::{culv_ruler_write, culv_ruler_write_inside};
+use culvraod::ruler::{culv_ruler_write_inside_twisted, culv_ruler_write_twisted};
+use culvraod::ruler::{downgrade, label_of, pair_record, read, upgrade, write, write_inside};
+use culvraod::ruler::{write_inside_twisted, write_twisted, Ruler, Twist, Written};
 use culvraod::{Limit, RangedCoordi32, Refusal};
 use plotters::coord::ranged1d::Ranged;
 use std::fmt::{self, Display};
@@ -12,30 +15,76 @@ use crate::random::Random;
 use crate::tally::{ensure, Tally};
 use crate::timing::written;
 
+/// Of each kind; half as many of each twist.
 const DRAWN: usize = 5_000_000;
-const DAMAGED: usize = 20_000;
+const DAMAGED: usize = 5_000;
 
-/// Which marks a ruler has, by its kind: plotters' own, or those of them that lie on the axis.
+/// Which marks a ruler has, plotters' own or those of them that lie on the axis; and its twist.
 #[derive(Clone, Copy, PartialEq)]
-enum Kind {
-    Cut = 1,
-    Inside = 3,
+struct Kind {
+    inside: bool,
+    twist: Option<Twist>,
 }
 
-use Kind::{Cut, Inside};
+const CUT: Kind = Kind {
+    inside: false,
+    twist: None,
+};
+const INSIDE: Kind = Kind {
+    inside: true,
+    twist: None,
+};
 
 impl Kind {
-    fn of(byte: u8) -> Option<Kind> {
-        [Cut, Inside].into_iter().find(|&kind| kind as u8 == byte)
+    fn with(self, twist: Twist) -> Kind {
+        let twist = Some(twist);
+        Kind { twist, ..self }
     }
 
-    /// The calls that write rulers, the one that this kind is written by.
+    /// All six: two without a twist and two with either.
+    fn all() -> impl Iterator<Item = Kind> {
+        [CUT, INSIDE]
+            .into_iter()
+            .flat_map(|old| [old, old.with(Twist::S), old.with(Twist::Z)])
+    }
+
+    /// The first byte of a ruler of this kind.
+    fn byte(self) -> u8 {
+        match (self.inside, self.twist) {
+            (false, None) => 1,
+            (true, None) => 3,
+            (false, _) => 5,
+            (true, _) => 6,
+        }
+    }
+
+    /// How long the axis's record is.
+    fn head(self) -> usize {
+        25 + self.twist.is_some() as usize
+    }
+
+    /// The kind that bytes would be of.
+    fn of(bytes: &[u8]) -> Option<Kind> {
+        Kind::all().find(|kind| {
+            kind.byte() == bytes[0] && kind.twist.is_none_or(|t| bytes.get(25) == Some(&(t as u8)))
+        })
+    }
+
     fn write(self, draft: Draft, out: &mut [u8]) -> Result<Written, Refusal> {
-        let write = match self {
-            Cut => write,
-            Inside => write_inside,
-        };
-        write(draft.axis(), draft.limit(), draft.m, out)
+        let (axis, limit, m) = (draft.axis(), draft.limit(), draft.m);
+        match (self.inside, self.twist) {
+            (false, None) => write(axis, limit, m, out),
+            (true, None) => write_inside(axis, limit, m, out),
+            (false, Some(twist)) => write_twisted(axis, limit, m, twist, out),
+            (true, Some(twist)) => write_inside_twisted(axis, limit, m, twist, out),
+        }
+    }
+}
+
+impl Display for Kind {
+    fn fmt(&self, out: &mut fmt::Formatter) -> fmt::Result {
+        write!(out, "kind {}", self.byte())?;
+        self.twist.map_or(Ok(()), |twist| write!(out, " {twist:?}"))
     }
 }
 
@@ -76,7 +125,7 @@ impl Draft {
         let axis = plotters::coord::RangedCoordi32::from(a..b);
         let limits = (self.limits[0], self.limits[1]);
         let mut needles = axis.key_points(self.m as usize);
-        if kind == Inside {
+        if kind.inside {
             needles.retain(|needle| (a.min(b)..=a.max(b)).contains(needle));
         }
         let places = needles
@@ -88,11 +137,12 @@ impl Draft {
 
 fn bytes_of(kind: Kind, draft: Draft, step: i32, marks: &[(i32, i32)]) -> Vec<u8> {
     let Draft { ends, limits, m } = draft;
-    let mut bytes = vec![kind as u8];
+    let mut bytes = vec![kind.byte()];
     let numbers = ends.iter().chain(&limits);
     numbers.for_each(|n| bytes.extend(n.to_le_bytes()));
     bytes.extend(m.to_le_bytes());
     bytes.extend(step.to_le_bytes());
+    bytes.extend(kind.twist.map(|twist| twist as u8));
     for (needle, place) in marks {
         bytes.push(2);
         bytes.extend(needle.to_le_bytes());
@@ -112,9 +162,9 @@ fn check_refused(kind: Kind, draft: Draft, refusal: i32, out: &mut [u8]) -> Resu
 }
 
 /// Every mark's label and record, and those of the numbers beside it.
-fn check_lookups(ruler: &[u8], marks: &[(i32, i32)]) -> Result<(), String> {
+fn check_lookups(kind: Kind, ruler: &[u8], marks: &[(i32, i32)]) -> Result<(), String> {
     for (k, (needle, _)) in marks.iter().enumerate() {
-        let record = &ruler[25 + 20 * k..][..20];
+        let record = &ruler[kind.head() + 20 * k..][..20];
         let (left, right) = if *needle < 0 {
             (ruler, &[][..])
         } else {
@@ -166,19 +216,75 @@ fn check(kind: Kind, draft: Draft, out: &mut [u8]) -> Result<(), String> {
         m,
         step,
         marks: count,
-        kind: kind as u32,
+        kind: kind.byte() as u32,
+        twist: kind.twist,
     };
     ensure(read(&wanted) == Ok(ruler), || {
         format!("read {:?}", read(&wanted))
     })?;
-    check_lookups(&wanted, &marks)
+    check_lookups(kind, &wanted, &marks)?;
+    check_moving(kind, draft, &wanted, out)
+}
+
+/// A ruler moved over or back, with a byte too few lent, just enough, and more; and the other way.
+fn check_moving(kind: Kind, draft: Draft, ruler: &[u8], out: &mut [u8]) -> Result<(), String> {
+    let (step, marks) = draft.plotters(kind).unwrap();
+    let (goes, stays): (Mover, Mover) = match kind.twist {
+        None => (upgrade, downgrade),
+        Some(_) => (downgrade, upgrade),
+    };
+    let other = match kind.twist {
+        None => kind.with(Twist::S),
+        Some(_) => Kind {
+            twist: None,
+            ..kind
+        },
+    };
+    let wanted = bytes_of(other, draft, step, &marks);
+    let lost = kind.twist == Some(Twist::Z);
+    for (room, refusal) in [
+        (wanted.len() - 1, Some(Refusal::OutTooShort)),
+        (wanted.len(), lost.then_some(Refusal::TwistLost)),
+        (wanted.len() + 7, lost.then_some(Refusal::TwistLost)),
+    ] {
+        out.fill(77);
+        let told = goes(ruler, &mut out[..room]);
+        let written = if refusal.is_none() { wanted.len() } else { 0 };
+        ensure(told == refusal.map_or(Ok(wanted.len()), Err), || {
+            format!("moved: {told:?}")
+        })?;
+        ensure(out[..written] == wanted[..written], || {
+            "moved to other bytes".into()
+        })?;
+        ensure(out[written..].iter().all(|&byte| byte == 77), || {
+            "moved past its end".into()
+        })?;
+    }
+    for room in [0, wanted.len()] {
+        let told = stays(ruler, &mut out[..room]);
+        ensure(told == Err(Refusal::NotARuler), || {
+            format!("moved the other way: {told:?}")
+        })?;
+    }
+    if !lost {
+        goes(ruler, out).unwrap();
+        let mut again = vec![0; ruler.len()];
+        let told = stays(&out[..wanted.len()], &mut again);
+        ensure(told == Ok(ruler.len()) && again == ruler, || {
+            "there and back".into()
+        })?;
+    }
+    Ok(())
 }
 
 /// Copies of a ruler with one byte changed, cut, lengthened, two records exchanged, a label filled
-/// with other bytes, or the kind through all 256 values.
+/// with other bytes, or the kind or the twist's byte through all 256 values.
 fn damaged(ruler: &[u8], random: &mut Random) -> Vec<Vec<u8>> {
     let mut copies: Vec<Vec<u8>> = (0..ruler.len()).map(|len| ruler[..len].to_vec()).collect();
     copies.extend((0..=255).map(|kind| [&[kind], &ruler[1..]].concat()));
+    if ruler.len() > 25 {
+        copies.extend((0..=255).map(|twist| [&ruler[..25], &[twist], &ruler[26..]].concat()));
+    }
     copies.push([ruler, &[0]].concat());
     copies.push([ruler, &ruler[ruler.len() - 20..]].concat());
     for at in 0..ruler.len() {
@@ -186,14 +292,15 @@ fn damaged(ruler: &[u8], random: &mut Random) -> Vec<Vec<u8>> {
         copy[at] ^= 1 << random.below(8);
         copies.push(copy);
     }
-    if ruler.len() >= 65 {
+    let head = Kind::of(ruler).unwrap().head();
+    if ruler.len() >= head + 40 {
         let mut copy = ruler.to_vec();
-        copy[25..65].rotate_left(20);
+        copy[head..head + 40].rotate_left(20);
         copies.push(copy);
     }
-    if ruler.len() >= 45 && ruler[34] == b' ' {
+    if ruler.len() >= head + 20 && ruler[head + 9] == b' ' {
         let mut copy = ruler.to_vec();
-        copy[34] = b'0';
+        copy[head + 9] = b'0';
         copies.push(copy);
     }
     copies
@@ -204,7 +311,7 @@ fn is_ruler(bytes: &[u8]) -> bool {
     let Some(head) = bytes.get(..25) else {
         return false;
     };
-    let Some(kind) = Kind::of(head[0]) else {
+    let Some(kind) = Kind::of(bytes) else {
         return false;
     };
     let word = |at: usize| i32::from_le_bytes(head[at..at + 4].try_into().unwrap());
@@ -216,7 +323,7 @@ fn is_ruler(bytes: &[u8]) -> bool {
     // plotters is asked only where there are not many marks more than the bytes have room for
     let right_size = draft
         .rule()
-        .is_ok_and(|rule| bytes.len() <= 25 + 20 * rule.count && 20 * rule.count <= bytes.len());
+        .is_ok_and(|rule| bytes.len() <= 26 + 20 * rule.count && 20 * rule.count <= bytes.len());
     right_size
         && draft
             .plotters(kind)
@@ -224,10 +331,7 @@ fn is_ruler(bytes: &[u8]) -> bool {
 }
 
 fn compare_damaged(kind: Kind) -> bool {
-    let mut tally = Tally::new(match kind {
-        Cut => "damaged rulers of kind 1",
-        Inside => "damaged rulers of kind 3",
-    });
+    let mut tally = Tally::new(&format!("damaged rulers of {kind}"));
     let mut random = Random::fixed(2);
     for _ in 0..DAMAGED {
         let draft = Draft::random(&mut random);
@@ -236,9 +340,14 @@ fn compare_damaged(kind: Kind) -> bool {
         };
         for copy in damaged(&bytes_of(kind, draft, step, &marks), &mut random) {
             let found = read(&copy);
+            let moves = [upgrade(&copy, &mut []), downgrade(&copy, &mut [])];
             let agrees = match is_ruler(&copy) {
                 true => found.is_ok(),
-                false => found == Err(Refusal::NotARuler) && label_of(&copy, 0).is_empty(),
+                false => {
+                    found == Err(Refusal::NotARuler)
+                        && label_of(&copy, 0).is_empty()
+                        && moves == [Err(Refusal::NotARuler); 2]
+                }
             };
             let what = || format!("{found:?} for {copy:?}");
             tally.count(draft.size(), draft, ensure(agrees, what));
@@ -248,13 +357,10 @@ fn compare_damaged(kind: Kind) -> bool {
 }
 
 fn compare_drawn(kind: Kind) -> bool {
-    let mut tally = Tally::new(match kind {
-        Cut => "rulers of kind 1: write, read, label, pair",
-        Inside => "rulers of kind 3: write, read, label, pair",
-    });
+    let mut tally = Tally::new(&format!("rulers of {kind}: write, read, label, pair, move"));
     let mut random = Random::new();
     let mut out = [0; 400];
-    for _ in 0..DRAWN {
+    for _ in 0..DRAWN / (kind.head() - 24) {
         let draft = Draft::random(&mut random);
         tally.count(draft.size(), draft, check(kind, draft, &mut out));
     }
@@ -267,18 +373,29 @@ fn compare_pairs() -> bool {
     let mut random = Random::fixed(3);
     for _ in 0..DAMAGED {
         let mut side = || {
-            let kind = [Cut, Inside][random.below(2) as usize];
+            let kind = Kind::all().nth(random.below(6) as usize).unwrap();
             let draft = Draft::random(&mut random);
             let (step, marks) = draft.plotters(kind).ok()?;
-            Some((draft, bytes_of(kind, draft, step, &marks), marks))
+            Some((
+                kind.head(),
+                draft,
+                bytes_of(kind, draft, step, &marks),
+                marks,
+            ))
         };
-        let (Some((draft, left, lefts)), Some((_, right, rights))) = (side(), side()) else {
+        let (Some((left_head, draft, left, lefts)), Some((right_head, _, right, rights))) =
+            (side(), side())
+        else {
             continue;
         };
         for (needle, _) in lefts.iter().chain(&rights) {
-            let (ruler, marks) = if *needle < 0 { (&left, &lefts) } else { (&right, &rights) };
+            let (head, ruler, marks) = if *needle < 0 {
+                (left_head, &left, &lefts)
+            } else {
+                (right_head, &right, &rights)
+            };
             let place = marks.iter().position(|(other, _)| other == needle);
-            let wanted = place.map_or(&[][..], |k| &ruler[25 + 20 * k..][..20]);
+            let wanted = place.map_or(&[][..], |k| &ruler[head + 20 * k..][..20]);
             let found = pair_record(&left, &right, *needle);
             let what = || format!("record of {needle}: {found:?}");
             tally.count(draft.size(), draft, ensure(found == wanted, what));
@@ -287,28 +404,74 @@ fn compare_pairs() -> bool {
     tally.close()
 }
 
-pub fn compare() -> bool {
-    let drawn = [Cut, Inside].map(compare_drawn);
-    let damaged = [Cut, Inside].map(compare_damaged);
-    [drawn, damaged, [compare_pairs(), true]]
-        .concat()
-        .iter()
-        .all(|&agrees| agrees)
+/// 15, which a `Twist` cannot be: behind 1, 2, 3 and 13.
+fn compare_unknown() -> bool {
+    let mut tally = Tally::new("rulers: unknown twists");
+    let mut random = Random::fixed(4);
+    let mut out = [0; 400];
+    for _ in 0..DAMAGED {
+        let draft = Draft::random(&mut random);
+        let twist = 2 + (random.below(u64::from(u32::MAX) - 2) as u32);
+        for (inside, writer) in [
+            (CUT, culv_ruler_write_twisted as TwistedWriter),
+            (INSIDE, culv_ruler_write_inside_twisted),
+        ] {
+            let kind = inside.with(Twist::S);
+            let size = draft
+                .plotters(kind)
+                .map(|(_, marks)| kind.head() + 20 * marks.len());
+            for short in [0, 1] {
+                let len = size.unwrap_or(400) - short;
+                let wanted =
+                    size.map_or_else(|refusal| refusal, |_| if short == 1 { 13 } else { 15 });
+                out.fill(77);
+                let code = write_at(writer, draft, twist, &mut out[..len]);
+                let agrees = code == wanted && out.iter().all(|&byte| byte == 77);
+                let what = || format!("{code} with twist {twist}, and not {wanted}");
+                tally.count(draft.size(), draft, ensure(agrees, what));
+            }
+        }
+    }
+    tally.close()
 }
 
-const MARKS: usize = 1_000_000;
+fn write_at(writer: TwistedWriter, draft: Draft, twist: u32, out: &mut [u8]) -> i32 {
+    let ([a, b], [p, q]) = (draft.ends, draft.limits);
+    let (mut bytes, mut marks) = (0, 0);
+    let (to, len) = (out.as_mut_ptr(), out.len());
+    // SAFETY: `out` is bytes of that length, and the results are locals of their own.
+    unsafe { writer(a, b, p, q, draft.m, twist, to, len, &mut bytes, &mut marks) }
+}
 
-type Writer = unsafe extern "C" fn(
+pub fn compare() -> bool {
+    let drawn = Kind::all().map(compare_drawn);
+    let damaged = Kind::all().map(compare_damaged);
+    let others = [compare_pairs(), compare_unknown()];
+    drawn
+        .chain(damaged)
+        .chain(others)
+        .fold(true, |all, agrees| all && agrees)
+}
+
+type Mover = fn(&[u8], &mut [u8]) -> Result<usize, Refusal>;
+
+type TwistedWriter = unsafe extern "C" fn(
     i32,
     i32,
     i32,
     i32,
+    u32,
     u32,
     *mut u8,
     usize,
     *mut usize,
     *mut usize,
 ) -> i32;
+
+const MARKS: usize = 1_000_000;
+
+type Writer =
+    unsafe extern "C" fn(i32, i32, i32, i32, u32, *mut u8, usize, *mut usize, *mut usize) -> i32;
 
 fn write_million(writer: Writer, out: &mut [u8]) -> usize {
     let (a, b, p, q, m) = black_box((-500_000, 499_999, -1_000, 1_000, MARKS as u32));
@@ -349,11 +512,39 @@ pub fn bench() {
             best / 1e6
         );
     };
-    let kinds = [(1, culv_ruler_write as Writer), (3, culv_ruler_write_inside)];
+    let kinds = [
+        (1, culv_ruler_write as Writer),
+        (3, culv_ruler_write_inside),
+    ];
     for (kind, writer) in kinds {
         rate(&format!("writing a ruler of kind {kind}"), &mut |out| {
             write_million(writer, out)
         });
-        rate(&format!("reading a ruler of kind {kind}"), &mut read_million);
+        rate(
+            &format!("reading a ruler of kind {kind}"),
+            &mut read_million,
+        );
     }
+    let (mut old, mut new) = (vec![0; 25 + 20 * MARKS], vec![0; 26 + 20 * MARKS]);
+    write_million(culv_ruler_write, &mut old);
+    rate("moving a ruler of kind 1 over", &mut |_| {
+        move_million(culv_ruler_upgrade, &old, &mut new)
+    });
+    rate("moving a ruler of kind 5 back", &mut |_| {
+        move_million(culv_ruler_downgrade, &new, &mut old)
+    });
+}
+
+fn move_million(
+    mover: unsafe extern "C" fn(*const u8, usize, *mut u8, usize, *mut usize) -> i32,
+    ruler: &[u8],
+    out: &mut [u8],
+) -> usize {
+    let ruler = black_box(ruler);
+    let mut written = 0;
+    let (from, len, to, room) = (ruler.as_ptr(), ruler.len(), out.as_mut_ptr(), out.len());
+    // SAFETY: both are bytes of those lengths, and the result is a local.
+    let code = unsafe { mover(from, len, to, room, &mut written) };
+    assert_eq!((code, written), (0, room));
+    len
 }

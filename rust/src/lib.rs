@@ -65,7 +65,9 @@
 //! | 11 | [`NotPrintable`](Refusal::NotPrintable) | the label of NaN, an infinity, or a number of size 2^53 or more is asked for |
 //! | 12 | [`TooManyDecimals`](Refusal::TooManyDecimals) | more than 10 decimals are allowed, or more than 20 asked for |
 //! | 13 | [`OutTooShort`](Refusal::OutTooShort) | the marks, the ruler or the label does not fit what is lent |
-//! | 14 | [`NotARuler`](Refusal::NotARuler) | bytes to be read are no ruler |
+//! | 14 | [`NotARuler`](Refusal::NotARuler) | bytes to be read or moved are no ruler, or none of the kind that is moved |
+//! | 15 | [`UnknownTwist`](Refusal::UnknownTwist) | a twist is neither 0 nor 1; [`ruler::Twist`] has no other |
+//! | 16 | [`TwistLost`](Refusal::TwistLost) | a ruler with the twist Z is to move back |
 //!
 //! # C functions
 //!

@@ -18,7 +18,7 @@ macro_rules! refusals {
         use Refusal::*;
 
         /// Every refusal, in the order of their numbers.
-        const ALL: [Refusal; 14] = [$($name),*];
+        const ALL: [Refusal; 16] = [$($name),*];
 
         impl Refusal {
             fn text(self) -> &'static str {
@@ -56,7 +56,9 @@ refusals! {
     11 NotPrintable "the number has no label";
     12 TooManyDecimals "more decimals are asked for than a label can have";
     13 OutTooShort "the list or the bytes to be written are too short";
-    14 NotARuler "the bytes are no ruler";
+    14 NotARuler "the bytes are no ruler, or none of the kind that is asked for";
+    15 UnknownTwist "the twist is neither 0 nor 1";
+    16 TwistLost "the ruler has the twist Z, which its old kind cannot tell";
 }
 
 impl Refusal {
@@ -131,8 +133,8 @@ mod tests {
     use super::*;
 
     #[test]
-    fn numbers_are_1_to_14_in_order() {
-        assert!(ALL.iter().map(|refusal| refusal.number()).eq(1..=14));
+    fn numbers_are_1_to_16_in_order() {
+        assert!(ALL.iter().map(|refusal| refusal.number()).eq(1..=16));
         assert_eq!(Refusal::from_number(13), Some(OutTooShort));
         assert_eq!(answered("call", 0, 7), Ok(7));
         assert_eq!(answered("call", 14, 7), Err(NotARuler));
@@ -146,9 +148,9 @@ mod tests {
     }
 
     #[test]
-    #[should_panic(expected = "call returned 15")]
+    #[should_panic(expected = "call returned 99")]
     fn an_unknown_code_is_not_accepted() {
-        let _ = answered("call", 15, 7);
+        let _ = answered("call", 99, 7);
     }
 
     #[test]

@@ -31,6 +31,52 @@ extern "C" {
         marks: *mut usize,
     ) -> i32;
 
+    /// The C function behind [`write_twisted`].
+    pub fn culv_ruler_write_twisted(
+        a: i32,
+        b: i32,
+        p: i32,
+        q: i32,
+        m: u32,
+        twist: u32,
+        out: *mut u8,
+        len: usize,
+        bytes: *mut usize,
+        marks: *mut usize,
+    ) -> i32;
+
+    /// The C function behind [`write_inside_twisted`].
+    pub fn culv_ruler_write_inside_twisted(
+        a: i32,
+        b: i32,
+        p: i32,
+        q: i32,
+        m: u32,
+        twist: u32,
+        out: *mut u8,
+        len: usize,
+        bytes: *mut usize,
+        marks: *mut usize,
+    ) -> i32;
+
+    /// The C function behind [`upgrade`].
+    pub fn culv_ruler_upgrade(
+        bytes: *const u8,
+        len: usize,
+        out: *mut u8,
+        out_len: usize,
+        written: *mut usize,
+    ) -> i32;
+
+    /// The C function behind [`downgrade`].
+    pub fn culv_ruler_downgrade(
+        bytes: *const u8,
+        len: usize,
+        out: *mut u8,
+        out_len: usize,
+        written: *mut usize,
+    ) -> i32;
+
     /// What [`read`] tells, without kind and twist.
     pub fn culv_ruler_read(
         bytes: *const u8,
@@ -103,22 +149,25 @@ pub struct Ruler {
     pub step: i32,
     /// The number of marks.
     pub marks: usize,
-    /// 1 for the marks that plotters gives, 3 for those that stay on the axis.
+    /// 1 or 5 for the marks that plotters gives, 3 or 6 for those that stay on the axis.
     pub kind: u32,
+    /// The thread's twist, which kinds 5 and 6 tell.
+    pub twist: Option<Twist>,
+}
+
+/// The twist of the thread. Mirroring turns the one into the other.
+#[derive(Clone, Copy, Debug, PartialEq, Eq)]
+#[repr(u32)]
+pub enum Twist {
+    /// S, by the number 0.
+    S = 0,
+    /// Z, by the number 1.
+    Z = 1,
 }
 
 /// A C function that writes a ruler.
-type Writer = unsafe extern "C" fn(
-    i32,
-    i32,
-    i32,
-    i32,
-    u32,
-    *mut u8,
-    usize,
-    *mut usize,
-    *mut usize,
-) -> i32;
+type Writer =
+    unsafe extern "C" fn(i32, i32, i32, i32, u32, *mut u8, usize, *mut usize, *mut usize) -> i32;
 
 fn written_by(
     name: &'static str,
@@ -172,6 +221,111 @@ pub fn write_inside(
     written_by(name, writer, axis, limit, m, out)
 }
 
+/// A C function that writes a ruler with a twist.
+type TwistedWriter = unsafe extern "C" fn(
+    i32,
+    i32,
+    i32,
+    i32,
+    u32,
+    u32,
+    *mut u8,
+    usize,
+    *mut usize,
+    *mut usize,
+) -> i32;
+
+fn twisted_by(
+    name: &'static str,
+    writer: TwistedWriter,
+    axis: RangedCoordi32,
+    limit: Limit,
+    (m, twist): (u32, Twist),
+    out: &mut [u8],
+) -> Result<Written, Refusal> {
+    let mut told = Written::default();
+    // SAFETY: `out` is bytes of that length, and the two results are locals of their own.
+    let code = unsafe {
+        writer(
+            axis.0,
+            axis.1,
+            limit.0,
+            limit.1,
+            m,
+            twist as u32,
+            out.as_mut_ptr(),
+            out.len(),
+            &mut told.bytes,
+            &mut told.marks,
+        )
+    };
+    answered(name, code, told)
+}
+
+/// What [`write()`] writes, with the twist: kind 5.
+pub fn write_twisted(
+    axis: RangedCoordi32,
+    limit: Limit,
+    m: u32,
+    twist: Twist,
+    out: &mut [u8],
+) -> Result<Written, Refusal> {
+    let (name, writer) = ("culv_ruler_write_twisted", culv_ruler_write_twisted);
+    twisted_by(name, writer, axis, limit, (m, twist), out)
+}
+
+/// What [`write_inside`] writes, with the twist: kind 6.
+pub fn write_inside_twisted(
+    axis: RangedCoordi32,
+    limit: Limit,
+    m: u32,
+    twist: Twist,
+    out: &mut [u8],
+) -> Result<Written, Refusal> {
+    let name = "culv_ruler_write_inside_twisted";
+    let writer = culv_ruler_write_inside_twisted;
+    twisted_by(name, writer, axis, limit, (m, twist), out)
+}
+
+/// A C function that moves a ruler.
+type Mover = unsafe extern "C" fn(*const u8, usize, *mut u8, usize, *mut usize) -> i32;
+
+fn moved_by(
+    name: &'static str,
+    mover: Mover,
+    bytes: &[u8],
+    out: &mut [u8],
+) -> Result<usize, Refusal> {
+    let mut written = 0;
+    // SAFETY: both have their lengths, apart from each other, and the result is a local.
+    let code = unsafe {
+        mover(
+            bytes.as_ptr(),
+            bytes.len(),
+            out.as_mut_ptr(),
+            out.len(),
+            &mut written,
+        )
+    };
+    answered(name, code, written)
+}
+
+/// Moves a ruler of kind 1 or 3 over to kind 5 or 6, as S, and tells how many bytes that takes: one
+/// more.
+///
+/// Refused as [`Refusal::NotARuler`] for other bytes, whatever is lent, and else as
+/// [`Refusal::OutTooShort`].
+pub fn upgrade(bytes: &[u8], out: &mut [u8]) -> Result<usize, Refusal> {
+    moved_by("culv_ruler_upgrade", culv_ruler_upgrade, bytes, out)
+}
+
+/// Moves an S ruler of kind 5 or 6 back to kind 1 or 3, one byte less.
+///
+/// Refused as [`upgrade`] is, and as [`Refusal::TwistLost`] for a Z ruler.
+pub fn downgrade(bytes: &[u8], out: &mut [u8]) -> Result<usize, Refusal> {
+    moved_by("culv_ruler_downgrade", culv_ruler_downgrade, bytes, out)
+}
+
 /// Reads a ruler of any kind, or refuses bytes that are none as [`Refusal::NotARuler`].
 pub fn read(bytes: &[u8]) -> Result<Ruler, Refusal> {
     let (mut axis, mut limit) = (RangedCoordi32(0, 0), Limit(0, 0));
@@ -199,6 +353,7 @@ pub fn read(bytes: &[u8]) -> Result<Ruler, Refusal> {
         step,
         marks,
         kind,
+        twist: (kind > 3).then_some([Twist::S, Twist::Z][(twist == 1) as usize]),
     };
     answered("culv_ruler_read_kind", code, ruler)
 }
@@ -255,6 +410,7 @@ mod tests {
             step,
             marks,
             kind: 1,
+            twist: None,
         };
         assert_eq!(read(ruler), Ok(whole));
         assert_eq!(label_of(ruler, -10), b"-10");
@@ -278,6 +434,26 @@ mod tests {
         write(RangedCoordi32(3, 15), Limit(0, -120), 4, &mut other).unwrap();
         assert_eq!(pair_record(ruler, &other[..85], 10), &other[45..65]);
         assert_eq!(pair_record(ruler, &other[..85], -10), &ruler[45..65]);
+    }
+
+    #[test]
+    fn rulers_move_over_and_back() {
+        let (axis, limit) = (RangedCoordi32(3, 15), Limit(0, 120));
+        let (mut old, mut new, mut again) = ([0; 85], [0; 86], [0; 85]);
+        write_inside(axis, limit, 4, &mut old).unwrap();
+        assert_eq!(upgrade(&old, &mut new[..85]), Err(Refusal::OutTooShort));
+        assert_eq!(upgrade(&old, &mut new), Ok(86));
+        assert_eq!(
+            read(&new).map(|r| (r.kind, r.twist)),
+            Ok((6, Some(Twist::S)))
+        );
+        assert_eq!(label_of(&new, 10), b"10");
+        assert_eq!(downgrade(&new, &mut again), Ok(85));
+        assert_eq!(again, old);
+        assert_eq!(upgrade(&new, &mut again), Err(Refusal::NotARuler));
+        let told = write_inside_twisted(axis, limit, 4, Twist::Z, &mut new);
+        assert_eq!(told.map(|told| told.bytes), Ok(86));
+        assert_eq!(downgrade(&new, &mut again), Err(Refusal::TwistLost));
     }
 
     #[test]

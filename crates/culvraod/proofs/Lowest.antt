@@ -22,6 +22,9 @@ lowest-first = record {
   stepped = steps-rise;
   segmented = segments-rise;
   ruler-plan = λ a b limit m. tt;
-  ruler-write = λ c a b limit m old. tt;
+  ruler-write = λ f a b limit m old. tt;
+  ruler-twisted = λ c t a b limit m old. tt;
+  ruler-upgrade = λ l old. tt;
+  ruler-downgrade = λ l old. tt;
   print = λ n h e old. tt;
 }

@@ -20,7 +20,8 @@ use Rattle.segmented.specs.Values.{Segment}
 use Rattle.segmented.specs.Segments.{Axis, Finder}
 use Rattle.segmented.specs.Segments as segments
 use Rattle.numeric.specs.declared.Choice.{Choice}
-use Rattle.ruler.specs.Rule.{noRuler, writeReasonsBy}
+use Rattle.ruler.specs.declared.Form.{Form}
+use Rattle.ruler.specs.Rule.{noRuler, writeReasonsBy, twistedReasons, upgradeReasons, downgradeReasons}
 use Rattle.float.specs.Calls.{printReasons}
 
 abbrev pub Rising : List Reason → Type 0
@@ -55,5 +56,8 @@ pub record LowestFirst : Type 1 where
   pub stepped : {A : Type 0} (kind : Kind A) (a b d : A) → StepsRise kind a b d
   pub segmented : {A : Type 0} (axis : Axis A) → SegmentsRise axis
   pub ruler-plan : (a b : ℤ) (limit : Limit) (m : ℕ) → Rising (noRuler a b limit m)
-  pub ruler-write : (c : Choice) (a b : ℤ) (limit : Limit) (m : ℕ) (old : List ℕ) → Rising (writeReasonsBy c a b limit m old)
+  pub ruler-write : (f : Form) (a b : ℤ) (limit : Limit) (m : ℕ) (old : List ℕ) → Rising (writeReasonsBy f a b limit m old)
+  pub ruler-twisted : (c : Choice) (t : ℕ) (a b : ℤ) (limit : Limit) (m : ℕ) (old : List ℕ) → Rising (twistedReasons c t a b limit m old)
+  pub ruler-upgrade : (l old : List ℕ) → Rising (upgradeReasons l old)
+  pub ruler-downgrade : (l old : List ℕ) → Rising (downgradeReasons l old)
   pub print : (n : Float) (h e : ℕ) (old : List ℕ) → Rising (printReasons n h e old)

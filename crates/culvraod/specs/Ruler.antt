@@ -15,11 +15,11 @@ withNumbers c r = (c, r .a, r .b, r .p, r .q, r .m, r .step, r .marks)
 abbrev pub readC : Answer Ruler → Ruler → ℤ × ℤ × ℤ × ℤ × ℤ × ℕ × ℤ × ℕ
 readC x old = withNumbers (code x) (outAfter (λ r. r) x old)
 
--- the same with the kind, and with the twist, which no kind has yet: 0
+-- the same with the kind and the twist
 abbrev pub readKindC : Answer Ruler → Ruler → ℕ → ℕ → ℤ × ℤ × ℤ × ℤ × ℤ × ℕ × ℤ × ℕ × ℕ × ℕ
 readKindC x old kind twist =
     let r = outAfter (λ y. y) x old in
-    (code x, r .a, r .b, r .p, r .q, r .m, r .step, r .marks, outAfter (λ y. y .kind) x kind, outAfter (λ y. 0) x twist)
+    (code x, r .a, r .b, r .p, r .q, r .m, r .step, r .marks, outAfter (λ y. y .kind) x kind, outAfter (λ y. y .twist) x twist)
 
 -- a look-up: always answered, with the part's start and its length
 abbrev pub partC : Part → ℤ × ℕ × ℕ

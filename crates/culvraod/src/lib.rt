@@ -16,7 +16,7 @@ ghost use Rattle.culvraod.specs.Steps.{listC};
 ghost use Rattle.float.specs.Calls.{tellLabel, labelPrint};
 ghost use Rattle.search.specs.Lists.{wholeSearch, realSearch};
 ghost use Rattle.culvraod.specs.Search.{methodOf, byMethod};
-ghost use Rattle.ruler.specs.Rule.{tellWrote, rulerWrite, rulerWriteInside, rulerOf, rulerRead, recordIn, labelIn, sideOf};
+ghost use Rattle.ruler.specs.Rule.{tellWrote, tellMoved, rulerWrite, rulerWriteInside, twistedWrite, rulerUpgrade, rulerDowngrade, rulerOf, rulerRead, recordIn, labelIn, sideOf};
 ghost use Rattle.culvraod.specs.Ruler.{readC, readKindC, partC, pairC};
 ghost use Rattle.culvraod.specs.Boundary.{single};
 ghost use Rattle.culvraod.specs.Numeric.{marksC, keyPointsC};
@@ -26,6 +26,7 @@ use float::Label;
 use linspace::Linspacef64;
 use linspace::Linspacei32;
 use linspace::Listed;
+use numeric::Choice;
 use numeric::Count;
 use numeric::IndexMarks;
 use numeric::Marks;
@@ -37,6 +38,7 @@ use numeric::RealReading;
 use numeric::Value;
 use ranged1d::Limit;
 use ranged1d::Refusal;
+use ruler::Moved;
 use ruler::Reading;
 use ruler::Wrote;
 use search::RoundingMethod;
@@ -186,6 +188,18 @@ fn give_wrote(x: Wrote, bytes: &mut usize, marks: &mut usize) -> i32
     }
 }
 
+fn give_moved(x: Moved, written: &mut usize) -> i32
+    ensures { λ r. ⌜ (r, now (written .exit)) ≡ single (tellMoved x) (now (written .entry)) ⌝ }
+{
+    match x {
+        Moved::Bytes(size) => {
+            *written = size;
+            0
+        }
+        Moved::Refused(r) => refused(r),
+    }
+}
+
 #[no_mangle]
 pub extern "C" fn culv_whole_key_points(
     a: i32,
@@ -302,7 +316,63 @@ pub extern "C" fn culv_ruler_write_inside(
     give_wrote(ruler::write_inside(a, b, Limit(p, q), m, out), bytes, marks)
 }
 
-// The numbers of the ruler in the bytes, its kind, and its twist, which kinds 1 and 3 do not have: 0.
+#[no_mangle]
+pub extern "C" fn culv_ruler_write_twisted(
+    a: i32,
+    b: i32,
+    p: i32,
+    q: i32,
+    m: u32,
+    twist: u32,
+    out: &mut [u8],
+    bytes: &mut usize,
+    marks: &mut usize,
+) -> i32
+    ensures { λ r. ⌜ (r, now (out .exit), now (bytes .exit), now (marks .exit)) ≡ keyPointsC (twistedWrite Choice.Cut twist a b (limitOf p q) m (now (out .entry))) (now (bytes .entry)) (now (marks .entry)) ⌝ }
+{
+    give_wrote(
+        ruler::write_twisted(a, b, Limit(p, q), m, twist, out),
+        bytes,
+        marks,
+    )
+}
+
+#[no_mangle]
+pub extern "C" fn culv_ruler_write_inside_twisted(
+    a: i32,
+    b: i32,
+    p: i32,
+    q: i32,
+    m: u32,
+    twist: u32,
+    out: &mut [u8],
+    bytes: &mut usize,
+    marks: &mut usize,
+) -> i32
+    ensures { λ r. ⌜ (r, now (out .exit), now (bytes .exit), now (marks .exit)) ≡ keyPointsC (twistedWrite Choice.Inside twist a b (limitOf p q) m (now (out .entry))) (now (bytes .entry)) (now (marks .entry)) ⌝ }
+{
+    give_wrote(
+        ruler::write_inside_twisted(a, b, Limit(p, q), m, twist, out),
+        bytes,
+        marks,
+    )
+}
+
+#[no_mangle]
+pub extern "C" fn culv_ruler_upgrade(bytes: &[u8], out: &mut [u8], written: &mut usize) -> i32
+    ensures { λ r. ⌜ (r, now (out .exit), now (written .exit)) ≡ listC (rulerUpgrade (now (bytes .entry)) (now (out .entry))) (now (written .entry)) ⌝ }
+{
+    give_moved(ruler::upgrade(bytes, out), written)
+}
+
+#[no_mangle]
+pub extern "C" fn culv_ruler_downgrade(bytes: &[u8], out: &mut [u8], written: &mut usize) -> i32
+    ensures { λ r. ⌜ (r, now (out .exit), now (written .exit)) ≡ listC (rulerDowngrade (now (bytes .entry)) (now (out .entry))) (now (written .entry)) ⌝ }
+{
+    give_moved(ruler::downgrade(bytes, out), written)
+}
+
+// The numbers of the ruler in the bytes, its kind, and its twist: 0 where the kind has none.
 #[no_mangle]
 pub extern "C" fn culv_ruler_read_kind(
     bytes: &[u8],
@@ -333,7 +403,7 @@ pub extern "C" fn culv_ruler_read_kind(
             *step = s;
             *marks = r.marks;
             *kind = r.kind;
-            *twist = 0;
+            *twist = r.twist;
             0
         }
         Reading::Refused(why) => refused(why),

@@ -1,5 +1,5 @@
 -- Demand 3, whole: every clause of specs/Mirror, from the mirror theorems of the crates below. Assumes nothing.
-use mathlib.Core.Path.{_≡_, refl, sym, ap, _∙_}
+use mathlib.Core.Path.{_≡_, refl, sym, ap, _∙_, subst}
 use mathlib.Core.Bool.{true, false}
 use mathlib.Core.List.{List, [], map}
 use Prim.Native.Nat.{ℕ}
@@ -12,6 +12,7 @@ use Rattle.ranged1d.specs.declared.Limit.{Limit}
 use Rattle.real.specs.Mirror as film
 use Rattle.real.proofs.Mirror as places
 use Rattle.numeric.specs.declared.Choice.{Choice}
+use Rattle.ruler.specs.declared.Form.{Form}
 use Rattle.numeric.specs.Marks.{noStep, stepOf, marks, marksBy}
 use Rattle.numeric.specs.Calls.{planReasons, keyPointsReasons, wholeKeyPoints}
 use Rattle.numeric.specs.Mirror.{stepOnly}
@@ -27,45 +28,59 @@ use Rattle.segmented.specs.Segments.{segmentKeyPointsReasons, segmentKeyPoints}
 use Rattle.segmented.specs.Axes.{steppedAxis}
 use Rattle.segmented.specs.Mirror as segment
 use Rattle.segmented.proofs.Mirror as segments
-use Rattle.ruler.specs.Rule.{noRuler, bytesBy, writeReasonsBy, writeBy, hasRuler}
-use Rattle.ruler.specs.Mirror.{accepted, verdict}
+use Rattle.ruler.specs.Rule.{noRuler, bytesBy, writeReasonsBy, writeBy, hasRuler, twisted}
+use Rattle.ruler.specs.Mirror.{accepted, verdict, turnedForm, otherNumber}
 use Rattle.ruler.proofs.Mirror as rulers-mirror
-use Rattle.mirror.specs.Mirror.{wrote, ruling, rulingBack, Rulers, marking, markingBack, Marks, Lists, StepMarks, SegmentMarks, Stepped, DemandThree}
+use Rattle.mirror.specs.Mirror.{wrote, ruling, rulingBack, Rulers, TwistedRulers, marking, markingBack, Marks, Lists, StepMarks, SegmentMarks, Stepped, DemandThree}
 use Rattle.mirror.proofs.Written.{accepted-is, accepted-tests, wrote-is, turned-wrote}
 
 -- ---- rulers
-module _ (c : Choice) (a b : ℤ) (limit : Limit) (m : ℕ) where
+module _ (f : Form) (a b : ℤ) (limit : Limit) (m : ℕ) where
   abbrev numbers : ℕ × ℕ
-  numbers = (length (bytesBy c a b limit m), length (marksBy c a b m))
+  numbers = (length (bytesBy f a b limit m), length (marksBy (f .choice) a b m))
 
   -- an accepted writer has a ruler, and has written its bytes
-  ruled : (old : List ℕ) → verdict (writeBy c a b limit m old .0) ≡ accepted → hasRuler a b limit m ≡ true
+  ruled : (old : List ℕ) → verdict (writeBy f a b limit m old .0) ≡ accepted → hasRuler a b limit m ≡ true
   unfolding writeBy hasRuler
   ruled old e =
-      let tests = accepted-tests numbers (writeReasonsBy c a b limit m old) e in
+      let tests = accepted-tests numbers (writeReasonsBy f a b limit m old) e in
       rw (tests .0, tests .1 .0, tests .1 .1 .0)
 
-  bytes-written : (old : List ℕ) → verdict (writeBy c a b limit m old .0) ≡ accepted → wrote (λ x. x .0) (writeBy c a b limit m old) ≡ bytesBy c a b limit m
+  bytes-written : (old : List ℕ) → verdict (writeBy f a b limit m old .0) ≡ accepted → wrote (λ x. x .0) (writeBy f a b limit m old) ≡ bytesBy f a b limit m
   unfolding writeBy
   bytes-written old e =
-      wrote-is {A = ℕ × ℕ} (λ x. x .0) (lowest (writeReasonsBy c a b limit m old) (given numbers)) numbers (bytesBy c a b limit m) old refl (accepted-is numbers (writeReasonsBy c a b limit m old) e)
+      wrote-is {A = ℕ × ℕ} (λ x. x .0) (lowest (writeReasonsBy f a b limit m old) (given numbers)) numbers (bytesBy f a b limit m) old refl (accepted-is numbers (writeReasonsBy f a b limit m old) e)
 
-module _ (c : Choice) (a b : ℤ) (limit : Limit) (m : ℕ) (old old' : List ℕ) (alike : BothLong (noRuler a b limit m) (length (bytesBy c a b limit m)) old (length (bytesBy c (negℤ a) (negℤ b) (film.mirrored limit) m)) old') where
-  verdicts : verdict (rulingBack c a b limit m old old' .0) ≡ verdict (ruling c a b limit m old old' .0)
-  verdicts = rulers-mirror.mirror c a b limit m .same-verdict old old' alike
+module _ (f : Form) (a b : ℤ) (limit : Limit) (m : ℕ) (old old' : List ℕ) (alike : BothLong (noRuler a b limit m) (length (bytesBy f a b limit m)) old (length (bytesBy (turnedForm f) (negℤ a) (negℤ b) (film.mirrored limit) m)) old') where
+  verdicts : verdict (rulingBack f a b limit m old old' .0) ≡ verdict (ruling f a b limit m old old' .0)
+  verdicts = rulers-mirror.mirror f a b limit m .same-verdict old old' alike
 
-  back-written : verdict (ruling c a b limit m old old' .0) ≡ accepted → wrote (λ x. x .0) (rulingBack c a b limit m old old') ≡ bytesBy c (negℤ a) (negℤ b) (film.mirrored limit) m
-  back-written e = bytes-written c (negℤ a) (negℤ b) (film.mirrored limit) m old' (verdicts ∙ e)
+  back-written : verdict (ruling f a b limit m old old' .0) ≡ accepted → wrote (λ x. x .0) (rulingBack f a b limit m old old') ≡ bytesBy (turnedForm f) (negℤ a) (negℤ b) (film.mirrored limit) m
+  back-written e = bytes-written (turnedForm f) (negℤ a) (negℤ b) (film.mirrored limit) m old' (verdicts ∙ e)
 
-  rulers : Rulers c a b limit m old old'
+  rulers : Rulers f a b limit m old old'
   rulers =
       record {
         verdicts = verdicts;
-        match-exactly = λ e. rw (back-written e, bytes-written c a b limit m old e) (rulers-mirror.mirror c a b limit m .match-exactly (ruled c a b limit m old e));
-        one-half = rulers-mirror.mirror c a b limit m .one-half;
-        one-more-below = λ e f l. rw (back-written e, bytes-written c a b limit m old e) (rulers-mirror.mirror c a b limit m .one-more-below (ruled c a b limit m old e) f l);
-        one-more-above = λ e f l. rw (back-written e, bytes-written c a b limit m old e) (rulers-mirror.mirror c a b limit m .one-more-above (ruled c a b limit m old e) f l);
+        match-exactly = λ e. rw (back-written e, bytes-written f a b limit m old e) (rulers-mirror.mirror f a b limit m .match-exactly (ruled f a b limit m old e));
+        one-half = rulers-mirror.mirror f a b limit m .one-half;
+        one-more-below = λ e g l. rw (back-written e, bytes-written f a b limit m old e) (rulers-mirror.mirror f a b limit m .one-more-below (ruled f a b limit m old e) g l);
+        one-more-above = λ e g l. rw (back-written e, bytes-written f a b limit m old e) (rulers-mirror.mirror f a b limit m .one-more-above (ruled f a b limit m old e) g l);
       }
+
+-- those that are handed a twist
+twisted-rulers : (c : Choice) (t : ℕ) (a b : ℤ) (limit : Limit) (m : ℕ) (old old' : List ℕ)
+    → BothLong (noRuler a b limit m) (length (bytesBy (twisted c t) a b limit m)) old (length (bytesBy (twisted c (otherNumber t)) (negℤ a) (negℤ b) (film.mirrored limit) m)) old' → TwistedRulers c t a b limit m old old'
+twisted-rulers c t a b limit m old old' alike =
+    let here = rulers-mirror.twist-mirror c t a b limit m in
+    let there = rulers-mirror.twist-mirror c (otherNumber t) (negℤ a) (negℤ b) (film.mirrored limit) m in
+    record {
+      verdicts = here .same-verdict old old' alike;
+      here = λ h. here .known h old;
+      back = λ h. there .known (rulers-mirror.other-small t h) old' ∙ ap (λ (f : Form). writeBy f (negℤ a) (negℤ b) (film.mirrored limit) m old') (here .other h);
+      rulers = λ h. rulers (twisted c t) a b limit m old old'
+          (subst (λ (f : Form). BothLong (noRuler a b limit m) (length (bytesBy (twisted c t) a b limit m)) old (length (bytesBy f (negℤ a) (negℤ b) (film.mirrored limit) m)) old') (here .other h) alike);
+    }
 
 -- ---- marks
 of-step : (r : Answer (ℤ × ℕ)) → verdict r ≡ verdict (stepOnly r)
@@ -151,6 +166,7 @@ pub demand-three : DemandThree
 demand-three =
     record {
       rulers = rulers;
+      twisted-rulers = twisted-rulers;
       whole-marks = whole-marks;
       whole-places = λ a b v limit. places.mirror limit .whole-places a b v;
       real-places = λ a b v limit. places.mirror limit .real-places a b v;

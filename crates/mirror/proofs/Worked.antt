@@ -2,7 +2,7 @@
 -- wrong, each refuted on the smallest input that tells. Assumes nothing.
 use mathlib.Core.Path.{_≡_, refl, sym, ap, _∙_, subst}
 use mathlib.Core.Bool.{Bool, true, false, true≢false}
-use mathlib.Core.List.{List, [], _∷_, map}
+use mathlib.Core.List.{List, [], _∷_, _++_, map, reverse}
 use Prim.Native.Nat.{ℕ, _<_}
 use native.Mathlib.Omega.{arith}
 use lib.IntN.{ℤ, pos, negsuc, negℤ}
@@ -20,6 +20,9 @@ use Rattle.real.specs.Mirror as film
 use Rattle.decimal.specs.Print.{digits}
 use Rattle.numeric.specs.declared.Choice.{Choice}
 use Rattle.numeric.specs.declared.Choice.the-variants.{Cut, Inside}
+use Rattle.ruler.specs.declared.Twist.{Twist}
+use Rattle.ruler.specs.declared.Twist.the-variants.{Plain, S, Z}
+use Rattle.ruler.specs.declared.Form.{Form}
 use Rattle.numeric.specs.Marks.{high, stepAt, firstOf, chosen, noStepFor, stepFor, marksFor, insideFor, stepOf}
 use Rattle.numeric.specs.Calls.{wholeKeyPoints}
 use Rattle.numeric.specs.Mirror.{nearestZero, Divides, OneMore, stepOnly}
@@ -30,8 +33,8 @@ use Rattle.search.specs.declared.RoundingMethod.the-variants.{Ceil}
 use Rattle.linspace.specs.List.{whole, real, entries, stepped, against}
 use Rattle.linspace.specs.Calls.{stepValues}
 use Rattle.ruler.specs.Place.{placeOf}
-use Rattle.ruler.specs.Bytes.{axisBody, markBody, laid}
-use Rattle.ruler.specs.Rule.{recordsBy, bytesBy, writeBy}
+use Rattle.ruler.specs.Bytes.{kindFor, twistBytes, Record, axis, mark, axisBody, markBody, laid, joined}
+use Rattle.ruler.specs.Rule.{one, three, recordsBy, bytesBy, writeBy}
 use Rattle.ruler.specs.Mirror as ruler
 use Rattle.ruler.proofs.Mirror.{one-record-longer}
 use Rattle.ruler.specs.Mirror.{accepted, verdict}
@@ -47,24 +50,24 @@ draft = record {
   is-next = cut-next 5 (omega arith) 2 (λ e. let n : ⊥ = omega (arith, e) in n);
   place = pos 150;
   placed = refl;
-  others = recordsBy Cut (pos 15) (pos 3) (film.mirrored draftLimit) 4;
+  others = recordsBy one (pos 15) (pos 3) (film.mirrored draftLimit) 4;
   fewer-are = refl;
   others-match = refl;
 }
 
 -- of kind 3
-draft-inside : ruler.MirrorOf (wrote (λ x. x .0) (rulingBack Inside (negsuc 14) (negsuc 2) draftLimit 4 (zeros 85) (zeros 85))) (wrote (λ x. x .0) (ruling Inside (negsuc 14) (negsuc 2) draftLimit 4 (zeros 85) (zeros 85)))
+draft-inside : ruler.MirrorOf (wrote (λ x. x .0) (rulingBack three (negsuc 14) (negsuc 2) draftLimit 4 (zeros 85) (zeros 85))) (wrote (λ x. x .0) (ruling three (negsuc 14) (negsuc 2) draftLimit 4 (zeros 85) (zeros 85)))
 unfolding writeBy bytesBy laid axisBody markBody digits stepAt firstOf chosen noStepFor stepFor marksFor insideFor placeOf wholePlace spot along rising falling within wholeOf eq sub div mul add ofInt ofBits
-draft-inside = (recordsBy Inside (negsuc 14) (negsuc 2) draftLimit 4, refl, refl)
+draft-inside = (recordsBy three (negsuc 14) (negsuc 2) draftLimit 4, refl, refl)
 
 pub worked : Worked
 unfolding draft draft-inside writeBy bytesBy wholeKeyPoints stepAt firstOf chosen noStepFor stepFor marksFor
 worked = record { draft-more = draft; draft-extra = refl; draft-place = refl; draft-inside = draft-inside; no-ruler = (refl, refl); no-marks = (refl, refl) }
 
 -- ---- nothing to write: the theorem asks nothing of what is lent
-pub no-ruler-lent : (c : Choice) (old old' : List ℕ) → Rulers c (negsuc 4) (negsuc 2) draftLimit 0 old old'
+pub no-ruler-lent : (f : Form) (old old' : List ℕ) → Rulers f (negsuc 4) (negsuc 2) draftLimit 0 old old'
 unfolding stepAt firstOf chosen noStepFor
-no-ruler-lent c old old' = demand-three .rulers c (negsuc 4) (negsuc 2) draftLimit 0 old old' (λ e. absurd (true≢false (sym e)))
+no-ruler-lent f old old' = demand-three .rulers f (negsuc 4) (negsuc 2) draftLimit 0 old old' (λ e. absurd (true≢false (sym e)))
 
 pub no-marks-lent : (old old' : List ℤ) → Marks (negsuc 4) (negsuc 2) 0 old old'
 unfolding stepAt firstOf chosen noStepFor
@@ -81,22 +84,22 @@ searches-not-kept h = not-none (sym (h (pos 0 ∷ []) (pos 1) Ceil))
 -- ---- wrong: no mark more. −3..−1 with m 1 has the step 10 and the mark 0, and 1..3 has none.
 abbrev AlwaysMirrored : Type 0
 AlwaysMirrored =
-    (a b : ℤ) (limit : Limit) (m : ℕ) (old old' : List ℕ) → verdict (ruling Cut a b limit m old old' .0) ≡ accepted → verdict (rulingBack Cut a b limit m old old' .0) ≡ accepted
-    → ruler.MirrorOf (wrote (λ x. x .0) (rulingBack Cut a b limit m old old')) (wrote (λ x. x .0) (ruling Cut a b limit m old old'))
+    (a b : ℤ) (limit : Limit) (m : ℕ) (old old' : List ℕ) → verdict (ruling one a b limit m old old' .0) ≡ accepted → verdict (rulingBack one a b limit m old old' .0) ≡ accepted
+    → ruler.MirrorOf (wrote (λ x. x .0) (rulingBack one a b limit m old old')) (wrote (λ x. x .0) (ruling one a b limit m old old'))
 
 pub not-always-mirrored : AlwaysMirrored → ⊥
 unfolding writeBy bytesBy laid axisBody markBody digits stepAt firstOf chosen noStepFor stepFor marksFor placeOf wholePlace spot eq ofInt
 not-always-mirrored h =
     let film = limitOf (pos 0) (pos 0) in
     let back = h (negsuc 2) (negsuc 0) film 1 (zeros 45) (zeros 25) refl refl in
-    let n : _≡_ {A = ℕ} 1 0 = demand-three .rulers Cut (negsuc 2) (negsuc 0) film 1 (zeros 45) (zeros 25) (λ e. refl) .match-exactly refl .0 back in
+    let n : _≡_ {A = ℕ} 1 0 = demand-three .rulers one (negsuc 2) (negsuc 0) film 1 (zeros 45) (zeros 25) (λ e. refl) .match-exactly refl .0 back in
     let z : ⊥ = omega (arith, n) in z
 
 -- ---- wrong, 02 (a): one mark more of kind 3, where the step does not divide the needle nearest zero. −3..−1 with m 1 has no mark, and 1..3 has none.
 abbrev InsideMore : Type 0
 InsideMore =
-    (a b : ℤ) (limit : Limit) (m : ℕ) (old old' : List ℕ) → verdict (ruling Inside a b limit m old old' .0) ≡ accepted → (Divides (stepOf a b m) (nearestZero a b) → ⊥) → high a b <ℤ pos 0
-    → ruler.OneMore a b limit m (high a b) (wrote (λ x. x .0) (ruling Inside a b limit m old old')) (wrote (λ x. x .0) (rulingBack Inside a b limit m old old'))
+    (a b : ℤ) (limit : Limit) (m : ℕ) (old old' : List ℕ) → verdict (ruling three a b limit m old old' .0) ≡ accepted → (Divides (stepOf a b m) (nearestZero a b) → ⊥) → high a b <ℤ pos 0
+    → ruler.OneMore a b limit m (high a b) (wrote (λ x. x .0) (ruling three a b limit m old old')) (wrote (λ x. x .0) (rulingBack three a b limit m old old'))
 
 pub not-inside-more : InsideMore → ⊥
 unfolding writeBy bytesBy laid axisBody stepAt firstOf chosen noStepFor stepFor insideFor
@@ -158,3 +161,38 @@ pub zeros-not-apart : ZerosApart → ⊥
 unfolding stepped entries neg add lt
 zeros-not-apart h =
     true≢false (sym (ap (λ (l : List Float). hasSign (getD l 1 (fin false 0 (pos 0)))) (h (fin true 1 (pos 0)) (fin false 1 (pos 0)) (fin false 1 (pos 0)))))
+
+-- ---- wrong, 02 (c): a mirrored ruler with the same twist. 0..0 on 0..0 is its own mirror, but for the twist.
+abbrev SameTwist : Type 0
+SameTwist =
+    (f : Form) (a b : ℤ) (limit : Limit) (m : ℕ) (old old' : List ℕ)
+    → verdict (writeBy f a b limit m old .0) ≡ accepted → verdict (writeBy f (negℤ a) (negℤ b) (film.mirrored limit) m old' .0) ≡ accepted → ruler.Matches (f .choice) a b m
+    → ruler.MirrorOf (wrote (λ x. x .0) (writeBy f (negℤ a) (negℤ b) (film.mirrored limit) m old')) (wrote (λ x. x .0) (writeBy f a b limit m old))
+
+abbrev six : Form
+six = record { choice = Inside; twist = S }
+
+-- a record that begins with 6 and has 0 behind its 25 bytes is an S ruler's, and turned it has 1 there
+not-both-twists : (c : Choice) (t : Twist) (rest rest' : List ℕ) → 6 ≡ kindFor c t → 0 ≡ getD (twistBytes t ++ rest) 0 2 → 0 ≡ getD (twistBytes (ruler.otherTwist t) ++ rest') 0 2 → ⊥
+not-both-twists Cut Plain rest rest' k e g = let z : ⊥ = omega (arith, k) in z
+not-both-twists Cut S rest rest' k e g = let z : ⊥ = omega (arith, k) in z
+not-both-twists Cut Z rest rest' k e g = let z : ⊥ = omega (arith, k) in z
+not-both-twists Inside Plain rest rest' k e g = let z : ⊥ = omega (arith, k) in z
+not-both-twists Inside S rest rest' k e g = let z : ⊥ = omega (arith, g) in z
+not-both-twists Inside Z rest rest' k e g = let z : ⊥ = omega (arith, e) in z
+
+abbrev point : List ℕ
+point = bytesBy six (pos 0) (pos 0) (limitOf (pos 0) (pos 0)) 0
+
+not-own-mirror : (rs : List Record) → point ≡ joined rs → point ≡ joined (ruler.turned rs) → ⊥
+unfolding bytesBy laid axisBody markBody digits stepAt firstOf chosen stepFor insideFor placeOf wholePlace spot eq ofInt
+not-own-mirror [] e g = let z : ⊥ = omega (arith, ap length e) in z
+not-own-mirror (mark v x ∷ rs) e g =
+    let k : _≡_ {A = ℕ} 6 2 = ap (λ (l : List ℕ). getD l 0 0) e in
+    let z : ⊥ = omega (arith, k) in z
+not-own-mirror (axis f a b limit m s ∷ rs) e g =
+    not-both-twists (f .choice) (f .twist) (joined rs) (joined (reverse (map ruler.negated rs))) (ap (λ (l : List ℕ). getD l 0 0) e) (ap (λ (l : List ℕ). getD l 25 2) e) (ap (λ (l : List ℕ). getD l 25 2) g)
+
+pub not-same-twist : SameTwist → ⊥
+unfolding writeBy bytesBy laid axisBody markBody digits stepAt firstOf chosen noStepFor stepFor insideFor placeOf wholePlace spot eq ofInt
+not-same-twist h = let (rs, e, g) = h six (pos 0) (pos 0) (limitOf (pos 0) (pos 0)) 0 (zeros 46) (zeros 46) refl refl tt in not-own-mirror rs e g

@@ -1,7 +1,7 @@
 -- Demand 3, whole: what a draft and its mirror have in common, clause by clause, with 01 "Mirroring, real reading, stepped axes". Each clause is a
 -- statement over the rules that the calls promise, so over what the calls do. All of them hold of every number, so of the admitted ones, and of
 -- every mark limit. `demand-three` of proofs/Mirror proves `DemandThree`. Assumes nothing.
-use Prim.Native.Nat.{ℕ}
+use Prim.Native.Nat.{ℕ, _≤_}
 use mathlib.Core.List.{List, [], map}
 use mathlib.Core.Logic.{_⊎_, _↔_}
 use mathlib.Core.Path.{_≡_}
@@ -31,7 +31,8 @@ use Rattle.segmented.specs.Segments as segments
 use Rattle.segmented.specs.Segments.{segmentIndexOf, segmentPlace, segmentKeyPoints}
 use Rattle.segmented.specs.Axes.{steppedAxis, steppedFinder}
 use Rattle.segmented.specs.Mirror.{across}
-use Rattle.ruler.specs.Rule.{noRuler, bytesBy, writeBy}
+use Rattle.ruler.specs.declared.Form.{Form}
+use Rattle.ruler.specs.Rule.{noRuler, bytesBy, writeBy, twisted, twistedWrite}
 use Rattle.ruler.specs.Mirror as ruler
 use Rattle.ruler.specs.Mirror.{accepted, verdict}
 
@@ -51,29 +52,45 @@ wrote many done = firstOf many (done .0) (done .1)
 
 -- What two calls wrote is a ruler and its mirror: `ruler.MirrorOf`. The half below zero is the axis (a, b), and z its needle nearest zero: what was
 -- written for it has exactly one mark more than what was written for the other half. It is the last, the next multiple of the step past z, toward zero,
--- and stands where this axis's own rule places it; all others match: `ruler.OneMore`. Both are of ruler/specs/Mirror. 02 (a): the statement is one over
--- the kinds, 1 with its marks cut at the larger end and 3 with those on the axis.
-module _ (c : Choice) (a b : ℤ) (limit : Limit) (m : ℕ) (old old' : List ℕ) where
-  -- what writing the ruler of the draft does, and that of its mirror
+-- and stands where this axis's own rule places it; all others match: `ruler.OneMore`. Both are of ruler/specs/Mirror. 02 (a), (c): the statement is one over
+-- the kinds, 1 and 5 with their marks cut at the larger end, 3 and 6 with those on the axis; a mirrored ruler with a twist has the other one.
+module _ (f : Form) (a b : ℤ) (limit : Limit) (m : ℕ) (old old' : List ℕ) where
+  -- what writing the ruler of the draft does, and that of its mirror, which has the other twist
   abbrev pub ruling : Answer (ℕ × ℕ) × List ℕ
-  ruling = writeBy c a b limit m old
+  ruling = writeBy f a b limit m old
 
   abbrev pub rulingBack : Answer (ℕ × ℕ) × List ℕ
-  rulingBack = writeBy c (negℤ a) (negℤ b) (film.mirrored limit) m old'
+  rulingBack = writeBy (ruler.turnedForm f) (negℤ a) (negℤ b) (film.mirrored limit) m old'
 
   pub record Rulers : Type 0 where
     -- Both are refused with the same number, or both are accepted.
     pub verdicts : verdict (rulingBack .0) ≡ verdict (ruling .0)
-    -- Accepted, the mirrored axis has the mirrored ruler exactly where the marks match: of kind 1 when the step divides the needle nearest zero, of
-    -- kind 3 on every axis (`Matches` of ruler/specs/Mirror).
+    -- Accepted, the mirrored axis has the mirrored ruler exactly where the marks match: of kinds 1 and 5 when the step divides the needle nearest zero,
+    -- of kinds 3 and 6 on every axis (`Matches` of ruler/specs/Mirror).
     pub match-exactly : verdict (ruling .0) ≡ accepted
-        → ruler.MirrorOf (wrote (λ x. x .0) rulingBack) (wrote (λ x. x .0) ruling) ↔ ruler.Matches c a b m
+        → ruler.MirrorOf (wrote (λ x. x .0) rulingBack) (wrote (λ x. x .0) ruling) ↔ ruler.Matches (f .choice) a b m
     -- Otherwise the axis lies below zero or above it, and the half below zero, which is this axis or its mirror, has exactly one mark more.
-    pub one-half : (ruler.Matches c a b m → ⊥) → (high a b <ℤ pos 0) ⊎ (pos 0 <ℤ low a b)
-    pub one-more-below : verdict (ruling .0) ≡ accepted → (ruler.Matches c a b m → ⊥) → high a b <ℤ pos 0
+    pub one-half : (ruler.Matches (f .choice) a b m → ⊥) → (high a b <ℤ pos 0) ⊎ (pos 0 <ℤ low a b)
+    pub one-more-below : verdict (ruling .0) ≡ accepted → (ruler.Matches (f .choice) a b m → ⊥) → high a b <ℤ pos 0
         → ruler.OneMore a b limit m (high a b) (wrote (λ x. x .0) ruling) (wrote (λ x. x .0) rulingBack)
-    pub one-more-above : verdict (ruling .0) ≡ accepted → (ruler.Matches c a b m → ⊥) → pos 0 <ℤ low a b
+    pub one-more-above : verdict (ruling .0) ≡ accepted → (ruler.Matches (f .choice) a b m → ⊥) → pos 0 <ℤ low a b
         → ruler.OneMore (negℤ a) (negℤ b) (film.mirrored limit) m (negℤ (low a b)) (wrote (λ x. x .0) rulingBack) (wrote (λ x. x .0) ruling)
+
+-- ---- 02 (c): the calls that are handed a twist as a number, t on this side and the other on that of the mirror (`ruler.otherNumber`)
+module _ (c : Choice) (t : ℕ) (a b : ℤ) (limit : Limit) (m : ℕ) (old old' : List ℕ) where
+  abbrev pub twisting : Answer (ℕ × ℕ) × List ℕ
+  twisting = twistedWrite c t a b limit m old
+
+  abbrev pub twistingBack : Answer (ℕ × ℕ) × List ℕ
+  twistingBack = twistedWrite c (ruler.otherNumber t) (negℤ a) (negℤ b) (film.mirrored limit) m old'
+
+  pub record TwistedRulers : Type 0 where
+    -- Both are refused with the same number, 15 among them, or both are accepted.
+    pub verdicts : verdict (twistingBack .0) ≡ verdict (twisting .0)
+    -- Handed a twist, the two calls do just what `Rulers` speaks of: they write the ruler of that twist, and its mirror's with the other.
+    pub here : t ≤ 1 → twisting ≡ ruling (twisted c t) a b limit m old old'
+    pub back : t ≤ 1 → twistingBack ≡ rulingBack (twisted c t) a b limit m old old'
+    pub rulers : t ≤ 1 → Rulers (twisted c t) a b limit m old old'
 
 -- ---- 01: marks of whole axes match when negated and in reverse order (`mirrored` of numeric/specs/Mirror); the same theorem for the call that writes
 -- the marks alone, which also tells the step. `OneMore` is that of numeric/specs/Mirror.
@@ -139,10 +156,14 @@ module _ {A : Type 0} (kind : Kind A) (opposite : A → A) (Turned : List A → 
 
 -- ---- the theorem
 pub record DemandThree : Type 0 where
-  -- Rulers of either kind, of any whole axis, limits and mark limit, with bytes lent that are enough on both sides or on neither, where there is a ruler
+  -- Rulers of every kind, of any whole axis, limits and mark limit, with bytes lent that are enough on both sides or on neither, where there is a ruler
   -- to write.
-  pub rulers : (c : Choice) (a b : ℤ) (limit : Limit) (m : ℕ) (old old' : List ℕ)
-      → BothLong (noRuler a b limit m) (length (bytesBy c a b limit m)) old (length (bytesBy c (negℤ a) (negℤ b) (film.mirrored limit) m)) old' → Rulers c a b limit m old old'
+  pub rulers : (f : Form) (a b : ℤ) (limit : Limit) (m : ℕ) (old old' : List ℕ)
+      → BothLong (noRuler a b limit m) (length (bytesBy f a b limit m)) old (length (bytesBy (ruler.turnedForm f) (negℤ a) (negℤ b) (film.mirrored limit) m)) old' → Rulers f a b limit m old old'
+  -- Those with a twist, as the calls that are handed one write them, likewise.
+  pub twisted-rulers : (c : Choice) (t : ℕ) (a b : ℤ) (limit : Limit) (m : ℕ) (old old' : List ℕ)
+      → BothLong (noRuler a b limit m) (length (bytesBy (twisted c t) a b limit m)) old (length (bytesBy (twisted c (ruler.otherNumber t)) (negℤ a) (negℤ b) (film.mirrored limit) m)) old'
+      → TwistedRulers c t a b limit m old old'
   -- Marks of any whole axis, likewise.
   pub whole-marks : (a b : ℤ) (m : ℕ) (old old' : List ℤ)
       → BothLong (planReasons (endsAdmitted a b) a b m) (length (marks a b m)) old (length (marks (negℤ a) (negℤ b) m)) old' → Marks a b m old old'

@@ -57,15 +57,18 @@ module _ {A : Type 0} where
       go true h rest e = absurd (not-both (sym e))
       go false h rest e = let w = rest e in ((h, w .0), w .1)
 
-  -- a last reason counts only where none of those before it applies
-  pub last-same : (rs : List Reason) (n : ℕ) (t u : Bool) (x : Answer A) → (noneOf rs ≡ true → t ≡ u) → lowest (rs ++ (n when t ∷ [])) x ≡ lowest (rs ++ (n when u ∷ [])) x
-  last-same [] n t u x h = rw (h refl) refl
-  last-same (r ∷ rs) n t u x h = go (r .applies) h (last-same rs n t u x)
+  -- a reason counts only where none of those before it applies
+  pub next-same : (rs : List Reason) (n : ℕ) (t u : Bool) (more : List Reason) (x : Answer A) → (noneOf rs ≡ true → t ≡ u) → lowest (rs ++ (n when t ∷ more)) x ≡ lowest (rs ++ (n when u ∷ more)) x
+  next-same [] n t u more x h = rw (h refl) refl
+  next-same (r ∷ rs) n t u more x h = go (r .applies) h (next-same rs n t u more x)
     where
-      go : (b : Bool) → ((not b && noneOf rs) ≡ true → t ≡ u) → ((noneOf rs ≡ true → t ≡ u) → lowest (rs ++ (n when t ∷ [])) x ≡ lowest (rs ++ (n when u ∷ [])) x)
-          → cond b (refused (r .number)) (lowest (rs ++ (n when t ∷ [])) x) ≡ cond b (refused (r .number)) (lowest (rs ++ (n when u ∷ [])) x)
+      go : (b : Bool) → ((not b && noneOf rs) ≡ true → t ≡ u) → ((noneOf rs ≡ true → t ≡ u) → lowest (rs ++ (n when t ∷ more)) x ≡ lowest (rs ++ (n when u ∷ more)) x)
+          → cond b (refused (r .number)) (lowest (rs ++ (n when t ∷ more)) x) ≡ cond b (refused (r .number)) (lowest (rs ++ (n when u ∷ more)) x)
       go true h rest = refl
       go false h rest = rest h
+
+  pub last-same : (rs : List Reason) (n : ℕ) (t u : Bool) (x : Answer A) → (noneOf rs ≡ true → t ≡ u) → lowest (rs ++ (n when t ∷ [])) x ≡ lowest (rs ++ (n when u ∷ [])) x
+  last-same rs n t u x h = next-same rs n t u [] x h
 
   -- there is an answer, or a refusal
   pub either : (x : A) (rs : List Reason) → (lowest rs (given x) ≡ given x) ⊎ ((n : ℕ) × (lowest rs (given x) ≡ refused n))

@@ -1,7 +1,7 @@
 -- 01 "Why a call stops": the number of each refusal. Assumes nothing.
 use Prim.Native.Nat.{ℕ}
 use Rattle.ranged1d.specs.declared.Refusal.{Refusal}
-use Rattle.ranged1d.specs.declared.Refusal.the-variants.{WholeNotAdmitted, LimitNotAdmitted, NoStep, NoSegments, TooFar, StepAgainstAxis, ListTooLong, NotMonotone, NanTarget, AboveI32, NotPrintable, TooManyDecimals, OutTooShort, NotARuler}
+use Rattle.ranged1d.specs.declared.Refusal.the-variants.{WholeNotAdmitted, LimitNotAdmitted, NoStep, NoSegments, TooFar, StepAgainstAxis, ListTooLong, NotMonotone, NanTarget, AboveI32, NotPrintable, TooManyDecimals, OutTooShort, NotARuler, UnknownTwist, TwistLost}
 
 abbrev pub numberOf : Refusal → ℕ
 -- a whole end, value, step or list entry that is not admitted
@@ -32,3 +32,7 @@ numberOf TooManyDecimals = 12
 numberOf OutTooShort = 13
 -- bytes that are no ruler
 numberOf NotARuler = 14
+-- a twist that is neither S nor Z
+numberOf UnknownTwist = 15
+-- a Z ruler that would lose its twist
+numberOf TwistLost = 16

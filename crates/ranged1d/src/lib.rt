@@ -26,6 +26,8 @@ pub enum Refusal {
     TooManyDecimals,
     OutTooShort,
     NotARuler,
+    UnknownTwist,
+    TwistLost,
 }
 
 impl Refusal {
@@ -47,6 +49,8 @@ impl Refusal {
             Refusal::TooManyDecimals => 12,
             Refusal::OutTooShort => 13,
             Refusal::NotARuler => 14,
+            Refusal::UnknownTwist => 15,
+            Refusal::TwistLost => 16,
         }
     }
 }

@@ -10,3 +10,5 @@ pub mod Theorems
 pub mod Mirror
 pub mod OnFilm
 pub mod Worked
+pub mod Moving
+pub mod Moves

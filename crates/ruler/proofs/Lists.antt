@@ -11,7 +11,9 @@ use borrow.Rule.Slice.PartMut.{putMid}
 use Rattle.decimal.specs.Read.{sameBytes}
 use Rattle.decimal.proofs.Texts.{same-no, same-is}
 use Rattle.ranged1d.proofs.Pieces.{put-more, more-long}
-use Rattle.ruler.specs.Bytes.{word}
+use Rattle.ruler.specs.declared.Twist.{Twist}
+use Rattle.ruler.specs.declared.Twist.the-variants.{Plain, S, Z}
+use Rattle.ruler.specs.Bytes.{word, twistNumber, twistBytes}
 
 -- a list by its elements
 abbrev gets : ℕ → ℕ → List ℕ → List ℕ
@@ -30,8 +32,14 @@ drop-take (suc c) w [] = ap (drop (suc c)) (take-nil (suc c + w)) ∙ sym (take-
 drop-take (suc c) w (x ∷ xs) = rw (suc-add c w) (drop-take c w xs)
 
 -- the same words in a body
-pub axis-same : (m : ℕ) {a b p q s c d r t u : ℕ} → a ≡ c → b ≡ d → p ≡ r → q ≡ t → s ≡ u → word a ++ word b ++ word p ++ word q ++ word m ++ word s ≡ word c ++ word d ++ word r ++ word t ++ word m ++ word u
-axis-same m e f g h i = rw (e, f, g, h, i)
+pub axis-same : (m : ℕ) {a b p q s c d r t u x y : ℕ} → a ≡ c → b ≡ d → p ≡ r → q ≡ t → s ≡ u → x ≡ y → word a ++ word b ++ word p ++ word q ++ word m ++ word s ++ (x ∷ []) ≡ word c ++ word d ++ word r ++ word t ++ word m ++ word u ++ (y ∷ [])
+axis-same m e f g h i j = rw (e, f, g, h, i, j)
+
+-- a body is its words and its twist: what is behind it where it has none is left out
+pub twist-taken : (t : Twist) (a b p q m s : ℕ) → take (25 + length (twistBytes t) - 1) (word a ++ word b ++ word p ++ word q ++ word m ++ word s ++ (twistNumber t ∷ [])) ≡ (word a ++ word b ++ word p ++ word q ++ word m ++ word s) ++ twistBytes t
+twist-taken Plain a b p q m s = refl
+twist-taken S a b p q m s = refl
+twist-taken Z a b p q m s = refl
 
 pub mark-same : {v w x y : ℕ} {t u : List ℕ} → v ≡ w → x ≡ y → t ≡ u → word v ++ word x ++ t ≡ word w ++ word y ++ u
 mark-same e f g = rw (e, f, g)

@@ -21,9 +21,9 @@ use Rattle.decimal.specs.Print.{decimal}
 use Rattle.decimal.proofs.Digits.{decimal-most}
 use Rattle.ruler.specs.declared.Draft.{Draft}
 use Rattle.ruler.specs.declared.Part.{Part}
-use Rattle.ruler.specs.Bytes.{whole, mark, markBody, laid}
+use Rattle.ruler.specs.Bytes.{headLong, whole, mark, markBody, laid}
 use Rattle.ruler.specs.Place.{placeOf}
-use Rattle.ruler.specs.Rule.{markAt, choiceIn, aIn, bIn, limitIn, mIn, marksIn, isRuler, indexOf, hasMark, recordText, labelText, recordAt, labelAt, nowhere, recordIn, labelIn, part, further}
+use Rattle.ruler.specs.Rule.{markAt, formIn, aIn, bIn, limitIn, mIn, marksIn, isRuler, indexOf, hasMark, recordText, labelText, recordAt, labelAt, nowhere, recordIn, labelIn, part, further}
 use Rattle.ruler.specs.Steps.{Inside, draftIn}
 use Rattle.ruler.proofs.Lists.{drop-take}
 use Rattle.ruler.proofs.Records.{run-at}
@@ -40,9 +40,9 @@ module _ {l : List ℕ} {d : Draft} {p : KeyPoints} (v : ℤ) (k : Known l d p) 
   unfolding hasMark
   has-is = rw (k .ruler, known-marks k, length-of (element (p .first) (p .step)) (p .count))
 
-  pub record-found : place < p .count → recordIn l v ≡ recordAt place
+  pub record-found : place < p .count → recordIn l v ≡ recordAt (headLong (d .form)) place
   unfolding recordIn
-  record-found h = rw (has-is, lt-ltb place (p .count) h, known-marks k)
+  record-found h = rw (has-is, lt-ltb place (p .count) h, known-marks k) (ap (λ (x : Draft). recordAt (headLong (x .form)) place) (k .draft))
 
   pub record-absent : p .count ≤ place → recordIn l v ≡ nowhere
   unfolding recordIn
@@ -54,7 +54,7 @@ no-record l v e = rw e
 
 -- ---- a mark of a ruler
 pub record Marked (l : List ℕ) (v : ℤ) : Type 0 where
-  pub known : Known l (draftIn l) (planWith (choiceIn l) (aIn l) (bIn l) (mIn l))
+  pub known : Known l (draftIn l) (planWith (formIn l .choice) (aIn l) (bIn l) (mIn l))
   pub index : indexOf v (marksIn l) < length (marksIn l)
 
 pub marked : (l : List ℕ) (v : ℤ) → hasMark l v ≡ true → Marked l v
@@ -68,19 +68,19 @@ marked l v h =
 
 -- the record of v is at its place
 module _ (l : List ℕ) (v : ℤ) (w : Marked l v) where
-  record-here : take 20 (drop (25 + 20 * indexOf v (marksIn l)) l) ≡ laid (markAt (aIn l) (bIn l) (limitIn l) v)
+  record-here : take 20 (drop (headLong (formIn l) + 20 * indexOf v (marksIn l)) l) ≡ laid (markAt (aIn l) (bIn l) (limitIn l) v)
   record-here =
       let g = w .known in
-      let p = planWith (choiceIn l) (aIn l) (bIn l) (mIn l) in
+      let p = planWith (formIn l .choice) (aIn l) (bIn l) (mIn l) in
       let f = element (p .first) (p .step) in
       let k = indexOf v (marksIn l) in
       let at-k : f k ≡ v = ap (λ (x : List ℤ). f (indexOf v x)) (known-marks g) ∙ index-found v f (p .count) (subst (λ (x : List ℤ). indexOf v x < p .count) (known-marks g) (w .index)) in
-      ap (take 20) (sym (drop-drop (20 * k) 25 l))
-      ∙ ap (λ (x : List ℕ). take 20 (drop (20 * k) x)) (ap (drop 25) (g .bytes) ∙ ruler-rest _ _ _ _ _ (g .plan))
+      ap (take 20) (sym (drop-drop (20 * k) (headLong (formIn l)) l))
+      ∙ ap (λ (x : List ℕ). take 20 (drop (20 * k) x)) (ap (drop (headLong (formIn l))) (g .bytes) ∙ ruler-rest _ _ _ _ _ (g .plan))
       ∙ run-at (aIn l) (bIn l) (limitIn l) f (p .count) k (w .index)
       ∙ ap (λ (x : ℤ). laid (markAt (aIn l) (bIn l) (limitIn l) x)) at-k
 
-  ends-inside : 45 + 20 * indexOf v (marksIn l) ≤ length l
+  ends-inside : headLong (formIn l) + 20 + 20 * indexOf v (marksIn l) ≤ length l
   ends-inside = omega (arith, known-long (w .known), w .index)
 
 -- the end of a record is its number in base ten
@@ -94,12 +94,15 @@ module _ (l : List ℕ) (v : ℤ) where
   abbrev k : ℕ
   k = indexOf v (marksIn l)
 
+  abbrev h : ℕ
+  h = headLong (formIn l)
+
   -- a record's part: inside the bytes, and what it holds
   pub record-inside : Inside l (recordIn l v)
   unfolding recordIn
   record-inside = go (hasMark l v) refl
     where
-      go : (t : Bool) → hasMark l v ≡ t → Inside l (cond t (recordAt k) nowhere)
+      go : (t : Bool) → hasMark l v ≡ t → Inside l (cond t (recordAt h k) nowhere)
       go true e = (omega arith, ends-inside l v (marked l v e))
       go false e = (omega arith, omega arith)
 
@@ -107,8 +110,8 @@ module _ (l : List ℕ) (v : ℤ) where
   unfolding recordIn
   record-holds = go (hasMark l v) refl
     where
-      go : (t : Bool) → hasMark l v ≡ t → part (cond t (recordAt k) nowhere) l ≡ cond t (laid (markAt (aIn l) (bIn l) (limitIn l) v)) []
-      go true e = let w : 45 + 20 * k - (25 + 20 * k) ≡ 20 = omega arith in rw w (record-here l v (marked l v e))
+      go : (t : Bool) → hasMark l v ≡ t → part (cond t (recordAt h k) nowhere) l ≡ cond t (laid (markAt (aIn l) (bIn l) (limitIn l) v)) []
+      go true e = let w : h + 20 + 20 * k - (h + 20 * k) ≡ 20 = omega arith in rw w (record-here l v (marked l v e))
       go false e = refl
 
   -- a label's part, by its record's
@@ -116,23 +119,23 @@ module _ (l : List ℕ) (v : ℤ) where
   unfolding recordIn labelIn
   label-found = go (hasMark l v)
     where
-      go : (t : Bool) → cond t (recordAt k) nowhere .start < cond t (recordAt k) nowhere .end → (cond t (labelAt (cond t (recordAt k) nowhere) v) nowhere ≡ labelAt (cond t (recordAt k) nowhere) v) × (45 ≤ cond t (recordAt k) nowhere .end)
-      go true h = (refl, omega arith)
-      go false h = absurd (omega arith)
+      go : (t : Bool) → cond t (recordAt h k) nowhere .start < cond t (recordAt h k) nowhere .end → (cond t (labelAt (cond t (recordAt h k) nowhere) v) nowhere ≡ labelAt (cond t (recordAt h k) nowhere) v) × (45 ≤ cond t (recordAt h k) nowhere .end)
+      go true u = (refl, omega arith)
+      go false u = absurd (omega arith)
 
   pub label-absent : recordIn l v .end ≤ recordIn l v .start → labelIn l v ≡ nowhere
   unfolding recordIn labelIn
   label-absent = go (hasMark l v)
     where
-      go : (t : Bool) → cond t (recordAt k) nowhere .end ≤ cond t (recordAt k) nowhere .start → cond t (labelAt (cond t (recordAt k) nowhere) v) nowhere ≡ nowhere
-      go true h = absurd (omega arith)
-      go false h = refl
+      go : (t : Bool) → cond t (recordAt h k) nowhere .end ≤ cond t (recordAt h k) nowhere .start → cond t (labelAt (cond t (recordAt h k) nowhere) v) nowhere ≡ nowhere
+      go true u = absurd (omega arith)
+      go false u = refl
 
   pub label-inside : Inside l (labelIn l v)
   unfolding recordIn labelIn
   label-inside = go (hasMark l v) refl
     where
-      go : (t : Bool) → hasMark l v ≡ t → Inside l (cond t (labelAt (cond t (recordAt k) nowhere) v) nowhere)
+      go : (t : Bool) → hasMark l v ≡ t → Inside l (cond t (labelAt (cond t (recordAt h k) nowhere) v) nowhere)
       go true e = (omega arith, ends-inside l v (marked l v e))
       go false e = (omega arith, omega arith)
 
@@ -140,20 +143,20 @@ module _ (l : List ℕ) (v : ℤ) where
   unfolding recordIn labelIn
   label-holds = go (hasMark l v) refl
     where
-      go : (t : Bool) → hasMark l v ≡ t → part (cond t (labelAt (cond t (recordAt k) nowhere) v) nowhere) l ≡ cond t (decimal v) []
+      go : (t : Bool) → hasMark l v ≡ t → part (cond t (labelAt (cond t (recordAt h k) nowhere) v) nowhere) l ≡ cond t (decimal v) []
       go true e =
           let w = length (decimal v) in
           let most = decimal-most v in
-          let e₁ : 45 + 20 * k - (45 + 20 * k - w) ≡ w = omega (arith, most) in
-          let e₂ : 45 + 20 * k - w ≡ 25 + 20 * k + (20 - w) = omega (arith, most) in
+          let e₁ : h + 20 + 20 * k - (h + 20 + 20 * k - w) ≡ w = omega (arith, most) in
+          let e₂ : h + 20 + 20 * k - w ≡ h + 20 * k + (20 - w) = omega (arith, most) in
           let e₃ : 20 - w + w ≡ 20 = omega (arith, most) in
-          rw (e₁, e₂, ← drop-drop (20 - w) (25 + 20 * k) l, ← drop-take (20 - w) w (drop (25 + 20 * k) l), e₃, record-here l v (marked l v e)) (text-end v (placeOf (aIn l) (bIn l) (limitIn l) v))
+          rw (e₁, e₂, ← drop-drop (20 - w) (h + 20 * k) l, ← drop-take (20 - w) w (drop (h + 20 * k) l), e₃, record-here l v (marked l v e)) (text-end v (placeOf (aIn l) (bIn l) (limitIn l) v))
       go false e = refl
 
   -- a label's part lies in its record, behind the kind, the needle and the place
   pub label-in-record : hasMark l v ≡ true → (recordIn l v .start + 9 ≤ labelIn l v .start) × (labelIn l v .end ≡ recordIn l v .end)
   unfolding recordIn labelIn
-  label-in-record h = rw h (omega (arith, decimal-most v), refl)
+  label-in-record u = rw u (omega (arith, decimal-most v), refl)
 
 -- ---- a part that was cut, by which part it is
 module _ (l : List ℕ) (from : ℕ × ℕ) {x text : List ℕ} {at : ℕ × ℕ} {r w : Part} (e : r ≡ w) (holds : part w l ≡ text) where

@@ -9,7 +9,7 @@ use lib.IntN.{ℤ}
 use lib.ListN.{length, take, drop, length-append, length-drop}
 use lib.Seq.{drop-append-le, take-append-le, drop-at, take-all}
 use Rattle.ranged1d.specs.declared.Limit.{Limit}
-use Rattle.numeric.specs.declared.Choice.{Choice}
+use Rattle.ruler.specs.declared.Form.{Form}
 use Rattle.numeric.specs.declared.KeyPoints.{KeyPoints}
 use Rattle.numeric.specs.Marks.{listOf}
 use Rattle.numeric.specs.Calls.{element}
@@ -17,7 +17,7 @@ use Rattle.numeric.proofs.Lists.{length-of}
 use Rattle.decimal.specs.Print.{decimal}
 use Rattle.decimal.proofs.Digits.{decimal-most, filled-long}
 use Rattle.ruler.specs.declared.Draft.{Draft}
-use Rattle.ruler.specs.Bytes.{Record, axis, mark, axisBody, markBody, laid, joined}
+use Rattle.ruler.specs.Bytes.{twistBytes, headLong, Record, axis, mark, axisBody, markBody, laid, joined}
 use Rattle.ruler.specs.Place.{placeOf}
 use Rattle.ruler.specs.Rule.{markAt}
 use Rattle.ruler.specs.Steps.{firstOf}
@@ -40,9 +40,9 @@ pub mark-long : (v x : ℤ) → length (laid (mark v x)) ≡ 20
 unfolding laid
 mark-long v x = omega (arith, mark-body-long v x)
 
-pub axis-long : (c : Choice) (a b : ℤ) (limit : Limit) (m : ℕ) (s : ℤ) → length (laid (axis c a b limit m s)) ≡ 25
+pub axis-long : (f : Form) (a b : ℤ) (limit : Limit) (m : ℕ) (s : ℤ) → length (laid (axis f a b limit m s)) ≡ headLong f
 unfolding laid axisBody
-axis-long c a b limit m s = refl
+axis-long f a b limit m s = omega arith
 
 -- how long the records of a list of marks are; one mark more is one more
 pub records-long : (a b : ℤ) (limit : Limit) (l : List ℤ) → length (joined (map (markAt a b limit) l)) ≡ 20 * length l
@@ -88,15 +88,15 @@ module _ (a b : ℤ) (limit : Limit) (f : ℕ → ℤ) where
 -- the first records of a ruler, at the start of a list
 module _ (d : Draft) (p : KeyPoints) where
   abbrev pub head : List ℕ
-  head = laid (axis (d .choice) (d .a) (d .b) (d .limit) (d .m) (p .step))
+  head = laid (axis (d .form) (d .a) (d .b) (d .limit) (d .m) (p .step))
 
   abbrev pub marksOf : ℕ → List ℕ
   marksOf n = run (d .a) (d .b) (d .limit) (element (p .first) (p .step)) n
 
-  pub first-long : (n : ℕ) → length (head ++ marksOf n) ≡ 25 + 20 * n
+  pub first-long : (n : ℕ) → length (head ++ marksOf n) ≡ headLong (d .form) + 20 * n
   first-long n =
       length-append head (marksOf n)
-      ∙ omega (arith, axis-long (d .choice) (d .a) (d .b) (d .limit) (d .m) (p .step), run-long (d .a) (d .b) (d .limit) (element (p .first) (p .step)) n)
+      ∙ omega (arith, axis-long (d .form) (d .a) (d .b) (d .limit) (d .m) (p .step), run-long (d .a) (d .b) (d .limit) (element (p .first) (p .step)) n)
 
   pub first-more : (n : ℕ) → joined (firstOf d p (n + 1)) ≡ head ++ marksOf n
   unfolding firstOf
@@ -106,5 +106,5 @@ module _ (d : Draft) (p : KeyPoints) where
   unfolding firstOf
   first-none old e = rw e
 
-  pub first-put : (k : ℕ) {n : ℕ} {x : List ℕ} (old : List ℕ) → n ≡ k + 1 → x ≡ (head ++ marksOf k) ++ drop (25 + 20 * k) old → x ≡ joined (firstOf d p n) ++ drop (length (joined (firstOf d p n))) old
+  pub first-put : (k : ℕ) {n : ℕ} {x : List ℕ} (old : List ℕ) → n ≡ k + 1 → x ≡ (head ++ marksOf k) ++ drop (headLong (d .form) + 20 * k) old → x ≡ joined (firstOf d p n) ++ drop (length (joined (firstOf d p n))) old
   first-put k old e f = f ∙ rw (e, first-more k, first-long k)

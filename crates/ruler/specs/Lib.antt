@@ -4,3 +4,4 @@ pub mod Rule
 pub mod Steps
 pub mod Mirror
 pub mod OnFilm
+pub mod Moves

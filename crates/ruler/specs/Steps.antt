@@ -1,19 +1,25 @@
 -- What private functions ask for and promise on the way to the rules: no part of the rules. Assumes nothing.
 use Prim.Native.Nat.{ℕ, zero, suc, _≤_, _<_}
-use mathlib.Core.Bool.{Bool, cond, _&&_}
-use mathlib.Core.List.{List, [], _∷_, map}
-use lib.IntN.{pos, natAbs, _*ℤ_}
+use mathlib.Core.Bool.{Bool, true, cond, _&&_}
+use mathlib.Core.List.{List, [], _∷_, _++_, map}
+use lib.Dec.{ltb}
+use lib.IntN.{ℤ, pos, natAbs, _*ℤ_}
 use lib.ListN.{length}
 use Rattle.numeric.specs.declared.KeyPoints.{KeyPoints}
 use Rattle.numeric.specs.Marks.{listOf}
 use Rattle.numeric.specs.Calls.{planWith, element}
 use Rattle.decimal.specs.Read.{sameBytes}
 use Rattle.ruler.specs.declared.Draft.{Draft}
+use Rattle.ruler.specs.declared.Twist.{Twist}
+use Rattle.ruler.specs.declared.Twist.the-variants.{Plain, S, Z}
+use Rattle.ruler.specs.declared.Form.{Form}
+use Rattle.ranged1d.specs.Answer.{Answer, given, _when_, lowest}
+use Rattle.ranged1d.specs.declared.Limit.{Limit}
 use Rattle.ruler.specs.declared.Part.{Part}
 use Rattle.ruler.specs.declared.Seen.{Seen}
 use Rattle.ruler.specs.declared.Seen.the-variants as seen-is
 use Rattle.ruler.specs.Bytes.{Record, axis}
-use Rattle.ruler.specs.Rule.{choiceIn, aIn, bIn, limitIn, mIn, markAt, bytesBy, hasRuler}
+use Rattle.ruler.specs.Rule.{noRuler, formIn, aIn, bIn, limitIn, mIn, markAt, bytesBy, hasRuler}
 
 -- the numbers on the way to mark k fit an i32
 pub record Reachable (p : KeyPoints) (k : ℕ) : Type 0 where
@@ -25,8 +31,18 @@ pub record Reachable (p : KeyPoints) (k : ℕ) : Type 0 where
 unfoldable pub firstOf : Draft → KeyPoints → ℕ → List Record
 firstOf d p zero = []
 firstOf d p (suc n) =
-    axis (d .choice) (d .a) (d .b) (d .limit) (d .m) (p .step)
+    axis (d .form) (d .a) (d .b) (d .limit) (d .m) (p .step)
     ∷ map (markAt (d .a) (d .b) (d .limit)) (listOf (element (p .first) (p .step)) n)
+
+-- the kind, from that without a twist and that with one
+abbrev pub kindBy : Twist → ℕ → ℕ → ℕ
+kindBy Plain plain twisted = plain
+kindBy S plain twisted = twisted
+kindBy Z plain twisted = twisted
+
+-- why a ruler with an unknown twist is not written to so many bytes
+unfoldable pub noTwist : Form → ℤ → ℤ → Limit → ℕ → ℕ → Answer (ℕ × ℕ)
+noTwist f a b limit m room = lowest (noRuler a b limit m ++ (13 when ltb room (length (bytesBy f a b limit m)) ∷ 15 when true ∷ [])) (given (0, 0))
 
 -- a part lies within the bytes
 abbrev pub Inside : List ℕ → Part → Type 0
@@ -34,13 +50,13 @@ Inside l r = (r .start ≤ r .end) × (r .end ≤ length l)
 
 -- whether bytes are the ruler d; the ruler d, if they are
 abbrev pub isBy : List ℕ → Draft → Bool
-isBy l d = hasRuler (d .a) (d .b) (d .limit) (d .m) && sameBytes l (bytesBy (d .choice) (d .a) (d .b) (d .limit) (d .m))
+isBy l d = hasRuler (d .a) (d .b) (d .limit) (d .m) && sameBytes l (bytesBy (d .form) (d .a) (d .b) (d .limit) (d .m))
 
 unfoldable pub seenBy : List ℕ → Draft → Seen
-seenBy l d = cond (isBy l d) (seen-is.Ruler d (planWith (d .choice) (d .a) (d .b) (d .m))) seen-is.Nothing
+seenBy l d = cond (isBy l d) (seen-is.Ruler d (planWith (d .form .choice) (d .a) (d .b) (d .m))) seen-is.Nothing
 
 abbrev pub draftIn : List ℕ → Draft
-draftIn l = record { a = aIn l; b = bIn l; limit = limitIn l; m = mIn l; choice = choiceIn l }
+draftIn l = record { a = aIn l; b = bIn l; limit = limitIn l; m = mIn l; form = formIn l }
 
 -- the ruler that bytes are
 abbrev pub seenOf : List ℕ → Seen

@@ -1,17 +1,18 @@
 // Rulers as bytes: a record for the axis, then one for each mark; the reader, and the look-ups in what it takes.
 ghost use mathlib.Core.Path.{_≡_};
-ghost use mathlib.Core.List.{_∷_, _++_, map};
-ghost use Prim.Native.Nat.{ℕ, _+_, _*_, _<_, _≤_};
-ghost use lib.ListN.{length, drop};
+ghost use mathlib.Core.List.{[], _∷_, _++_, map};
+ghost use Prim.Native.Nat.{ℕ, _+_, _-_, _*_, _<_, _≤_};
+ghost use lib.ListN.{length, take, drop, getD};
 ghost use mir.Syntax.{w32};
 ghost use mir.Val.{ofZ};
+ghost use Rattle.ranged1d.specs.Answer.{listWritten};
 ghost use Rattle.numeric.specs.Marks.{listOf};
 ghost use Rattle.numeric.specs.Calls.{element, tellPlanned};
 ghost use Rattle.decimal.specs.Read.{sameBytes};
 ghost use Rattle.ruler.specs.Place.{placeOf};
-ghost use Rattle.ruler.specs.Bytes.{word, wordAt, kindByte, choiceFor, axis, laid, joined};
-ghost use Rattle.ruler.specs.Rule.{tellWrote, tellReading, rulerPlan, rulerPlanInside, rulerPlanBy, markAt, rulerWrite, rulerWriteInside, writeBy, rulerRead, indexOf, recordIn, labelIn, recordText, labelText, part, further, sideOf};
-ghost use Rattle.ruler.specs.Steps.{Reachable, Inside, firstOf, seenBy, seenOf};
+ghost use Rattle.ruler.specs.Bytes.{word, wordAt, kindFor, kindByte, twistNumber, headLong, formFor, axis, laid, joined};
+ghost use Rattle.ruler.specs.Rule.{tellWrote, tellMoved, tellReading, twistedWrite, over, back, rulerUpgrade, rulerDowngrade, rulerPlan, rulerPlanInside, rulerPlanBy, markAt, rulerWrite, rulerWriteInside, writeBy, rulerRead, indexOf, recordIn, labelIn, recordText, labelText, part, further, sideOf};
+ghost use Rattle.ruler.specs.Steps.{Reachable, Inside, firstOf, kindBy, noTwist, seenBy, seenOf};
 use numeric::Choice;
 use numeric::KeyPoints;
 use numeric::Place;
@@ -26,6 +27,12 @@ pub enum Wrote {
     Refused(Refusal),
 }
 
+// The number of bytes of a ruler that was moved over or back.
+pub enum Moved {
+    Bytes(usize),
+    Refused(Refusal),
+}
+
 // A ruler that was read.
 pub struct Ruler {
     pub a: i32,
@@ -36,6 +43,7 @@ pub struct Ruler {
     pub step: i32,
     pub marks: usize,
     pub kind: u32,
+    pub twist: u32,
 }
 
 pub enum Reading {
@@ -49,13 +57,26 @@ pub struct Part {
     pub end: usize,
 }
 
-// What a ruler is drawn for: the axis, its limits on the film, the mark limit, and which marks it has.
+// The thread's twist, which kinds 1 and 3 do not tell.
+pub enum Twist {
+    Plain,
+    S,
+    Z,
+}
+
+// Which marks a ruler has, and its twist.
+pub struct Form {
+    pub choice: Choice,
+    pub twist: Twist,
+}
+
+// What a ruler is drawn for: the axis, its limits on the film, the mark limit, and its form.
 struct Draft {
     a: i32,
     b: i32,
     limit: Limit,
     m: u32,
-    choice: Choice,
+    form: Form,
 }
 
 // Bytes that were examined: a ruler with its marks, or no ruler.
@@ -69,25 +90,115 @@ const AXIS: u8 = 1;
 
 const MARK: u8 = 2;
 
-const AXIS_INSIDE: u8 = 3;
+const INSIDE: u8 = 3;
 
-fn kind_of(d: Draft) -> u8
-    ensures { λ r. ⌜ r ≡ kindByte (d .choice) ⌝ }
+const TWISTED: u8 = 5;
+
+const INSIDE_TWISTED: u8 = 6;
+
+// The kind of a ruler, from the kind without a twist and that with one.
+fn kind_by(twist: Twist, plain: u8, twisted: u8) -> u8
+    ensures { λ r. ⌜ r ≡ kindBy twist plain twisted ⌝ }
 {
-    let choice = d.choice;
-    match choice {
-        Choice::Cut => AXIS,
-        Choice::Inside => AXIS_INSIDE,
+    match twist {
+        Twist::Plain => plain,
+        Twist::S => twisted,
+        Twist::Z => twisted,
     }
 }
 
-fn choice_of(kind: u8) -> Choice
-    ensures { λ r. ⌜ r ≡ choiceFor kind ⌝ }
+fn kind_with(choice: Choice, twist: Twist) -> u8
+    ensures { λ r. ⌜ r ≡ kindFor choice twist ⌝ }
 {
-    if kind == AXIS_INSIDE {
-        return Choice::Inside;
+    match choice {
+        Choice::Cut => kind_by(twist, AXIS, TWISTED),
+        Choice::Inside => kind_by(twist, INSIDE, INSIDE_TWISTED),
     }
-    Choice::Cut
+}
+
+fn kind_of(d: Draft) -> u8
+    ensures { λ r. ⌜ r ≡ kindByte (d .form) ⌝ }
+{
+    let form = d.form;
+    let choice = form.choice;
+    let twist = form.twist;
+    kind_with(choice, twist)
+}
+
+// The twist as its number.
+fn twist_of(d: Draft) -> u8
+    ensures { λ r. ⌜ r ≡ twistNumber (d .form .twist) ⌝ }
+{
+    let form = d.form;
+    let twist = form.twist;
+    match twist {
+        Twist::Plain => 0,
+        Twist::S => 0,
+        Twist::Z => 1,
+    }
+}
+
+// How long the axis's record is.
+fn head_of(d: Draft) -> usize
+    ensures { λ r. ⌜ (r ≡ headLong (d .form)) × (25 ≤ r) × (r ≤ 26) ⌝ }
+{
+    let form = d.form;
+    let twist = form.twist;
+    match twist {
+        Twist::Plain => 25,
+        Twist::S => 26,
+        Twist::Z => 26,
+    }
+}
+
+// The form of a ruler with this kind and this twist byte.
+fn form_of(kind: u8, t: u8) -> Form
+    ensures { λ r. ⌜ r ≡ formFor kind t ⌝ }
+{
+    if kind == INSIDE {
+        return Form {
+            choice: Choice::Inside,
+            twist: Twist::Plain,
+        };
+    }
+    if kind == TWISTED {
+        if t == 1 {
+            return Form {
+                choice: Choice::Cut,
+                twist: Twist::Z,
+            };
+        }
+        return Form {
+            choice: Choice::Cut,
+            twist: Twist::S,
+        };
+    }
+    if kind == INSIDE_TWISTED {
+        if t == 1 {
+            return Form {
+                choice: Choice::Inside,
+                twist: Twist::Z,
+            };
+        }
+        return Form {
+            choice: Choice::Inside,
+            twist: Twist::S,
+        };
+    }
+    Form {
+        choice: Choice::Cut,
+        twist: Twist::Plain,
+    }
+}
+
+// The byte at a place, or 0 past the end.
+fn byte_at(l: &[u8], at: usize) -> u8
+    ensures { λ r. ⌜ r ≡ getD (now (l .entry)) at 0 ⌝ }
+{
+    if l.len() <= at {
+        return 0;
+    }
+    l[at]
 }
 
 // The bits of z in two's complement.
@@ -98,9 +209,9 @@ fn bits(z: i32) -> u32
     if z < 0 { u32::MAX - (n - 1) } else { n }
 }
 
-// Six numbers, the lowest byte of each first.
-fn axis_words(a: u32, b: u32, p: u32, q: u32, m: u32, s: u32) -> [u8; 24]
-    ensures { λ r. ⌜ r ≡ word a ++ word b ++ word p ++ word q ++ word m ++ word s ⌝ }
+// Six numbers, the lowest byte of each first, and a byte behind them.
+fn axis_words(a: u32, b: u32, p: u32, q: u32, m: u32, s: u32, t: u8) -> [u8; 25]
+    ensures { λ r. ⌜ r ≡ word a ++ word b ++ word p ++ word q ++ word m ++ word s ++ (t ∷ []) ⌝ }
 {
     [
         (a % 256) as u8,
@@ -127,6 +238,7 @@ fn axis_words(a: u32, b: u32, p: u32, q: u32, m: u32, s: u32) -> [u8; 24]
         (s / 256 % 256) as u8,
         (s / 65536 % 256) as u8,
         (s / 16777216 % 256) as u8,
+        t,
     ]
 }
 
@@ -157,9 +269,9 @@ fn mark_words(v: u32, x: u32, t: [u8; 11]) -> [u8; 19]
     ]
 }
 
-// The body of the axis's record.
-fn axis_body(d: Draft, p: KeyPoints) -> [u8; 24]
-    ensures { λ r. ⌜ (kindByte (d .choice) ∷ r ≡ laid (axis (d .choice) (d .a) (d .b) (d .limit) (d .m) (p .step))) × (24 ≡ length r) ⌝ }
+// The body of the axis's record, with a byte behind it where there is no twist.
+fn axis_body(d: Draft, p: KeyPoints) -> [u8; 25]
+    ensures { λ r. ⌜ (kindByte (d .form) ∷ take (headLong (d .form) - 1) r ≡ laid (axis (d .form) (d .a) (d .b) (d .limit) (d .m) (p .step))) × (25 ≡ length r) ⌝ }
 {
     let limit = d.limit;
     axis_words(
@@ -169,6 +281,7 @@ fn axis_body(d: Draft, p: KeyPoints) -> [u8; 24]
         bits(limit.1),
         d.m,
         bits(p.step),
+        twist_of(d),
     )
 }
 
@@ -219,12 +332,13 @@ fn put_record(kind: u8, body: &[u8], out: &mut [u8])
 
 // The axis's record at the start of out.
 fn put_head(d: Draft, p: KeyPoints, out: &mut [u8])
-    requires { ⌜ 25 ≤ length (now out) ⌝ }
-    ensures { λ _. ⌜ now (out .exit) ≡ laid (axis (d .choice) (d .a) (d .b) (d .limit) (d .m) (p .step)) ++ drop 25 (now (out .entry)) ⌝ }
+    requires { ⌜ headLong (d .form) ≤ length (now out) ⌝ }
+    ensures { λ _. ⌜ now (out .exit) ≡ laid (axis (d .form) (d .a) (d .b) (d .limit) (d .m) (p .step)) ++ drop (headLong (d .form)) (now (out .entry)) ⌝ }
 {
     let body = axis_body(d, p);
     let kind = kind_of(d);
-    put_record(kind, &body, out);
+    let n = head_of(d) - 1;
+    put_record(kind, &body[0..n], out);
 }
 
 // The records of n marks, one behind another.
@@ -242,27 +356,29 @@ fn put_marks(d: Draft, p: KeyPoints, n: usize, out: &mut [u8])
     }
 }
 
-// The first n records of a ruler: the axis's of 25 bytes, then those of marks, of 20 each.
+// The first n records of a ruler: the axis's, then those of marks, of 20 bytes each.
 fn put_records(d: Draft, p: KeyPoints, n: usize, out: &mut [u8])
-    requires { ⌜ 5 + 20 * n ≤ length (now out) ⌝ }
+    requires { ⌜ headLong (d .form) + 20 * n ≤ length (now out) + 20 ⌝ }
     requires { ⌜ ((k : ℕ) → k + 1 < n → Reachable p k) ⌝ }
     ensures { λ _. ⌜ now (out .exit) ≡ joined (firstOf d p n) ++ drop (length (joined (firstOf d p n))) (now (out .entry)) ⌝ }
 {
     if n == 0 {
         return;
     }
+    let head = head_of(d);
     put_head(d, p, out);
-    put_marks(d, p, n - 1, &mut out[25..]);
+    put_marks(d, p, n - 1, &mut out[head..]);
 }
 
 // The marks of a ruler, or why there is none.
 fn planned(d: Draft) -> Planned
-    ensures { λ r. ⌜ tellPlanned r ≡ rulerPlanBy (d .choice) (d .a) (d .b) (d .limit) (d .m) ⌝ }
+    ensures { λ r. ⌜ tellPlanned r ≡ rulerPlanBy (d .form) (d .a) (d .b) (d .limit) (d .m) ⌝ }
 {
     let a = d.a;
     let b = d.b;
     let limit = d.limit;
-    let choice = d.choice;
+    let form = d.form;
+    let choice = form.choice;
     if !RangedCoordi32(a, b).admitted() {
         return Planned::Refused(Refusal::WholeNotAdmitted);
     }
@@ -276,12 +392,16 @@ fn planned(d: Draft) -> Planned
 pub fn plan(a: i32, b: i32, limit: Limit, m: u32) -> Planned
     ensures { λ r. ⌜ tellPlanned r ≡ rulerPlan a b limit m ⌝ }
 {
+    let form = Form {
+        choice: Choice::Cut,
+        twist: Twist::Plain,
+    };
     planned(Draft {
         a,
         b,
         limit,
         m,
-        choice: Choice::Cut,
+        form,
     })
 }
 
@@ -289,24 +409,28 @@ pub fn plan(a: i32, b: i32, limit: Limit, m: u32) -> Planned
 pub fn plan_inside(a: i32, b: i32, limit: Limit, m: u32) -> Planned
     ensures { λ r. ⌜ tellPlanned r ≡ rulerPlanInside a b limit m ⌝ }
 {
+    let form = Form {
+        choice: Choice::Inside,
+        twist: Twist::Plain,
+    };
     planned(Draft {
         a,
         b,
         limit,
         m,
-        choice: Choice::Inside,
+        form,
     })
 }
 
 // A ruler, written to the start of out.
 fn write_draft(d: Draft, out: &mut [u8]) -> Wrote
-    ensures { λ r. ⌜ (tellWrote r, now (out .exit)) ≡ writeBy (d .choice) (d .a) (d .b) (d .limit) (d .m) (now (out .entry)) ⌝ }
+    ensures { λ r. ⌜ (tellWrote r, now (out .exit)) ≡ writeBy (d .form) (d .a) (d .b) (d .limit) (d .m) (now (out .entry)) ⌝ }
 {
     match planned(d) {
         Planned::Refused(r) => Wrote::Refused(r),
         Planned::Points(p) => {
             let n = p.count as usize;
-            let size = 25 + 20 * n;
+            let size = head_of(d) + 20 * n;
             if out.len() < size {
                 return Wrote::Refused(Refusal::OutTooShort);
             }
@@ -321,13 +445,17 @@ fn write_draft(d: Draft, out: &mut [u8]) -> Wrote
 pub fn write(a: i32, b: i32, limit: Limit, m: u32, out: &mut [u8]) -> Wrote
     ensures { λ r. ⌜ (tellWrote r, now (out .exit)) ≡ rulerWrite a b limit m (now (out .entry)) ⌝ }
 {
+    let form = Form {
+        choice: Choice::Cut,
+        twist: Twist::Plain,
+    };
     write_draft(
         Draft {
             a,
             b,
             limit,
             m,
-            choice: Choice::Cut,
+            form,
         },
         out,
     )
@@ -337,16 +465,103 @@ pub fn write(a: i32, b: i32, limit: Limit, m: u32, out: &mut [u8]) -> Wrote
 pub fn write_inside(a: i32, b: i32, limit: Limit, m: u32, out: &mut [u8]) -> Wrote
     ensures { λ r. ⌜ (tellWrote r, now (out .exit)) ≡ rulerWriteInside a b limit m (now (out .entry)) ⌝ }
 {
+    let form = Form {
+        choice: Choice::Inside,
+        twist: Twist::Plain,
+    };
     write_draft(
         Draft {
             a,
             b,
             limit,
             m,
-            choice: Choice::Inside,
+            form,
         },
         out,
     )
+}
+
+// Why a ruler with an unknown twist is not written to so many bytes.
+fn twist_refused(d: Draft, room: usize) -> Wrote
+    ensures { λ r. ⌜ tellWrote r ≡ noTwist (d .form) (d .a) (d .b) (d .limit) (d .m) room ⌝ }
+{
+    match planned(d) {
+        Planned::Refused(r) => Wrote::Refused(r),
+        Planned::Points(p) => {
+            let n = p.count as usize;
+            let size = head_of(d) + 20 * n;
+            if room < size {
+                return Wrote::Refused(Refusal::OutTooShort);
+            }
+            Wrote::Refused(Refusal::UnknownTwist)
+        }
+    }
+}
+
+// A ruler with a twist, by its number.
+fn write_by(
+    choice: Choice,
+    a: i32,
+    b: i32,
+    limit: Limit,
+    m: u32,
+    twist: u32,
+    out: &mut [u8],
+) -> Wrote
+    ensures { λ r. ⌜ (tellWrote r, now (out .exit)) ≡ twistedWrite choice twist a b limit m (now (out .entry)) ⌝ }
+{
+    if twist == 0 {
+        let form = Form {
+            choice: choice,
+            twist: Twist::S,
+        };
+        return write_draft(
+            Draft {
+                a,
+                b,
+                limit,
+                m,
+                form,
+            },
+            out,
+        );
+    }
+    let form = Form {
+        choice: choice,
+        twist: Twist::Z,
+    };
+    let d = Draft {
+        a,
+        b,
+        limit,
+        m,
+        form,
+    };
+    if twist == 1 {
+        return write_draft(d, out);
+    }
+    twist_refused(d, out.len())
+}
+
+// The ruler of kind 5, which is kind 1 with a twist: 0 for S, 1 for Z.
+pub fn write_twisted(a: i32, b: i32, limit: Limit, m: u32, twist: u32, out: &mut [u8]) -> Wrote
+    ensures { λ r. ⌜ (tellWrote r, now (out .exit)) ≡ twistedWrite Choice.Cut twist a b limit m (now (out .entry)) ⌝ }
+{
+    write_by(Choice::Cut, a, b, limit, m, twist, out)
+}
+
+// The ruler of kind 6, which is kind 3 with a twist.
+pub fn write_inside_twisted(
+    a: i32,
+    b: i32,
+    limit: Limit,
+    m: u32,
+    twist: u32,
+    out: &mut [u8],
+) -> Wrote
+    ensures { λ r. ⌜ (tellWrote r, now (out .exit)) ≡ twistedWrite Choice.Inside twist a b limit m (now (out .entry)) ⌝ }
+{
+    write_by(Choice::Inside, a, b, limit, m, twist, out)
 }
 
 fn wide(x: u8) -> u32
@@ -378,11 +593,12 @@ fn is_record(kind: u8, body: &[u8], l: &[u8]) -> bool
 
 // Whether l is the axis's record.
 fn is_head(d: Draft, p: KeyPoints, l: &[u8]) -> bool
-    ensures { λ r. ⌜ r ≡ sameBytes (now (l .entry)) (laid (axis (d .choice) (d .a) (d .b) (d .limit) (d .m) (p .step))) ⌝ }
+    ensures { λ r. ⌜ r ≡ sameBytes (now (l .entry)) (laid (axis (d .form) (d .a) (d .b) (d .limit) (d .m) (p .step))) ⌝ }
 {
     let body = axis_body(d, p);
     let kind = kind_of(d);
-    is_record(kind, &body, l)
+    let n = head_of(d) - 1;
+    is_record(kind, &body[0..n], l)
 }
 
 // Whether l is the records of n marks, one behind another.
@@ -411,13 +627,14 @@ fn compare(d: Draft, l: &[u8]) -> Seen
         Planned::Refused(_) => Seen::Nothing,
         Planned::Points(p) => {
             let n = p.count as usize;
-            if l.len() != 25 + 20 * n {
+            let head = head_of(d);
+            if l.len() != head + 20 * n {
                 return Seen::Nothing;
             }
-            if !is_head(d, p, &l[0..25]) {
+            if !is_head(d, p, &l[0..head]) {
                 return Seen::Nothing;
             }
-            if !has_marks(d, p, n, &l[25..]) {
+            if !has_marks(d, p, n, &l[head..]) {
                 return Seen::Nothing;
             }
             Seen::Ruler(d, p)
@@ -438,14 +655,14 @@ fn examine(l: &[u8]) -> Seen
     let q = ranged1d::signed(word_at(l, 13));
     let m = word_at(l, 17);
     let limit = Limit(p, q);
-    let choice = choice_of(l[0]);
+    let form = form_of(byte_at(l, 0), byte_at(l, 25));
     compare(
         Draft {
             a,
             b,
             limit,
             m,
-            choice,
+            form,
         },
         l,
     )
@@ -468,6 +685,7 @@ pub fn read(bytes: &[u8]) -> Reading
                 step: p.step,
                 marks: p.count as usize,
                 kind: kind_of(d) as u32,
+                twist: twist_of(d) as u32,
             })
         }
     }
@@ -494,13 +712,14 @@ pub fn find_record(bytes: &[u8], v: i32) -> Part
 {
     match examine(bytes) {
         Seen::Nothing => Part { start: 0, end: 0 },
-        Seen::Ruler(_, p) => {
+        Seen::Ruler(d, p) => {
             let n = p.count as usize;
             let k = index_of(p, n, v);
+            let head = head_of(d);
             if k < n {
                 return Part {
-                    start: 25 + 20 * k,
-                    end: 45 + 20 * k,
+                    start: head + 20 * k,
+                    end: head + 20 + 20 * k,
                 };
             }
             Part { start: 0, end: 0 }
@@ -558,5 +777,76 @@ pub fn pair_record<'a>(left: &'a [u8], right: &'a [u8], v: i32) -> &'a [u8]
         record_of(left, v)
     } else {
         record_of(right, v)
+    }
+}
+
+// The bytes of a ruler with another kind and a 0 behind its body.
+fn put_over(kind: u8, l: &[u8], out: &mut [u8]) -> Moved
+    requires { ⌜ 25 ≤ length (now l) ⌝ }
+    ensures { λ r. ⌜ (tellMoved r, now (out .exit)) ≡ listWritten (over kind (now (l .entry))) (now (out .entry)) ⌝ }
+{
+    let size = l.len() + 1;
+    if out.len() < size {
+        return Moved::Refused(Refusal::OutTooShort);
+    }
+    put_record(kind, &l[1..25], out);
+    put_record(0, &l[25..], &mut out[25..]);
+    Moved::Bytes(size)
+}
+
+// The bytes of a ruler with another kind and without its twist.
+fn put_back(kind: u8, l: &[u8], out: &mut [u8]) -> Moved
+    requires { ⌜ 26 ≤ length (now l) ⌝ }
+    ensures { λ r. ⌜ (tellMoved r, now (out .exit)) ≡ listWritten (back kind (now (l .entry))) (now (out .entry)) ⌝ }
+{
+    let size = l.len() - 1;
+    if out.len() < size {
+        return Moved::Refused(Refusal::OutTooShort);
+    }
+    put_record(kind, &l[1..25], out);
+    bytes::copy(&l[26..], &mut out[25..]);
+    Moved::Bytes(size)
+}
+
+// A ruler of kind 1 or 3, moved over to kind 5 or 6 as S.
+pub fn upgrade(bytes: &[u8], out: &mut [u8]) -> Moved
+    ensures { λ r. ⌜ (tellMoved r, now (out .exit)) ≡ rulerUpgrade (now (bytes .entry)) (now (out .entry)) ⌝ }
+{
+    match examine(bytes) {
+        Seen::Nothing => Moved::Refused(Refusal::NotARuler),
+        Seen::Ruler(d, _) => {
+            let form = d.form;
+            let choice = form.choice;
+            let twist = form.twist;
+            match twist {
+                Twist::Plain => put_over(kind_with(choice, Twist::S), bytes, out),
+                Twist::S => Moved::Refused(Refusal::NotARuler),
+                Twist::Z => Moved::Refused(Refusal::NotARuler),
+            }
+        }
+    }
+}
+
+// A ruler of kind 5 or 6, moved back to kind 1 or 3 if its twist is S.
+pub fn downgrade(bytes: &[u8], out: &mut [u8]) -> Moved
+    ensures { λ r. ⌜ (tellMoved r, now (out .exit)) ≡ rulerDowngrade (now (bytes .entry)) (now (out .entry)) ⌝ }
+{
+    match examine(bytes) {
+        Seen::Nothing => Moved::Refused(Refusal::NotARuler),
+        Seen::Ruler(d, _) => {
+            let form = d.form;
+            let choice = form.choice;
+            let twist = form.twist;
+            match twist {
+                Twist::Plain => Moved::Refused(Refusal::NotARuler),
+                Twist::S => put_back(kind_with(choice, Twist::Plain), bytes, out),
+                Twist::Z => {
+                    if out.len() < bytes.len() - 1 {
+                        return Moved::Refused(Refusal::OutTooShort);
+                    }
+                    Moved::Refused(Refusal::TwistLost)
+                }
+            }
+        }
     }
 }

@@ -1,14 +1,14 @@
 -- `ruler::axis_body` meets its contract. Assumes nothing.
 use mathlib.Core.Path.{_≡_, sym, ap, _∙_}
 use mathlib.Core.List.{List, _∷_}
-use Prim.Native.Nat.{ℕ}
+use Prim.Native.Nat.{ℕ, _-_}
 use lib.IntN.{ℤ}
-use lib.ListN.{length}
+use lib.ListN.{length, take}
 use mir.Facts.{toZ-ofZ}
 use mir.Syntax.{w32}
 use mir.Val.{ofZ, toZ, SFits}
-use Rattle.ruler.specs.Bytes.{kindByte, axisBody, laid}
-use Rattle.ruler.proofs.Lists.{axis-same}
+use Rattle.ruler.specs.Bytes.{kindByte, headLong, axisBody, laid}
+use Rattle.ruler.proofs.Lists.{axis-same, twist-taken}
 use borrow.Author.Needs.{needs}
 use Rattle.ruler.proofs.axis_body.Statement.{statement}
 use Rattle.ruler.proofs.axis_body.Tie as tie
@@ -28,6 +28,9 @@ bits-requires-4 c κs = search needs
 bits-requires-5 : tie.Need-bits-requires-5
 bits-requires-5 c κs = search needs
 
+twist-of-requires : tie.Need-twist-of-requires
+twist-of-requires c κs = search needs
+
 axis-words-requires : tie.Need-axis-words-requires
 axis-words-requires c κs = search needs
 
@@ -38,19 +41,23 @@ same-bits f e = e ∙ ap (ofZ w32) (toZ-ofZ f)
 returns : tie.Need-returns
 unfolding laid axisBody
 returns c =
-    let five = c .before in
+    let six = c .before in
+    let five = six .before in
     let four = five .before .before in
     let three = four .before .before in
     let two = three .before .before in
     let one = two .before .before in
-    let at = one .before .before .before in (
-      ap (λ (l : List ℕ). kindByte (at .args .d .choice) ∷ l) (c .axis-words .ensures
-          ∙ axis-same (at .args .d .m)
-          (same-bits {z = at .args .d .a} (record { sfits = one .before .struct-told .given .0 .1 }) (one .bits .ensures))
-          (same-bits {z = at .args .d .b} (record { sfits = two .before .struct-told2 .given .1 .0 .1 }) (two .bits2 .ensures))
-          (same-bits {z = at .args .d .limit .0} (record { sfits = three .before .struct-told3 .given .0 .1 }) (three .bits3 .ensures))
-          (same-bits {z = at .args .d .limit .1} (record { sfits = four .before .struct-told4 .given .1 .0 .1 }) (four .bits4 .ensures))
-          (same-bits {z = at .args .p .step} (record { sfits = five .before .struct-told5 .given .1 .0 .1 }) (five .bits5 .ensures))),
+    let at = one .before .before .before in
+    let d = at .args .d in (
+      ap (λ (l : List ℕ). kindByte (d .form) ∷ take (headLong (d .form) - 1) l) (c .axis-words .ensures
+          ∙ axis-same (d .m)
+          (same-bits {z = d .a} (record { sfits = one .before .struct-told .given .0 .1 }) (one .bits .ensures))
+          (same-bits {z = d .b} (record { sfits = two .before .struct-told2 .given .1 .0 .1 }) (two .bits2 .ensures))
+          (same-bits {z = d .limit .0} (record { sfits = three .before .struct-told3 .given .0 .1 }) (three .bits3 .ensures))
+          (same-bits {z = d .limit .1} (record { sfits = four .before .struct-told4 .given .1 .0 .1 }) (four .bits4 .ensures))
+          (same-bits {z = at .args .p .step} (record { sfits = five .before .struct-told5 .given .1 .0 .1 }) (five .bits5 .ensures))
+          (six .twist-of .ensures))
+          ∙ ap (λ (l : List ℕ). kindByte (d .form) ∷ l) (twist-taken (d .form .twist) (ofZ w32 (d .a)) (ofZ w32 (d .b)) (ofZ w32 (d .limit .0)) (ofZ w32 (d .limit .1)) (d .m) (ofZ w32 (at .args .p .step))),
       sym (ap length (c .axis-words .ensures)),
     )
 
@@ -63,5 +70,6 @@ axis-body-spec =
     bits-requires-3
     bits-requires-4
     bits-requires-5
+    twist-of-requires
     axis-words-requires
     returns)

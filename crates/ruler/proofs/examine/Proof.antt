@@ -1,5 +1,6 @@
 -- `ruler::examine` meets its contract. Assumes nothing.
-use mathlib.Core.Path.{sym}
+use mathlib.Core.Path.{sym, ap₂, _∙_}
+use Rattle.ruler.specs.Bytes.{formFor}
 use Rattle.ruler.specs.Steps.{draftIn}
 use Rattle.ruler.proofs.Numbers.{read-is}
 use Rattle.ruler.proofs.Reader.{seen-short}
@@ -37,18 +38,21 @@ signed-requires-4 c κs = search needs
 word-at-requires-5 : tie.Need-word-at-requires-5
 word-at-requires-5 c κs = search needs
 
-shared-slice-read-choice-of : tie.Need-shared-slice-read-choice-of
-shared-slice-read-choice-of c = search needs
+byte-at-requires : tie.Need-byte-at-requires
+byte-at-requires c κs = search needs
 
-choice-of-requires : tie.Need-choice-of-requires
-choice-of-requires c κs = search needs
+byte-at-requires-2 : tie.Need-byte-at-requires-2
+byte-at-requires-2 c κs = search needs
+
+form-of-requires : tie.Need-form-of-requires
+form-of-requires c κs = search needs
 
 compare-requires : tie.Need-compare-requires
 compare-requires c κs = search needs
 
 returns-2 : tie.Need-returns-2
 returns-2 c =
-    let five = c .before .before .before in
+    let five = c .before .before .before .before in
     let four = five .before in
     let three = four .before .before in
     let two = three .before .before in
@@ -57,7 +61,8 @@ returns-2 c =
     let b-is = read-is (two .signed2 .ok) (two .signed2 .ensures) (two .before .word-at2 .ensures) in
     let p-is = read-is (three .signed3 .ok) (three .signed3 .ensures) (three .before .word-at3 .ensures) in
     let q-is = read-is (four .signed4 .ok) (four .signed4 .ensures) (four .before .word-at4 .ensures) in
-    rw (a-is, b-is, p-is, q-is, five .word-at5 .ensures, c .before .choice-of .ensures) at (c .compare .ensures)
+    let form-is = c .before .form-of .ensures ∙ ap₂ formFor (c .before .before .before .byte-at .ensures) (c .before .before .byte-at2 .ensures) in
+    rw (a-is, b-is, p-is, q-is, five .word-at5 .ensures, form-is) at (c .compare .ensures)
 
 pub examine-spec : {M : Type 1} → statement M
 examine-spec =
@@ -73,7 +78,8 @@ examine-spec =
     word-at-requires-4
     signed-requires-4
     word-at-requires-5
-    shared-slice-read-choice-of
-    choice-of-requires
+    byte-at-requires
+    byte-at-requires-2
+    form-of-requires
     compare-requires
     returns-2)

@@ -1,5 +1,5 @@
 -- `ruler::find_record` meets its contract. Assumes nothing.
-use mathlib.Core.Path.{_≡_, sym, ap, _∙_}
+use mathlib.Core.Path.{_≡_, sym, ap₂, _∙_}
 use Prim.Native.Nat.{_<_, _≤_}
 use mir.Facts.{toZ-ofZ}
 use Rattle.numeric.specs.declared.KeyPoints.{KeyPoints}
@@ -17,25 +17,25 @@ examine-requires c κs = search needs
 enum-told : tie.Need-enum-told
 enum-told c = search needs
 
-enum-known-p : tie.Need-enum-known-p
-enum-known-p c = search needs
+enum-known-d : tie.Need-enum-known-d
+enum-known-d c = search needs
 
 cast-n : tie.Need-cast-n
 cast-n c = search needs
 
 -- in the arm of a ruler
-module _ (c : tie.After-p) where
+module _ (c : tie.After-d) where
   abbrev at : tie.Start
   at = c .before .before .before .before
 
   abbrev d : Draft
-  d = c .p .given .0 .0
+  d = c .d .given .0 .0
 
   abbrev p : KeyPoints
-  p = c .p .given .0 .1 .0
+  p = c .d .given .0 .1 .0
 
   known : Known (at .args .bytes .now) d p
-  known = seen-known (sym (c .before .before .examine .ensures) ∙ c .p .given .1)
+  known = seen-known (sym (c .before .before .examine .ensures) ∙ c .d .given .1)
 
 index-is : (c : tie.After-index-of) → let q = c .before .before .before in c .index-of .result ≡ place (at q .args .v) (known q)
 index-is c = rw (toZ-ofZ (at (c .before .before .before) .fits .v)) at (c .index-of .ensures)
@@ -44,11 +44,8 @@ index-of-requires : tie.Need-index-of-requires
 index-of-requires c κs =
     λ k h. known-drawn (known (c .before .before)) .reachable k h
 
-mul-t9 : tie.Need-mul-t9
-mul-t9 c = search needs
-
-add-t10 : tie.Need-add-t10
-add-t10 c = search needs
+head-of-requires : tie.Need-head-of-requires
+head-of-requires c κs = search needs
 
 mul-t11 : tie.Need-mul-t11
 mul-t11 c = search needs
@@ -56,19 +53,28 @@ mul-t11 c = search needs
 add-t12 : tie.Need-add-t12
 add-t12 c = search needs
 
+add-t13 : tie.Need-add-t13
+add-t13 c = search needs
+
+mul-t14 : tie.Need-mul-t14
+mul-t14 c = search needs
+
+add-t15 : tie.Need-add-t15
+add-t15 c = search needs
+
 returns : tie.Need-returns
 returns c =
-    let q = c .before .before .before .before in
-    let below : place (at q .args .v) (known q) < p q .count = rw (← index-is (c .before)) (c .if1 .taken) in
-    ap recordAt (index-is (c .before)) ∙ sym (record-found (at q .args .v) (known q) below)
+    let q = c .before .before .before .before .before in
+    let below : place (at q .args .v) (known q) < p q .count = rw (← index-is (c .before .before)) (c .if1 .taken) in
+    ap₂ recordAt (c .before .head-of .ensures .0) (index-is (c .before .before)) ∙ sym (record-found (at q .args .v) (known q) below)
 
 returns-2 : tie.Need-returns-2
 returns-2 c = sym (no-record _ _ (seen-nothing _ (sym (c .before .before .examine .ensures) ∙ c .enum-told .given .1)))
 
 returns-3 : tie.Need-returns-3
 returns-3 c =
-    let q = c .before .before .before .before in
-    let above : p q .count ≤ place (at q .args .v) (known q) = rw (← index-is (c .before)) (c .if1 .left) in
+    let q = c .before .before .before .before .before in
+    let above : p q .count ≤ place (at q .args .v) (known q) = rw (← index-is (c .before .before)) (c .if1 .left) in
     sym (record-absent (at q .args .v) (known q) above)
 
 pub find-record-spec : {M : Type 1} → statement M
@@ -77,13 +83,15 @@ find-record-spec =
     (tie.spec
     examine-requires
     enum-told
-    enum-known-p
+    enum-known-d
     cast-n
     index-of-requires
-    mul-t9
-    add-t10
+    head-of-requires
     mul-t11
     add-t12
+    add-t13
+    mul-t14
+    add-t15
     returns
     returns-2
     returns-3)

@@ -13,15 +13,15 @@ use Rattle.ruler.proofs.planned.Statement.{statement}
 use Rattle.ruler.proofs.planned.Tie as tie
 
 -- the ends, as the code passes them on
-module _ (c : tie.After-limit) where
+module _ (c : tie.After-form) where
   abbrev at : tie.Start
-  at = c .before .before .before
+  at = c .before .before .before .before
 
   a-is : toZ w32 (ofZ w32 (at .args .d .a)) ≡ at .args .d .a
-  a-is = toZ-ofZ (record { sfits = c .before .before .struct-told .given .0 .1 })
+  a-is = toZ-ofZ (record { sfits = c .before .before .before .struct-told .given .0 .1 })
 
   b-is : toZ w32 (ofZ w32 (at .args .d .b)) ≡ at .args .d .b
-  b-is = toZ-ofZ (record { sfits = c .before .struct-told2 .given .1 .0 .1 })
+  b-is = toZ-ofZ (record { sfits = c .before .before .struct-told2 .given .1 .0 .1 })
 
 -- what the first test said
 ends-told : (c : tie.After-admitted) → c .admitted .result ≡ endsAdmitted (at (c .before) .args .d .a) (at (c .before) .args .d .b)
@@ -57,7 +57,7 @@ returns-3 c =
     let one = two .before .before in
     let film : limitAdmitted (at (one .before .before) .args .d .limit) ≡ true = sym (two .before .admitted2 .ensures) ∙ not-false (two .before .admitted2 .result) (two .if2 .left) in
     let d = at (one .before .before) .args .d in
-    let told = (rw (a-is (one .before .before), b-is (one .before .before)) at (c .plan-by .ensures)) ∙ plan-by (d .choice) (d .a) (d .b) (d .m) in
+    let told = (rw (a-is (one .before .before), b-is (one .before .before)) at (c .plan-by .ensures)) ∙ plan-by (d .form .choice) (d .a) (d .b) (d .m) in
     rw (ends-yes one, film) (rw (ends-yes one) at told)
 
 pub planned-spec : {M : Type 1} → statement M

@@ -1,5 +1,5 @@
 -- `ruler::write_draft` meets its contract, by what is known of a plan. Assumes nothing.
-use mathlib.Core.Path.{_≡_, sym, ap, _∙_}
+use mathlib.Core.Path.{_≡_, sym, ap, ap₂, _∙_}
 use mathlib.Core.List.{List}
 use Prim.Native.Nat.{ℕ, _+_, _*_}
 use native.Mathlib.Omega.{arith}
@@ -24,6 +24,9 @@ enum-known-p c = search needs
 cast-n : tie.Need-cast-n
 cast-n c = search needs
 
+head-of-requires : tie.Need-head-of-requires
+head-of-requires c κs = search needs
+
 mul-size : tie.Need-mul-size
 mul-size c = search needs
 
@@ -46,8 +49,8 @@ module _ (c : tie.After-p) where
 
 returns : tie.Need-returns
 returns c =
-    let q = c .before .before .before in
-    sym (write-short _ _ _ _ _ (plan-is q) (old q) (c .if1 .taken))
+    let q = c .before .before .before .before in
+    sym (write-short _ _ _ _ _ (plan-is q) (old q) (omega (arith, c .if1 .taken, c .before .head-of .ensures .0)))
 
 add-records : tie.Need-add-records
 add-records c = search needs
@@ -55,8 +58,8 @@ add-records c = search needs
 put-records-requires : tie.Need-put-records-requires
 put-records-requires c κs =
     let left = c .before in
-    let q = left .before .before .before in
-    (omega (arith, left .if1 .left), λ k h. is-drawn _ _ _ _ _ (plan-is q) .reachable k (omega (arith, h)))
+    let q = left .before .before .before .before in
+    (omega (arith, left .if1 .left, left .before .head-of .ensures .0), λ k h. is-drawn _ _ _ _ _ (plan-is q) .reachable k (omega (arith, h)))
 
 returns-2 : tie.Need-returns-2
 returns-2 c =
@@ -71,10 +74,11 @@ returns-3 : tie.Need-returns-3
 returns-3 c =
     let filled = c .before .before in
     let left = filled .before .before in
-    let q = left .before .before .before in
+    let q = left .before .before .before .before in
     let n = p q .count in
-    ap (λ (l : List ℕ). (given (25 + 20 * n, n), l)) (all-put (at q .args .d) (plan-is q) (old q) (filled .put-records .ensures))
-    ∙ sym (write-fits _ _ _ _ _ (plan-is q) (old q) (left .if1 .left))
+    let h-is = left .before .head-of .ensures .0 in
+    ap₂ (λ (h : ℕ) (l : List ℕ). (given (h + 20 * n, n), l)) h-is (all-put (at q .args .d) (plan-is q) (old q) (filled .put-records .ensures))
+    ∙ sym (write-fits _ _ _ _ _ (plan-is q) (old q) (omega (arith, left .if1 .left, h-is)))
 
 pub write-draft-spec : {M : Type 1} → statement M
 write-draft-spec =
@@ -84,6 +88,7 @@ write-draft-spec =
     enum-known-r
     enum-known-p
     cast-n
+    head-of-requires
     mul-size
     add-size
     returns
