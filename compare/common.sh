@@ -25,7 +25,7 @@ copy() {
     cmp -s "$1" "$2" || install -D -m 644 "$1" "$2"
 }
 
-# The reference crate: plotters' files as they are, and the cut-down modules above them.
+# The reference crates: plotters' files as they are, and the cut-down modules above them.
 make_reference() {
     local file
     for file in "${plotters_files[@]}"; do
@@ -41,6 +41,32 @@ make_reference() {
         copy "$plotters_src/$file" "$built/plotters/$file"
         cmp "$plotters_src/$file" "$built/plotters/$file"
     done
+    make_tabled
+}
+
+# The same with the decade of a length from the library's table, as 02 has it. One line of numeric.rs is changed, and
+# the table is the text of crates/decades.
+make_tabled() {
+    local file numeric=src/coord/ranged1d/types/numeric.rs changed
+    (cd "$built/plotters" && find src -type f) | while read -r file; do
+        case $file in
+        src/lib.rs | "$numeric") ;;
+        *) copy "$built/plotters/$file" "$built/tabled/$file" ;;
+        esac
+    done
+    (cd compare/tabled && find . -type f) | while read -r file; do
+        copy "compare/tabled/$file" "$built/tabled/$file"
+    done
+    sed 's/(10f64)\.powf((range\.1 - range\.0)\.log(10\.0)\.floor())/crate::powers::decade(range.1 - range.0)/' \
+        "$built/plotters/$numeric" >"$built/numeric.rs"
+    changed=$(diff "$built/plotters/$numeric" "$built/numeric.rs" | grep -c '^>') || true
+    if [ "$changed" != 1 ]; then
+        echo "the line of numeric.rs that takes the decade was found $changed times" >&2
+        exit 2
+    fi
+    copy "$built/numeric.rs" "$built/tabled/$numeric"
+    sed -n '/^const POWERS/,/^];/p' crates/decades/src/lib.rt | sed '1s/.*/[/; $s/.*/]/' >"$built/powers.in"
+    copy "$built/powers.in" "$built/tabled/src/powers.in"
 }
 
 make_archive() {

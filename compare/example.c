@@ -34,6 +34,19 @@ static int print_whole(int32_t a, int32_t b, int32_t v)
     return 0;
 }
 
+static int print_real_marks(double a, double b, uint32_t m)
+{
+    double out[16];
+    size_t count;
+    if (culv_real_key_points(a, b, m, out, 16, &count) != 0)
+        return 1;
+    printf("%g..%g:", a, b);
+    for (size_t i = 0; i < count; i++)
+        printf(" %g", out[i]);
+    printf("\n");
+    return 0;
+}
+
 static int print_real(double a, double b, double v)
 {
     int32_t pixel;
@@ -149,6 +162,7 @@ int main(void)
     int failed = print_marks(3, 15, 4);
     failed |= print_marks(-15, -3, 4);
     failed |= print_whole(-15, -3, -10);
+    failed |= print_real_marks(-0.05, 0.25, 4);
     failed |= print_real(0, 49, 1);
     failed |= print_stepped(8, -1, -4, 2);
     failed |= print_stepped_real(0, 1, 0.25, 0.4);

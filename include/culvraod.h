@@ -5,7 +5,8 @@
  * Every call returns an int32_t:
  *    0   answered: the answer stands where the pointers point;
  *   -1   none: there is no such value (only calls that say so);
- *   1..  refused: the lowest number of those that apply.
+ *   1..  refused: of the numbers that apply the first of 1 to 12, 17, 13 to 16,
+ *        in this order.
  *
  * Memory:
  *   - A list is a pointer and its length in entries. The pointer is valid even
@@ -54,8 +55,13 @@ enum {
     CULV_OUT_TOO_SHORT = 13,      /* the list or the bytes to be written are too short */
     CULV_NOT_A_RULER = 14,        /* the bytes are no ruler, or none of the kind that is asked for */
     CULV_UNKNOWN_TWIST = 15,      /* the twist is neither 0 nor 1 */
-    CULV_TWIST_LOST = 16          /* a Z ruler is to move back */
+    CULV_TWIST_LOST = 16,         /* a Z ruler is to move back */
+    CULV_REAL_AXIS_NOT_MARKED = 17 /* the real axis, or its mark limit, has no marks */
 };
+
+/* The most marks that culv_real_key_points gives: a list of so many always
+ * suffices. */
+#define CULV_REAL_MARKS_MAX 2000
 
 /* ---- Axes of whole numbers and of indices ---- */
 
@@ -95,6 +101,30 @@ int32_t culv_whole_key_points(int32_t a, int32_t b, uint32_t m,
 int32_t culv_index_key_points(uint64_t a, uint64_t b, uint32_t m,
                               uint64_t *out, size_t len,
                               uint64_t *step, size_t *count);
+
+/* ---- Axes of real numbers ---- */
+
+/*
+ * Marks on the real axis from a to b, with the mark limit m, as plotters gives
+ * them; only the decade of the length, the greatest power of ten not above it,
+ * is from a table of the doubles nearest to the powers of ten, so that marks do
+ * not depend on a platform's logarithm.
+ *
+ * The marks ascend by a step of 1, 2 or 5 times a power of ten; every operation
+ * is rounded as a double. If m is 0 there is none, whatever a and b are. Ends
+ * closer than 2^-52 (DBL_EPSILON) have the smaller one as their only mark, a if
+ * they are equal. In runs there were never more than m + 1.
+ *
+ * 0: *count is the number of marks, out[0] to out[*count - 1] are the marks.
+ * Refused:
+ *   17: m is not 0, and a or b is NaN or not from -1000000 to 1000000; or the
+ *       ends differ by 2^-52 or more, but by less than 0.001; or m is above
+ *       1000; or the step is not found in 20 rounds, or there are more than
+ *       2000 marks, for which no input is known;
+ *   13: len is less than the number of marks.
+ */
+int32_t culv_real_key_points(double a, double b, uint32_t m,
+                             double *out, size_t len, size_t *count);
 
 /* ---- Places on the film ---- */
 

@@ -53,6 +53,23 @@ static void index_key_points(void)
     settle(code, model_fit(marks, len));
 }
 
+static void real_key_points(void)
+{
+    static double listed[MOST_REAL_MARKS + 1];
+    double a, b;
+    uint32_t m;
+    uint64_t marks = 0;
+    draw_real_axis(&a, &b, &m);
+    int32_t refused = model_real_marks(a, b, m, listed, &marks);
+    size_t len = draw_length(marks, LONGEST), *count = RESULT(size_t);
+    double *out = LIST(double, len);
+    int32_t code = CALLED(culv_real_key_points(a, b, m, out, len, count));
+    counted(code, out, sizeof *out, count, marks);
+    for (uint64_t at = 0; code == ANSWERED && at < marks; at++)
+        demand(out[at] == listed[at], "another mark than the rule's");
+    settle(code, lower(refused, len < marks ? 13 : ANSWERED));
+}
+
 static void whole_map(void)
 {
     int32_t a, b, p, q, place;
@@ -211,5 +228,5 @@ const struct call AXIS_CALLS[AXIS_COUNT] = {
     CALL(whole_key_points), CALL(index_key_points), CALL(whole_map), CALL(real_map), CALL(whole_size),
     CALL(whole_index_of), CALL(whole_from_index), CALL(whole_unmap), CALL(real_unmap),
     CALL(seg_whole_size), CALL(seg_whole_map), CALL(seg_whole_index_of), CALL(seg_whole_from_index),
-    CALL(seg_whole_unmap), CALL(seg_whole_key_points),
+    CALL(seg_whole_unmap), CALL(seg_whole_key_points), CALL(real_key_points),
 };

@@ -206,6 +206,28 @@ void draw_real_ends(double *a, double *b)
     note_real("b", *b);
 }
 
+void draw_real_axis(double *a, double *b, uint32_t *m)
+{
+    static const double lengths[] = {0x1p-52, 0.001, 0.01, 0.1, 1, 10, 100, 1000, 1e4, 1e5, 1e6};
+    if (below(4) == 0) {
+        draw_real_ends(a, b);
+    } else {
+        double length = lengths[below(11)] * (double)within(1, 9);
+        *a = below(3) ? (double)within(-1000000, 1000000) / (double)power_of_ten() : 1e6;
+        *b = *a + (below(2) ? length : -length) * (below(2) ? 1 : (double)below(1000) / 1000);
+        if (below(8) == 0)
+            *b = nextafter(*b, any_real());
+        note_real("a", *a);
+        note_real("b", *b);
+    }
+    if (below(8) == 0) {
+        *m = draw_limit_of_marks();
+        return;
+    }
+    *m = (uint32_t)below(below(4) ? 60 : 1003);
+    note_natural("m", *m);
+}
+
 /* Into how many parts a step shall cut an axis: few, or about as many as a list may have. */
 static int64_t parts(void)
 {

@@ -27,6 +27,8 @@ void draw_film(int32_t *p, int32_t *q);
 void draw_whole_ends(int32_t *a, int32_t *b);
 void draw_index_ends(uint64_t *a, uint64_t *b);
 void draw_real_ends(double *a, double *b);
+/* Ends that are admitted for marks as a rule, and a mark limit. */
+void draw_real_axis(double *a, double *b, uint32_t *m);
 void draw_whole_steps(int32_t *a, int32_t *b, int32_t *d);
 void draw_real_steps(double *a, double *b, double *d);
 

@@ -27,6 +27,10 @@ struct marks model_marks(int64_t a, int64_t b, uint32_t m);
 /* 13, if marks are refused by nothing else and do not fit. */
 int32_t model_fit(struct marks marks, size_t len);
 
+/* Marks of a real axis: 17, or how many they are; list has room for all that there may be. */
+enum { MOST_REAL_MARKS = 2000 };
+int32_t model_real_marks(double a, double b, uint32_t m, double *list, uint64_t *count);
+
 /* The place on an axis with these ends, and 5 or 0. */
 int32_t model_place(double a, double b, double v, int32_t p, int32_t q, int32_t *place);
 

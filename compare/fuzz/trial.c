@@ -20,9 +20,10 @@ enum {
     AREAS = 10,
     ROOM = 1 << 20,   /* bytes of an area between its two closed pages */
     GUARD = 64,       /* bytes on each side of lent memory that are looked at after each call */
-    CALLS = 54,
+    CALLS = 55,
     SECONDS = 20,     /* no call may take longer */
-    STATUSES = 16
+    HIGHEST = 17,
+    STATUSES = HIGHEST + 2
 };
 
 /* Memory between two pages that may not be touched, and what it must hold. */
@@ -223,7 +224,7 @@ int32_t call_done(void)
         size_t begin = guard_begin(area);
         ASAN_UNPOISON_MEMORY_REGION(area->memory + begin, guard_end(area) - begin);
     }
-    demand(returned >= -1 && returned <= 16, "a status that there is not");
+    demand(returned >= -1 && returned <= HIGHEST, "a status that there is not");
     now->calls++;
     now->statuses[returned + 1]++;
     return returned;

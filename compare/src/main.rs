@@ -8,6 +8,7 @@ mod linspace;
 mod numeric;
 mod places;
 mod readings;
+mod real_marks;
 mod search;
 mod segmented;
 
@@ -46,6 +47,7 @@ fn compare() -> bool {
         places::compare(),
         counts::compare(),
         readings::compare(),
+        real_marks::compare(),
         rulers::compare(),
         search::compare(),
         linspace::compare(),
@@ -63,6 +65,7 @@ fn bench() -> bool {
     places::bench();
     counts::bench();
     readings::bench();
+    real_marks::bench();
     rulers::bench();
     search::bench();
     linspace::bench();
@@ -78,6 +81,7 @@ fn vectors() -> bool {
     places::vectors();
     counts::vectors();
     readings::vectors();
+    real_marks::vectors();
     search::vectors();
     linspace::vectors();
     segmented::vectors();

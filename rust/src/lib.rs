@@ -48,7 +48,8 @@
 //!
 //! # Refusals
 //!
-//! Each call names those that it can give. If several apply it is the one with the lowest number.
+//! Each call names those that it can give. If several apply it is the first in the order 1 to 12,
+//! 17, 13 to 16.
 //!
 //! | number | refusal | when |
 //! |---|---|---|
@@ -68,6 +69,7 @@
 //! | 14 | [`NotARuler`](Refusal::NotARuler) | bytes to be read or moved are no ruler, or none of the kind that is moved |
 //! | 15 | [`UnknownTwist`](Refusal::UnknownTwist) | a twist is neither 0 nor 1; [`ruler::Twist`] has no other |
 //! | 16 | [`TwistLost`](Refusal::TwistLost) | a ruler with the twist Z is to move back |
+//! | 17 | [`RealAxisNotMarked`](Refusal::RealAxisNotMarked) | marks of a real axis with an end that is NaN or beyond ±1,000,000, with ends that differ by less than 0.001 yet not by less than `f64::EPSILON`, or for a mark limit above 1,000 |
 //!
 //! # C functions
 //!

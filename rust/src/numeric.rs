@@ -1,6 +1,6 @@
-//! Axes of whole numbers, of indices and of reals, and the marks of the first two.
+//! Axes of whole numbers, of indices and of reals, and their marks.
 
-use crate::refusal::{answered, Refusal};
+use crate::refusal::{answered, ask, declare, Refusal};
 
 #[cfg(not(target_pointer_width = "64"))]
 compile_error!("culvraod needs a usize of 64 bits");
@@ -68,6 +68,35 @@ macro_rules! marks {
 marks!(RangedCoordi32, i32, culv_whole_key_points of i32);
 marks!(RangedCoordusize, usize, culv_index_key_points of u64);
 
+/// The most marks that a real axis has: a list of so many always suffices.
+pub const REAL_MARKS_MAX: usize = 2000;
+
+declare!(
+    "RangedCoordf64::key_points`]",
+    culv_real_key_points((a: f64, b: f64) m: u32, out: *mut f64, len: usize, count: *mut usize)
+);
+
+impl RangedCoordf64 {
+    /// Writes the marks to `out`, ascending, and gives their number.
+    ///
+    /// They are those of plotters, with the decade of the length from a table of powers of ten. With
+    /// an `m` of 0 there is none, and ends closer than `f64::EPSILON` have the smaller one as their
+    /// only mark.
+    ///
+    /// Refused as [`Refusal::RealAxisNotMarked`] or, after that, [`Refusal::OutTooShort`].
+    ///
+    /// ```
+    /// let mut out = [0.0; 8];
+    /// let count = culvraod::RangedCoordf64(-0.05, 0.25).key_points(4, &mut out)?;
+    /// assert_eq!(out[..count], [0.0, 0.1, 0.2]);
+    /// # Ok::<(), culvraod::Refusal>(())
+    /// ```
+    pub fn key_points(self, m: u32, out: &mut [f64]) -> Result<usize, Refusal> {
+        let (to, len) = (out.as_mut_ptr(), out.len());
+        ask!(answered, culv_real_key_points(self.0, self.1, m, to, len))
+    }
+}
+
 #[cfg(test)]
 mod tests {
     use super::*;
@@ -101,6 +130,30 @@ mod tests {
     fn no_mark_needs_no_list() {
         let told = RangedCoordi32(3, 5).key_points(1, &mut []);
         assert_eq!(told, Ok(KeyPoints { step: 10, count: 0 }));
+    }
+
+    #[test]
+    fn real_marks() {
+        let mut out = [77.0; 4];
+        assert_eq!(RangedCoordf64(1.0, 0.0).key_points(3, &mut out), Ok(3));
+        assert_eq!(out, [0.0, 0.5, 1.0, 77.0]);
+        let near = RangedCoordf64(2.5, 2.5 + f64::EPSILON / 2.0);
+        assert_eq!(near.key_points(1, &mut out), Ok(1));
+        assert_eq!(out, [2.5, 0.5, 1.0, 77.0]);
+        let nan = RangedCoordf64(f64::NAN, 1.0);
+        assert_eq!(nan.key_points(0, &mut []), Ok(0));
+    }
+
+    #[test]
+    fn refusals_of_real_marks() {
+        let real = |a, b, m| RangedCoordf64(a, b).key_points(m, &mut []).unwrap_err();
+        assert_eq!(real(f64::NAN, 1.0, 1), Refusal::RealAxisNotMarked);
+        assert_eq!(real(0.0, 1_000_000.5, 1), Refusal::RealAxisNotMarked);
+        assert_eq!(real(0.0, 0.000_999, 1), Refusal::RealAxisNotMarked);
+        assert_eq!(real(0.0, f64::EPSILON, 1), Refusal::RealAxisNotMarked);
+        assert_eq!(real(0.0, 0.0, 1_001), Refusal::RealAxisNotMarked);
+        assert_eq!(real(0.0, 0.001, 1_000), Refusal::OutTooShort);
+        assert_eq!(real(0.0, 0.0, 1), Refusal::OutTooShort);
     }
 
     #[test]

@@ -18,7 +18,7 @@ macro_rules! refusals {
         use Refusal::*;
 
         /// Every refusal, in the order of their numbers.
-        const ALL: [Refusal; 16] = [$($name),*];
+        const ALL: [Refusal; 17] = [$($name),*];
 
         impl Refusal {
             fn text(self) -> &'static str {
@@ -31,7 +31,7 @@ macro_rules! refusals {
 }
 
 refusals! {
-    /// Why a call stopped. Of several reasons it is the one with the lowest number.
+    /// Why a call stopped. Of several reasons it is the first in the order 1 to 12, 17, 13 to 16.
     ///
     /// The [crate's page](crate#refusals) has a table of the numbers and of when each is met.
     ///
@@ -59,6 +59,7 @@ refusals! {
     14 NotARuler "the bytes are no ruler, or none of the kind that is asked for";
     15 UnknownTwist "the twist is neither 0 nor 1";
     16 TwistLost "the ruler has the twist Z, which its old kind cannot tell";
+    17 RealAxisNotMarked "the real axis, or its mark limit, has no marks";
 }
 
 impl Refusal {
@@ -133,8 +134,8 @@ mod tests {
     use super::*;
 
     #[test]
-    fn numbers_are_1_to_16_in_order() {
-        assert!(ALL.iter().map(|refusal| refusal.number()).eq(1..=16));
+    fn numbers_are_1_to_17_in_order() {
+        assert!(ALL.iter().map(|refusal| refusal.number()).eq(1..=17));
         assert_eq!(Refusal::from_number(13), Some(OutTooShort));
         assert_eq!(answered("call", 0, 7), Ok(7));
         assert_eq!(answered("call", 14, 7), Err(NotARuler));

@@ -1,15 +1,19 @@
--- The reasons of every rule are listed with rising numbers: computed, whatever the arguments are. Assumes nothing.
+-- The reasons of every rule are listed by rising places: computed, whatever the arguments are. Assumes nothing.
+use Rattle.ranged1d.specs.Answer.{rank}
 use Rattle.linspace.specs.List.{Kind}
 use Rattle.segmented.specs.Segments.{Axis}
 use Rattle.culvraod.specs.Lowest.{StepsRise, SegmentsRise, LowestFirst}
 
 steps-rise : {A : Type 0} (kind : Kind A) (a b d : A) → StepsRise kind a b d
+unfolding rank
 steps-rise kind a b d = record { values = λ old. tt; size = tt; index-of = λ v method. tt; map = λ v limit. tt; unmap = λ x limit. tt; key-points = λ m old. tt }
 
 segments-rise : {A : Type 0} (axis : Axis A) → SegmentsRise axis
+unfolding rank
 segments-rise axis = record { size = tt; index-of = λ find s. tt; map = λ find s limit. tt; unmap = λ x limit. tt; key-points = λ m old. tt }
 
 pub lowest-first : LowestFirst
+unfolding rank
 lowest-first = record {
   plan = λ admitted a b m. tt;
   key-points = λ admitted a b m new old. tt;
@@ -17,6 +21,7 @@ lowest-first = record {
   unmap = λ a b x limit. tt;
   whole-map = λ a b v limit. tt;
   real-map = λ a b v limit. tt;
+  real-key-points = λ a b m old. tt;
   search-whole = λ l t. tt;
   search-real = λ l t method. tt;
   stepped = steps-rise;

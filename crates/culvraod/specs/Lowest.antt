@@ -1,6 +1,6 @@
 -- 01 "Why a call stops": of the refusals that apply a call returns the lowest. A rule lists its reasons, and the first that applies decides; here it is said of
--- every list with more than one reason that its numbers rise, on every input. With `lowest-is-least` of ranged1d/proofs/Lowest the first that applies is then the
--- lowest that does. `lowest-first` of proofs/Lowest proves it. Assumes nothing.
+-- every list with more than one reason that their places rise, on every input. With `lowest-is-least` of ranged1d/proofs/Lowest the first that applies is then
+-- the lowest that does. `lowest-first` of proofs/Lowest proves it. Assumes nothing.
 use Prim.Native.Nat.{ℕ}
 use mathlib.Core.Bool.{Bool}
 use mathlib.Core.List.{List}
@@ -9,6 +9,7 @@ use lib.IntN.{ℤ}
 use lib.Ieee.{Float}
 use Rattle.ranged1d.specs.Answer.{Reason, rising}
 use Rattle.ranged1d.specs.declared.Limit.{Limit}
+use Rattle.keypoints.specs.Marks.{realKeyPointsReasons}
 use Rattle.real.specs.Place.{realPlaceReasons, wholePlaceReasons}
 use Rattle.numeric.specs.Whole.{fromIndexReasons, readingReasons}
 use Rattle.numeric.specs.Calls.{keyPointsReasons, planReasons}
@@ -51,6 +52,7 @@ pub record LowestFirst : Type 1 where
   pub unmap : (a b x : ℤ) (limit : Limit) → Rising (readingReasons a b x limit)
   pub whole-map : (a b v : ℤ) (limit : Limit) → Rising (wholePlaceReasons a b v limit)
   pub real-map : (a b v : Float) (limit : Limit) → Rising (realPlaceReasons a b v limit)
+  pub real-key-points : (a b : Float) (m : ℕ) (old : List Float) → Rising (realKeyPointsReasons a b m old)
   pub search-whole : (l : List ℤ) (t : ℤ) → Rising (wholeSearchReasons l t)
   pub search-real : (l : List Float) (t : Float) (method : RoundingMethod) → Rising (realSearchReasons l t method)
   pub stepped : {A : Type 0} (kind : Kind A) (a b d : A) → StepsRise kind a b d

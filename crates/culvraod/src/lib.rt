@@ -4,14 +4,16 @@ mod segments;
 ghost use mathlib.Core.Path.{_≡_};
 ghost use lib.IntN.{pos};
 ghost use Rattle.ranged1d.specs.Refusals.{numberOf};
+ghost use Rattle.ranged1d.specs.Listed.{tellListed};
 ghost use Rattle.ranged1d.specs.Admitted.{limitOf};
 ghost use Rattle.discrete.specs.Index.{tellIndex};
 ghost use Rattle.numeric.specs.Calls.{tellMarks, wholeKeyPoints, indexKeyPoints};
 ghost use Rattle.numeric.specs.Whole.{tellCount, tellValue, wholeSize, wholeIndexOf, wholeFromIndex, wholeReading};
 ghost use Rattle.real.specs.Place.{tellPlace, wholePlace, realPlace};
 ghost use Rattle.real.specs.Reading.{tellReading, realReading};
+ghost use Rattle.keypoints.specs.Marks.{realKeyPoints};
 ghost use Rattle.linspace.specs.List.{whole, real};
-ghost use Rattle.linspace.specs.Calls.{tellListed, stepValues, stepSize, stepFromIndex, stepIndexOf, stepPlace, stepReading, stepKeyPoints};
+ghost use Rattle.linspace.specs.Calls.{stepValues, stepSize, stepFromIndex, stepIndexOf, stepPlace, stepReading, stepKeyPoints};
 ghost use Rattle.culvraod.specs.Steps.{listC};
 ghost use Rattle.float.specs.Calls.{tellLabel, labelPrint};
 ghost use Rattle.search.specs.Lists.{wholeSearch, realSearch};
@@ -25,7 +27,6 @@ use float::FloatPrettyPrinter;
 use float::Label;
 use linspace::Linspacef64;
 use linspace::Linspacei32;
-use linspace::Listed;
 use numeric::Choice;
 use numeric::Count;
 use numeric::IndexMarks;
@@ -37,6 +38,7 @@ use numeric::RangedCoordusize;
 use numeric::RealReading;
 use numeric::Value;
 use ranged1d::Limit;
+use ranged1d::Listed;
 use ranged1d::Refusal;
 use ruler::Moved;
 use ruler::Reading;
@@ -282,6 +284,19 @@ pub extern "C" fn culv_real_unmap(a: f64, b: f64, x: i32, p: i32, q: i32, v: &mu
     ensures { λ r. ⌜ (r, now (v .exit)) ≡ single (realReading a b x (limitOf p q)) (now (v .entry)) ⌝ }
 {
     give_reading(RangedCoordf64(a, b).unmap(x, Limit(p, q)), v)
+}
+
+#[no_mangle]
+pub extern "C" fn culv_real_key_points(
+    a: f64,
+    b: f64,
+    m: u32,
+    out: &mut [f64],
+    count: &mut usize,
+) -> i32
+    ensures { λ r. ⌜ (r, now (out .exit), now (count .exit)) ≡ listC (realKeyPoints a b m (now (out .entry))) (now (count .entry)) ⌝ }
+{
+    give_listed(RangedCoordf64(a, b).key_points(m, out), count)
 }
 
 #[no_mangle]

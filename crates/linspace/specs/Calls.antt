@@ -7,8 +7,7 @@ use mathlib.Core.List.{List, [], _∷_, _++_, map}
 use lib.Dec.{ltb, eqb}
 use lib.IntN.{ℤ, _-ℤ_}
 use lib.ListN.{length, getD}
-use Rattle.ranged1d.specs.Answer.{Answer, given, none, refused, Reason, _when_, lowest, written, andThen}
-use Rattle.ranged1d.specs.Refusals.{numberOf}
+use Rattle.ranged1d.specs.Answer.{Answer, given, none, Reason, _when_, lowest, written, andThen}
 use Rattle.ranged1d.specs.Admitted.{readingAdmitted}
 use Rattle.ranged1d.specs.declared.Limit.{Limit}
 use Rattle.rounding.specs.declared.Whole.{Whole}
@@ -19,13 +18,6 @@ use Rattle.search.specs.Search.{search}
 use Rattle.search.specs.Lists.{nanTarget}
 use Rattle.search.specs.declared.RoundingMethod.{RoundingMethod}
 use Rattle.linspace.specs.List.{Kind, stepped, against, tooLong, axisAdmitted}
-use Rattle.linspace.specs.declared.Listed.{Listed}
-use Rattle.linspace.specs.declared.Listed.the-variants as listed-is
-
--- ---- the answer's cases, by 01's numbers and values: how many were written; the number of the refusal
-abbrev pub tellListed : Listed → Answer ℕ
-tellListed (listed-is.Written n) = given n
-tellListed (listed-is.Refused r) = refused (numberOf r)
 
 -- ---- lists: the entry at an index, none past the end; whether there is an entry; the entries at the marks of 0..count − 1
 abbrev pub nth : {A : Type 0} → List A → ℕ → Answer A

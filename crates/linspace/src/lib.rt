@@ -6,7 +6,6 @@ mod wholes;
 
 use numeric::RangedCoordf64;
 use numeric::RangedCoordi32;
-use ranged1d::Refusal;
 
 // A whole axis by a step.
 pub struct Linspacei32 {
@@ -18,10 +17,4 @@ pub struct Linspacei32 {
 pub struct Linspacef64 {
     pub inner: RangedCoordf64,
     pub step: f64,
-}
-
-// How many entries or marks were written.
-pub enum Listed {
-    Written(usize),
-    Refused(Refusal),
 }

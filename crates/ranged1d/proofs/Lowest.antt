@@ -1,5 +1,5 @@
--- What `lowest` returns, where the reasons are listed with rising numbers: if a reason applies, a refusal whose number is no higher
--- than that reason's; if none does, the answer. Then what a given answer and a refusal say of the reasons, and of more of them.
+-- What `lowest` returns, where the reasons are listed by rising places: if a reason applies, a refusal whose place is no higher than
+-- that reason's; if none does, the answer. Then what a given answer and a refusal say of the reasons, and of more of them.
 -- Assumes nothing.
 use mathlib.Core.Path.{_≡_, refl, sym, ap, _∙_, subst}
 use mathlib.Core.Bool.{Bool, true, false, cond, not, _&&_}
@@ -10,27 +10,31 @@ use native.Mathlib.Omega.{arith}
 use borrow.Author.Tests.{not-true}
 use lib.Dec.{T, ltb, ltb→lt}
 use mir.Facts.{and-yes}
-use Rattle.ranged1d.specs.Answer.{Answer, given, refused, Reason, _when_, lowest, rising, andThen, noneOf}
+use Rattle.ranged1d.specs.Answer.{Answer, given, refused, Reason, _when_, lowest, rank, rising, andThen, noneOf}
 use Rattle.ranged1d.proofs.Bools.{both-true}
 use Rattle.ranged1d.proofs.Answers.{not-both, one-refusal}
 
-above : (k : ℕ) (rs : List Reason) → T (rising k rs) → (r : Reason) → List·Memᴰ r rs → k < r .number
+-- the place of a reason's number
+abbrev place : Reason → ℕ
+place r = rank (r .number)
+
+above : (k : ℕ) (rs : List Reason) → T (rising k rs) → (r : Reason) → List·Memᴰ r rs → k < rank (r .number)
 above k [] t r m = absurd (List·Memᴰ·not-nil m)
-above k (x ∷ rs) t r m = go (and-yes (ltb k (x .number)) (rising (x .number) rs) t) (List·Memᴰ·cases-cons m) (above (x .number) rs)
+above k (x ∷ rs) t r m = go (and-yes (ltb k (place x)) (rising (place x) rs) t) (List·Memᴰ·cases-cons m) (above (place x) rs)
   where
-    go : T (ltb k (x .number)) × T (rising (x .number) rs) → (r ≡ x) ⊎ List·Memᴰ r rs → (T (rising (x .number) rs) → (y : Reason) → List·Memᴰ y rs → x .number < y .number) → k < r .number
-    go both (inl e) rest = rw e (ltb→lt k (x .number) (both .0))
-    go both (inr m) rest = omega (arith, ltb→lt k (x .number) (both .0), rest (both .1) r m)
+    go : T (ltb k (place x)) × T (rising (place x) rs) → (r ≡ x) ⊎ List·Memᴰ r rs → (T (rising (place x) rs) → (y : Reason) → List·Memᴰ y rs → place x < place y) → k < place r
+    go both (inl e) rest = rw e (ltb→lt k (place x) (both .0))
+    go both (inr m) rest = omega (arith, ltb→lt k (place x) (both .0), rest (both .1) r m)
 
 module _ {A : Type 0} (a : Answer A) where
-  pub lowest-is-least : (k : ℕ) (rs : List Reason) → T (rising k rs) → (r : Reason) → List·Memᴰ r rs → r .applies ≡ true → (n : ℕ) × (lowest rs a ≡ refused n) × (n ≤ r .number)
+  pub lowest-is-least : (k : ℕ) (rs : List Reason) → T (rising k rs) → (r : Reason) → List·Memᴰ r rs → r .applies ≡ true → (n : ℕ) × (lowest rs a ≡ refused n) × (rank n ≤ rank (r .number))
   lowest-is-least k [] t r m h = absurd (List·Memᴰ·not-nil m)
-  lowest-is-least k (x ∷ rs) t r m h = go (x .applies) refl (List·Memᴰ·cases-cons m) (lowest-is-least (x .number) rs (and-yes (ltb k (x .number)) (rising (x .number) rs) t .1))
+  lowest-is-least k (x ∷ rs) t r m h = go (x .applies) refl (List·Memᴰ·cases-cons m) (lowest-is-least (place x) rs (and-yes (ltb k (place x)) (rising (place x) rs) t .1))
     where
-      go : (b : Bool) → x .applies ≡ b → (r ≡ x) ⊎ List·Memᴰ r rs → ((y : Reason) → List·Memᴰ y rs → y .applies ≡ true → (n : ℕ) × (lowest rs a ≡ refused n) × (n ≤ y .number))
-          → (n : ℕ) × (cond b (refused (x .number)) (lowest rs a) ≡ refused n) × (n ≤ r .number)
+      go : (b : Bool) → x .applies ≡ b → (r ≡ x) ⊎ List·Memᴰ r rs → ((y : Reason) → List·Memᴰ y rs → y .applies ≡ true → (n : ℕ) × (lowest rs a ≡ refused n) × (rank n ≤ place y))
+          → (n : ℕ) × (cond b (refused (x .number)) (lowest rs a) ≡ refused n) × (rank n ≤ place r)
       go true e (inl q) rest = (x .number, refl, rw q (omega arith))
-      go true e (inr q) rest = let l = above (x .number) rs (and-yes (ltb k (x .number)) (rising (x .number) rs) t .1) r q in (x .number, refl, omega arith)
+      go true e (inr q) rest = let l = above (place x) rs (and-yes (ltb k (place x)) (rising (place x) rs) t .1) r q in (x .number, refl, omega (arith, l))
       go false e (inl q) rest = absurd (subst T (sym h ∙ ap (λ (s : Reason). s .applies) q ∙ e) tt)
       go false e (inr q) rest = rest r q h
 

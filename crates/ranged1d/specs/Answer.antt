@@ -1,10 +1,10 @@
 -- The vocabulary of every rule: what a call answers, which refusal it meets first, and what lent memory holds afterwards.
 -- Assumes nothing.
-use Prim.Native.Nat.{ℕ}
+use Prim.Native.Nat.{ℕ, suc}
 use mathlib.Core.Path.{_≡_}
 use mathlib.Core.Bool.{Bool, true, cond, not, _&&_}
 use mathlib.Core.List.{List, [], _∷_, _++_}
-use lib.Dec.{ltb}
+use lib.Dec.{ltb, eqb}
 use lib.ListN.{length, drop}
 use Rattle.ranged1d.specs.Numbers.{every}
 
@@ -23,16 +23,28 @@ infix 68 _when_
 abbrev pub _when_ : ℕ → Bool → Reason
 n when t = record { number = n; applies = t }
 
--- 01 "Why a call stops": of the refusals that apply, the lowest is returned. A rule lists its reasons with rising numbers, and the
--- first that applies decides; `lowest-is-least` of proofs/Lowest says that it is then the lowest.
+-- 01 "Why a call stops": of the refusals that apply, the lowest is returned; 02 gives each of its own a place among them. A rule lists
+-- its reasons by rising places, and the first that applies decides; `lowest-is-least` of proofs/Lowest says that it is then the lowest.
 abbrev pub lowest : {A : Type 0} → List Reason → Answer A → Answer A
 lowest [] a = a
 lowest (r ∷ rs) a = cond (r .applies) (refused (r .number)) (lowest rs a)
 
--- The numbers of reasons rise, from above k.
+-- The numbers of all refusals, the lowest first: 1 to 14 as 01 has them, then those of 02 (c), with that of 02 (d) before 13.
+abbrev pub order : List ℕ
+order = 1 ∷ 2 ∷ 3 ∷ 4 ∷ 5 ∷ 6 ∷ 7 ∷ 8 ∷ 9 ∷ 10 ∷ 11 ∷ 12 ∷ 17 ∷ 13 ∷ 14 ∷ 15 ∷ 16 ∷ []
+
+-- The place of a number in that order, counted from 1; 0 for a number that is not there.
+abbrev pub placeFrom : ℕ → List ℕ → ℕ → ℕ
+placeFrom k [] n = 0
+placeFrom k (x ∷ xs) n = cond (eqb x n) k (placeFrom (suc k) xs n)
+
+unfoldable pub rank : ℕ → ℕ
+rank n = placeFrom 1 order n
+
+-- The places of reasons rise, from above the place k.
 abbrev pub rising : ℕ → List Reason → Bool
 rising k [] = true
-rising k (r ∷ rs) = ltb k (r .number) && rising (r .number) rs
+rising k (r ∷ rs) = ltb k (rank (r .number)) && rising (rank (r .number)) rs
 
 -- Lent memory that held `old`, once a call has this answer: an answer stands at its start and leaves the rest as it was; none and a
 -- refusal write nothing.

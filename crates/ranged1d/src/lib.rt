@@ -9,8 +9,9 @@ ghost use Rattle.ranged1d.specs.Admitted.{wholeAdmitted, indexAdmitted, 
 // The limits p and q of an axis on the film: where its first and its second end are placed.
 pub struct Limit(pub i32, pub i32);
 
-// Why a call is refused. specs/Refusals has the number of each. A later refusal is a new last case here, a line there and an arm
-// of `number`: no other function goes by these cases, and no proof does.
+// Why a call is refused. specs/Refusals has the number of each, and specs/Answer its place in the order. A later refusal is a new last
+// case here, a line in each of the two, an arm of `number` and two needs of its proof: no other function goes by these cases, and no
+// other proof does.
 pub enum Refusal {
     WholeNotAdmitted,
     LimitNotAdmitted,
@@ -28,6 +29,13 @@ pub enum Refusal {
     NotARuler,
     UnknownTwist,
     TwistLost,
+    RealAxisNotMarked,
+}
+
+// How many entries or marks were written to a lent list.
+pub enum Listed {
+    Written(usize),
+    Refused(Refusal),
 }
 
 impl Refusal {
@@ -51,6 +59,7 @@ impl Refusal {
             Refusal::NotARuler => 14,
             Refusal::UnknownTwist => 15,
             Refusal::TwistLost => 16,
+            Refusal::RealAxisNotMarked => 17,
         }
     }
 }

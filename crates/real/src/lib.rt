@@ -1,4 +1,4 @@
-// A real axis, after types/numeric.rs: the place of a value on the film, and the value that is read at a pixel.
+// A real axis, after types/numeric.rs: the place of a value on the film, the value that is read at a pixel, and the axis's marks.
 ghost use mathlib.Core.Path.{_≡_};
 ghost use mathlib.Core.Bool.{true};
 ghost use Prim.Native.Nat.{_+_};
@@ -6,10 +6,14 @@ ghost use lib.IntN.{pos};
 ghost use lib.Ieee as Ieee;
 ghost use lib.Ieee.{binary64};
 ghost use Rattle.ranged1d.specs.Admitted.{limitAdmitted};
+ghost use Rattle.ranged1d.specs.Listed.{tellListed};
 ghost use Rattle.rounding.specs.declared.Whole.the-variants.{Beyond};
+ghost use Rattle.keypoints.specs.Marks.{realKeyPoints};
 ghost use Rattle.real.specs.Place.{tellPlace, orEnd, along, spot, realPlace};
 ghost use Rattle.real.specs.Reading.{tellReading, outside, realReading};
+use keypoints::compute_f64_key_points;
 use ranged1d::Limit;
+use ranged1d::Listed;
 use ranged1d::Refusal;
 use rounding::Whole;
 
@@ -151,5 +155,12 @@ impl RangedCoordf64 {
         let a = self.0;
         let b = self.1;
         RealReading::At((b - a) * t + a)
+    }
+
+    // The marks, for the mark limit m, written to the start of out.
+    pub fn key_points(self, m: u32, out: &mut [f64]) -> Listed
+        ensures { λ r. ⌜ (tellListed r, now (out .exit)) ≡ realKeyPoints (self .0) (self .1) m (now (out .entry)) ⌝ }
+    {
+        compute_f64_key_points(self.0, self.1, m, out)
     }
 }

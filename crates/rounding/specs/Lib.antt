@@ -1,3 +1,4 @@
 -- The crate's specification. Assumes nothing.
 pub mod Integral
 pub mod Within
+pub mod Operations

@@ -9,21 +9,21 @@ ghost use mathlib.Core.Path.{_≡_};
 ghost use mathlib.Core.Bool.{true};
 ghost use Prim.Native.Nat.{_≤_};
 ghost use Rattle.ranged1d.specs.Admitted.{wholeAdmitted, limitAdmitted};
+ghost use Rattle.ranged1d.specs.Listed.{tellListed};
 ghost use Rattle.numeric.specs.Whole.{tellCount, tellValue};
 ghost use Rattle.real.specs.Place.{tellPlace};
-ghost use Rattle.linspace.specs.Calls.{tellListed};
 ghost use lib.IntN.{pos, natAbs, _+ℤ_, _-ℤ_};
 ghost use Rattle.segmented.specs.Values.{wholeSegment, carries};
 ghost use Rattle.segmented.specs.Steps.{atLeastOne, standing, Near, middleBy};
 ghost use Rattle.segmented.specs.Segments.{half, shared, margin, narrowed};
 use linspace::Linspacef64;
 use linspace::Linspacei32;
-use linspace::Listed;
 use numeric::Count;
 use numeric::Place;
 use numeric::RangedCoordi32;
 use numeric::Value;
 use ranged1d::Limit;
+use ranged1d::Listed;
 use ranged1d::Refusal;
 
 // A value of a segmented axis of whole numbers: where an entry's segment begins, its middle, and what stands behind all.

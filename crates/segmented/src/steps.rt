@@ -1,11 +1,12 @@
 // Segments over a stepped axis of whole numbers.
 ghost use mathlib.Core.Path.{_≡_};
 ghost use lib.ListN.{length};
+ghost use Rattle.ranged1d.specs.Listed.{tellListed};
 ghost use Rattle.discrete.specs.Index.{tellIndex};
 ghost use Rattle.numeric.specs.Whole.{tellCount};
 ghost use Rattle.real.specs.Place.{tellPlace};
 ghost use Rattle.linspace.specs.List.{whole};
-ghost use Rattle.linspace.specs.Calls.{tellListed, stepMarks};
+ghost use Rattle.linspace.specs.Calls.{stepMarks};
 ghost use Rattle.segmented.specs.Values.{wholeSegment, tellSegment};
 ghost use Rattle.segmented.specs.Segments.{segmentPlace, segmentSize, segmentIndexOf, segmentFromIndex, segmentReading, segmentKeyPoints};
 ghost use Rattle.segmented.specs.Axes.{steppedAxis, steppedFinder};
@@ -16,10 +17,10 @@ use crate::below;
 use crate::below::Step;
 use crate::some_marks;
 use discrete::Index;
-use linspace::Listed;
 use numeric::Count;
 use numeric::Place;
 use ranged1d::Limit;
+use ranged1d::Listed;
 use search::RoundingMethod;
 
 impl SegmentedLinspacei32 {

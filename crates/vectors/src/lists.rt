@@ -7,9 +7,9 @@ use crate::bits::pattern;
 use crate::calls::refused;
 use crate::calls::same;
 use crate::calls::word;
-use linspace::Listed;
 use numeric::IndexMarks;
 use numeric::Marks;
+use ranged1d::Listed;
 use ranged1d::Refusal;
 
 // What stands in every place of a list before the call. No line has it as an entry.

@@ -4,7 +4,7 @@ use borrow.Author.Needs.{needs}
 use denote.Ref.{now}
 use mir.Facts.{toZ-ofZ}
 use mir.Syntax.{w32}
-use Rattle.linspace.specs.Calls.{tellListed}
+use Rattle.ranged1d.specs.Listed.{tellListed}
 use Rattle.culvraod.proofs.Crossing.{single-cross}
 use Rattle.culvraod.proofs.give_listed.Statement.{statement}
 use Rattle.culvraod.proofs.give_listed.Tie as tie

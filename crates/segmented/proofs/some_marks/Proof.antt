@@ -1,8 +1,8 @@
 -- `segmented::some_marks` meets its contract. Assumes nothing.
 use mathlib.Core.Path.{sym, ap, _∙_}
 use Rattle.ranged1d.specs.Answer.{Answer}
-use Rattle.linspace.specs.Calls.{tellListed}
-use Rattle.linspace.specs.declared.Listed.{Listed}
+use Rattle.ranged1d.specs.Listed.{tellListed}
+use Rattle.ranged1d.specs.declared.Listed.{Listed}
 use Prim.Native.Nat.{ℕ}
 use Rattle.segmented.specs.Steps.{atLeastOne}
 use Rattle.segmented.proofs.Rules.{one-none, one-some}

@@ -1,0 +1,4 @@
+#![allow(warnings)]
+pub mod coord;
+pub mod data;
+pub mod powers;
