@@ -3,7 +3,7 @@ use mathlib.Core.Path.{_≡_, refl, sym, ap, _∙_}
 use mathlib.Core.Bool.{Bool, cond, _&&_, and-false}
 use Prim.Native.Nat.{ℕ, zero, suc, _+_, _-_, _*_, _/_, _%_, _^_, _≤_, _<_}
 use native.Mathlib.Nat.{pow-suc, pow-le-pow-right, zero-lt-suc}
-use native.Mathlib.Numerals.{sub-one}
+use native.Mathlib.Numerals.{add-one, sub-one}
 use native.Mathlib.Omega.{arith}
 use lib.Dec.{eqb}
 use lib.Ieee.{Float, binary64, sub, mul, lt, le}
@@ -18,9 +18,8 @@ use Rattle.float.specs.Text.{signOf, wholePart, decimalsOf}
 use Rattle.float.specs.Steps.{trimmed, parts, partsOf, tailLength}
 
 -- ---- powers of ten
-pub pow-back : (h : ℕ) → (h ≡ 0 → ⊥) → 10 ^ (h - 1) * 10 ≡ 10 ^ h
-pow-back zero n = absurd (n refl)
-pow-back (suc j) n = ap (λ (k : ℕ). 10 ^ k * 10) (sub-one (suc j)) ∙ sym (pow-suc 10 j)
+pub pow-more : (k : ℕ) → 10 ^ k * 10 ≡ 10 ^ (k + 1)
+pow-more k = sym (pow-suc 10 k) ∙ ap (λ (j : ℕ). 10 ^ j) (sym (add-one k))
 
 pub pow-small : (h : ℕ) → h ≤ 10 → 10 ^ h ≤ 10_000_000_000
 pow-small h l = pow-le-pow-right {n = 10} (zero-lt-suc 9) {i = h} {j = 10} l

@@ -5,6 +5,7 @@ pub mod Lists
 pub mod Signs
 pub mod Bounds
 pub mod Casts
+pub mod Levels
 pub mod Enough
 pub mod Printed
 pub mod Worked

@@ -1,12 +1,23 @@
 -- What private functions promise on the way to `labelPrint`, and what they ask: no part of the rule. Assumes nothing.
 use mathlib.Core.Bool.{Bool, false, cond, _&&_}
-use mathlib.Core.List.{List, [], _++_}
+use mathlib.Core.List.{List, [], _∷_, _++_}
 use Prim.Native.Nat.{ℕ, zero, suc, _+_, _/_, _%_, max}
 use lib.Dec.{eqb}
-use lib.Ieee.{Float}
+use lib.Ieee.{Float, binary64, add, div}
 use Rattle.decimal.specs.Print.{longNatural}
 use Rattle.float.specs.declared.Parts.{Parts}
+use Rattle.float.specs.declared.Shortened.{Shortened}
+use Rattle.float.specs.Shorten.{ten}
 use Rattle.float.specs.Text.{signOf, wholePart, decimalsOf, fillsUp, padded, filledUp, pointed, front}
+
+-- back from a level whose floor is f
+abbrev pub above : Float → Shortened → Shortened
+above f r = record { value = add binary64 f (div binary64 (r .value) ten); levels = r .levels + 1 }
+
+-- and through all the floors that the way down left behind, its last one first
+unfoldable pub back : List Float → Shortened → Shortened
+back [] r = r
+back (f ∷ fs) r = above f (back fs r)
 
 abbrev pub parts : Bool → ℕ → ℕ → ℕ → Parts
 parts s w p d = record { minus = s; whole = w; places = p; decimals = d }

@@ -4,15 +4,15 @@ use ranged1d::Refusal;
 ghost use mathlib.Core.Path.{_≡_};
 ghost use mathlib.Core.Bool.{false};
 ghost use Prim.Native.Nat.{_+_, _-_, _^_, _≤_, _<_};
-ghost use lib.ListN.{length, drop, replicate};
+ghost use lib.ListN.{length, take, drop, replicate};
 ghost use lib.Seq.{sets};
 ghost use lib.Ieee as Ieee;
 ghost use Rattle.ranged1d.specs.Answer.{listWritten};
 ghost use Rattle.rounding.specs.Within.{AtMost};
-ghost use Rattle.float.specs.Shorten.{shorten};
+ghost use Rattle.float.specs.Shorten.{shorten, plain};
 ghost use Rattle.float.specs.Text.{signOf, sizeOf};
 ghost use Rattle.float.specs.Calls.{tellLabel, printable, labelPrint};
-ghost use Rattle.float.specs.Steps.{trimmed, partsOf, unsignedParts, placed, tailOf, tailLength, bytesOf};
+ghost use Rattle.float.specs.Steps.{back, trimmed, partsOf, unsignedParts, placed, tailOf, tailLength, bytesOf};
 
 // How a label is written: with at least min_decimal decimals, of which at most max_decimal say anything of the number.
 pub struct FloatPrettyPrinter {
@@ -45,47 +45,74 @@ fn power(h: u32) -> u64
     requires { ⌜ h ≤ 10 ⌝ }
     ensures { λ r. ⌜ r ≡ 10 ^ h ⌝ }
 {
-    if h == 0 {
-        return 1;
+    let mut p: u64 = 1;
+    let mut k = 0;
+    while k < h {
+        p = p * 10;
+        k += 1;
     }
-    power(h - 1) * 10
+    p
 }
 
-// n by as few decimals as bring it nearer than eps, and no more than `left`.
+// The way down, from level to level: the number at which it ends, and how many levels were passed, at most `left`. The floor of each of these is kept in
+// `floors`, for the way back.
+fn descend(n: f64, eps: f64, left: u32, floors: &mut [f64]) -> Shortened
+    requires { ⌜ left ≤ 10 ⌝ ∗ ⌜ length (now floors) ≡ 10 ⌝ }
+    ensures { λ r. ⌜ (back (take (r .levels) (now (floors .exit))) (plain (r .value)) ≡ shorten left n eps) × (r .levels ≤ 10) ⌝ }
+{
+    let mut x = n;
+    let mut t = eps;
+    let mut k: u32 = 0;
+    while k < left {
+        if t >= 1.0 {
+            return Shortened {
+                value: x,
+                levels: k,
+            };
+        }
+        let down = rounding::floor(x);
+        if x - down < t {
+            return Shortened {
+                value: down,
+                levels: k,
+            };
+        }
+        let up = rounding::ceil(x);
+        if up - x < t {
+            return Shortened {
+                value: up,
+                levels: k,
+            };
+        }
+        // Here the digits come one after another, for a screen to show: `down` is first the floor of n, then decimal k of what lies above it. The last
+        // of them is the value that is returned.
+        floors[k as usize] = down;
+        x = (x - down) * 10.0;
+        t = t * 10.0;
+        k += 1;
+    }
+    Shortened {
+        value: x,
+        levels: k,
+    }
+}
+
+// n by as few decimals as bring it nearer than eps, and no more than `left`: down to the level that is near enough, and back through the floors. There
+// is room for the floors of ten levels, which are all that a label has.
 fn find_minimal_repr(n: f64, eps: f64, left: u32) -> Shortened
+    requires { ⌜ left ≤ 10 ⌝ }
     ensures { λ r. ⌜ r ≡ shorten left n eps ⌝ }
 {
-    if left == 0 {
-        return Shortened {
-            value: n,
-            levels: 0,
-        };
+    let mut floors = [0.0; 10];
+    let r = descend(n, eps, left, &mut floors);
+    let levels = r.levels;
+    let mut value = r.value;
+    let mut k = levels as usize;
+    while 0 < k {
+        k -= 1;
+        value = floors[k] + value / 10.0;
     }
-    if eps >= 1.0 {
-        return Shortened {
-            value: n,
-            levels: 0,
-        };
-    }
-    let down = rounding::floor(n);
-    if n - down < eps {
-        return Shortened {
-            value: down,
-            levels: 0,
-        };
-    }
-    let up = rounding::ceil(n);
-    if up - n < eps {
-        return Shortened {
-            value: up,
-            levels: 0,
-        };
-    }
-    let r = find_minimal_repr((n - down) * 10.0, eps * 10.0, left - 1);
-    Shortened {
-        value: down + r.value / 10.0,
-        levels: r.levels + 1,
-    }
+    Shortened { value, levels }
 }
 
 // Whether n has a minus sign, a zero its own.
@@ -116,22 +143,25 @@ fn absolute(n: f64) -> f64
 fn trim(minus: bool, whole: u64, p: u32, d: u64) -> Parts
     ensures { λ r. ⌜ r ≡ trimmed minus whole p d ⌝ }
 {
-    if p == 0 {
-        return Parts {
-            minus,
-            whole,
-            places: 0,
-            decimals: 0,
-        };
-    }
-    if d % 10 == 0 {
-        return trim(minus, whole, p - 1, d / 10);
+    let mut places = p;
+    let mut decimals = d;
+    while 0 < places {
+        if decimals % 10 != 0 {
+            return Parts {
+                minus,
+                whole,
+                places,
+                decimals,
+            };
+        }
+        places -= 1;
+        decimals = decimals / 10;
     }
     Parts {
         minus,
         whole,
-        places: p,
-        decimals: d,
+        places: 0,
+        decimals: 0,
     }
 }
 
