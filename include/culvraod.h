@@ -56,7 +56,8 @@ enum {
     CULV_NOT_A_RULER = 14,        /* the bytes are no ruler, or none of the kind that is asked for */
     CULV_UNKNOWN_TWIST = 15,      /* the twist is neither 0 nor 1 */
     CULV_TWIST_LOST = 16,         /* a Z ruler is to move back */
-    CULV_REAL_AXIS_NOT_MARKED = 17 /* the real axis, or its mark limit, has no marks */
+    CULV_REAL_AXIS_NOT_MARKED = 17, /* the real axis, or its mark limit, has no marks */
+    CULV_NOT_ON_AXIS = 18         /* the needle lies off its axis, or the axis has no length */
 };
 
 /* The most marks that culv_real_key_points gives: a list of so many always
@@ -145,6 +146,28 @@ int32_t culv_real_key_points(double a, double b, uint32_t m,
  */
 int32_t culv_whole_map(int32_t a, int32_t b, int32_t v, int32_t p, int32_t q,
                        int32_t *pixel);
+
+/*
+ * How far the needle v of the whole axis from a to b lies from p, counted
+ * exactly: |q - p| * |v - a| divided by |b - a|, in whole numbers. The needle
+ * is *quotient pixels away from p, toward q, and *remainder parts of a pixel
+ * more, of which |b - a| make one.
+ *
+ * The place that culv_whole_map gives for the same numbers is *quotient pixels
+ * away from p, toward q, or one more; one more only where 1000 * *remainder is
+ * at least 998 * |b - a|, counted in 64 bits. The mirrored needle (all five
+ * numbers negated) has the same quotient and remainder.
+ *
+ * 0: *quotient, which is at most |q - p|, and *remainder, which is below
+ *    |b - a|, are the answer.
+ * Refused:
+ *    1: a, b or v is not admitted;
+ *    2: p or q is not admitted;
+ *   18: a is b, or v lies off the axis.
+ */
+int32_t culv_whole_map_exact(int32_t a, int32_t b, int32_t v,
+                             int32_t p, int32_t q,
+                             uint32_t *quotient, uint32_t *remainder);
 
 /*
  * The pixel of the value v on the real axis from a to b; -0.0 is 0.0. The place

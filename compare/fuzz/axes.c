@@ -5,6 +5,8 @@
 #include "model.h"
 #include "trial.h"
 
+#include <stdlib.h>
+
 enum { LONGEST = 4096 };
 
 void counted(int32_t code, const void *out, size_t size, const size_t *count, uint64_t wanted)
@@ -79,6 +81,24 @@ static void whole_map(void)
     int32_t code = CALLED(culv_whole_map(a, b, v, p, q, pixel));
     int32_t refused = lower(WHOLES(a, b, v), FILMS(p, q));
     settle(code, refused != 0 ? refused : model_place(a, b, v, p, q, &place));
+}
+
+static void whole_map_exact(void)
+{
+    int32_t a, b, p, q;
+    draw_whole_ends(&a, &b);
+    draw_film(&p, &q);
+    int32_t v = draw_whole("v");
+    uint32_t *quotient = RESULT(uint32_t), *remainder = RESULT(uint32_t);
+    int32_t code = CALLED(culv_whole_map_exact(a, b, v, p, q, quotient, remainder));
+    if (code == ANSWERED) {
+        /* division read backwards: quotient lengths of the axis and the remainder are the whole way */
+        uint64_t length = (uint64_t)llabs((int64_t)b - a), pixels = (uint64_t)llabs((int64_t)q - p);
+        uint64_t way = pixels * (uint64_t)llabs((int64_t)v - a);
+        demand(*remainder < length && *quotient * length + *remainder == way, "another quotient or remainder");
+    }
+    int32_t refused = lower(WHOLES(a, b, v), FILMS(p, q));
+    settle(code, refused != 0 ? refused : a == b || (v < a && v < b) || (a < v && b < v) ? 18 : ANSWERED);
 }
 
 static void real_map(void)
@@ -225,7 +245,7 @@ static void seg_whole_key_points(void)
 #define CALL(name) {"culv_" #name, name}
 
 const struct call AXIS_CALLS[AXIS_COUNT] = {
-    CALL(whole_key_points), CALL(index_key_points), CALL(whole_map), CALL(real_map), CALL(whole_size),
+    CALL(whole_key_points), CALL(index_key_points), CALL(whole_map), CALL(whole_map_exact), CALL(real_map), CALL(whole_size),
     CALL(whole_index_of), CALL(whole_from_index), CALL(whole_unmap), CALL(real_unmap),
     CALL(seg_whole_size), CALL(seg_whole_map), CALL(seg_whole_index_of), CALL(seg_whole_from_index),
     CALL(seg_whole_unmap), CALL(seg_whole_key_points), CALL(real_key_points),

@@ -13,6 +13,7 @@
 #include "trial.h"
 
 enum { ALL = AXIS_COUNT + 2 * STEP_COUNT + OTHER_COUNT };
+_Static_assert((int)ALL == (int)CALLS, "another number of functions");
 
 static struct call call_at(size_t at)
 {

@@ -20,9 +20,8 @@ enum {
     AREAS = 10,
     ROOM = 1 << 20,   /* bytes of an area between its two closed pages */
     GUARD = 64,       /* bytes on each side of lent memory that are looked at after each call */
-    CALLS = 55,
     SECONDS = 20,     /* no call may take longer */
-    HIGHEST = 17,
+    HIGHEST = 18,
     STATUSES = HIGHEST + 2
 };
 

@@ -5,6 +5,9 @@
 #include <stddef.h>
 #include <stdint.h>
 
+/* How many functions are tried. */
+enum { CALLS = 56 };
+
 /* Begins a trial of the call with this name: nothing is lent and nothing noted. */
 void trial_begin(size_t call, const char *name);
 

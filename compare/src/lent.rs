@@ -18,6 +18,12 @@ impl Fill for i32 {
     }
 }
 
+impl Fill for u32 {
+    fn fill(at: usize) -> u32 {
+        usize::fill(at) as u32
+    }
+}
+
 impl Fill for usize {
     fn fill(at: usize) -> usize {
         (at + 1).wrapping_mul(0x9e37_79b9_7f4a_7c15) ^ 0x5a5a_5a5a_5a5a_5a5a

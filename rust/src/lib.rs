@@ -70,6 +70,7 @@
 //! | 15 | [`UnknownTwist`](Refusal::UnknownTwist) | a twist is neither 0 nor 1; [`ruler::Twist`] has no other |
 //! | 16 | [`TwistLost`](Refusal::TwistLost) | a ruler with the twist Z is to move back |
 //! | 17 | [`RealAxisNotMarked`](Refusal::RealAxisNotMarked) | marks of a real axis with an end that is NaN or beyond ±1,000,000, with ends that differ by less than 0.001 yet not by less than `f64::EPSILON`, or for a mark limit above 1,000 |
+//! | 18 | [`NotOnAxis`](Refusal::NotOnAxis) | the exact place of a needle off its axis, or on an axis with equal ends, is asked for |
 //!
 //! # C functions
 //!
@@ -96,6 +97,7 @@ pub use label::FloatPrettyPrinter;
 pub use limit::Limit;
 pub use linspace::{Linspacef64, Linspacei32};
 pub use numeric::{KeyPoints, RangedCoordf64, RangedCoordi32, RangedCoordusize};
+pub use places::ExactPlace;
 pub use refusal::Refusal;
 pub use search::{search_real, search_whole, RoundingMethod};
 pub use segmented::{SegmentValue, SegmentedCoord};

@@ -18,7 +18,7 @@ macro_rules! refusals {
         use Refusal::*;
 
         /// Every refusal, in the order of their numbers.
-        const ALL: [Refusal; 17] = [$($name),*];
+        const ALL: [Refusal; 18] = [$($name),*];
 
         impl Refusal {
             fn text(self) -> &'static str {
@@ -60,6 +60,7 @@ refusals! {
     15 UnknownTwist "the twist is neither 0 nor 1";
     16 TwistLost "the ruler has the twist Z, which its old kind cannot tell";
     17 RealAxisNotMarked "the real axis, or its mark limit, has no marks";
+    18 NotOnAxis "the needle lies off its axis, or the axis has no length";
 }
 
 impl Refusal {
@@ -134,8 +135,8 @@ mod tests {
     use super::*;
 
     #[test]
-    fn numbers_are_1_to_17_in_order() {
-        assert!(ALL.iter().map(|refusal| refusal.number()).eq(1..=17));
+    fn numbers_are_1_to_18_in_order() {
+        assert!(ALL.iter().map(|refusal| refusal.number()).eq(1..=18));
         assert_eq!(Refusal::from_number(13), Some(OutTooShort));
         assert_eq!(answered("call", 0, 7), Ok(7));
         assert_eq!(answered("call", 14, 7), Err(NotARuler));

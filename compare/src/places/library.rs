@@ -3,7 +3,7 @@
 use culvraod::places::{culv_real_map, culv_whole_map};
 use culvraod::{Limit, RangedCoordf64, RangedCoordi32};
 
-use super::Place;
+use super::{exact, Place};
 use crate::beside::{self, library, Library, Mirrored, Negated};
 use crate::cases::Cases;
 
@@ -42,6 +42,7 @@ pub fn compare() -> bool {
         & beside::compare::<Place<f64>>()
         & beside::compare_mirror::<Place<i32>>()
         & beside::compare_mirror::<Place<f64>>()
+        & exact::compare()
 }
 
 pub fn bench() {

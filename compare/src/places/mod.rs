@@ -4,6 +4,8 @@ mod cases;
 pub mod rule;
 
 #[cfg(feature = "library")]
+mod exact;
+#[cfg(feature = "library")]
 mod library;
 
 use plotters::coord::ranged1d::Ranged;

@@ -17,3 +17,7 @@ outAfter f (refused n) old = old
 -- a call whose answer is one number, with one out pointer
 abbrev pub single : {A : Type 0} → Answer A → A → ℤ × A
 single x old = (code x, outAfter (λ a. a) x old)
+
+-- a call whose answer is two numbers, each with its own out pointer
+abbrev pub double : {A B : Type 0} → Answer (A × B) → A → B → ℤ × A × B
+double x old old' = (code x, outAfter (λ a. a .0) x old, outAfter (λ a. a .1) x old')

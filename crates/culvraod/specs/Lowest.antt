@@ -11,6 +11,7 @@ use Rattle.ranged1d.specs.Answer.{Reason, rising}
 use Rattle.ranged1d.specs.declared.Limit.{Limit}
 use Rattle.keypoints.specs.Marks.{realKeyPointsReasons}
 use Rattle.real.specs.Place.{realPlaceReasons, wholePlaceReasons}
+use Rattle.real.specs.Exact.{exactReasons}
 use Rattle.numeric.specs.Whole.{fromIndexReasons, readingReasons}
 use Rattle.numeric.specs.Calls.{keyPointsReasons, planReasons}
 use Rattle.search.specs.declared.RoundingMethod.{RoundingMethod}
@@ -51,6 +52,7 @@ pub record LowestFirst : Type 1 where
   pub from-index : (a b : ℤ) (k : ℕ) → Rising (fromIndexReasons a b k)
   pub unmap : (a b x : ℤ) (limit : Limit) → Rising (readingReasons a b x limit)
   pub whole-map : (a b v : ℤ) (limit : Limit) → Rising (wholePlaceReasons a b v limit)
+  pub map-exact : (a b v : ℤ) (limit : Limit) → Rising (exactReasons a b v limit)
   pub real-map : (a b v : Float) (limit : Limit) → Rising (realPlaceReasons a b v limit)
   pub real-key-points : (a b : Float) (m : ℕ) (old : List Float) → Rising (realKeyPointsReasons a b m old)
   pub search-whole : (l : List ℤ) (t : ℤ) → Rising (wholeSearchReasons l t)

@@ -10,6 +10,7 @@ ghost use Rattle.discrete.specs.Index.{tellIndex};
 ghost use Rattle.numeric.specs.Calls.{tellMarks, wholeKeyPoints, indexKeyPoints};
 ghost use Rattle.numeric.specs.Whole.{tellCount, tellValue, wholeSize, wholeIndexOf, wholeFromIndex, wholeReading};
 ghost use Rattle.real.specs.Place.{tellPlace, wholePlace, realPlace};
+ghost use Rattle.real.specs.Exact.{wholeExact};
 ghost use Rattle.real.specs.Reading.{tellReading, realReading};
 ghost use Rattle.keypoints.specs.Marks.{realKeyPoints};
 ghost use Rattle.linspace.specs.List.{whole, real};
@@ -20,7 +21,7 @@ ghost use Rattle.search.specs.Lists.{wholeSearch, realSearch};
 ghost use Rattle.culvraod.specs.Search.{methodOf, byMethod};
 ghost use Rattle.ruler.specs.Rule.{tellWrote, tellMoved, rulerWrite, rulerWriteInside, twistedWrite, rulerUpgrade, rulerDowngrade, rulerOf, rulerRead, recordIn, labelIn, sideOf};
 ghost use Rattle.culvraod.specs.Ruler.{readC, readKindC, partC, pairC};
-ghost use Rattle.culvraod.specs.Boundary.{single};
+ghost use Rattle.culvraod.specs.Boundary.{single, double};
 ghost use Rattle.culvraod.specs.Numeric.{marksC, keyPointsC};
 use discrete::Index;
 use float::FloatPrettyPrinter;
@@ -29,6 +30,7 @@ use linspace::Linspacef64;
 use linspace::Linspacei32;
 use numeric::Choice;
 use numeric::Count;
+use numeric::ExactPlace;
 use numeric::IndexMarks;
 use numeric::Marks;
 use numeric::Place;
@@ -270,6 +272,28 @@ pub extern "C" fn culv_whole_map(a: i32, b: i32, v: i32, p: i32, q: i32, pixel: 
     ensures { λ r. ⌜ (r, now (pixel .exit)) ≡ single (wholePlace a b v (limitOf p q)) (now (pixel .entry)) ⌝ }
 {
     give_place(RangedCoordi32(a, b).map(v, Limit(p, q)), pixel)
+}
+
+#[no_mangle]
+pub extern "C" fn culv_whole_map_exact(
+    a: i32,
+    b: i32,
+    v: i32,
+    p: i32,
+    q: i32,
+    quotient: &mut u32,
+    remainder: &mut u32,
+) -> i32
+    ensures { λ r. ⌜ (r, now (quotient .exit), now (remainder .exit)) ≡ double (wholeExact a b v (limitOf p q)) (now (quotient .entry)) (now (remainder .entry)) ⌝ }
+{
+    match RangedCoordi32(a, b).map_exact(v, Limit(p, q)) {
+        ExactPlace::At(pixels, parts) => {
+            *quotient = pixels;
+            *remainder = parts;
+            0
+        }
+        ExactPlace::Refused(r) => refused(r),
+    }
 }
 
 #[no_mangle]

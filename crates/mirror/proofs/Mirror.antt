@@ -11,6 +11,7 @@ use Rattle.ranged1d.specs.Admitted.{endsAdmitted}
 use Rattle.ranged1d.specs.declared.Limit.{Limit}
 use Rattle.real.specs.Mirror as film
 use Rattle.real.proofs.Mirror as places
+use Rattle.real.proofs.Relied.{exact}
 use Rattle.numeric.specs.declared.Choice.{Choice}
 use Rattle.ruler.specs.declared.Form.{Form}
 use Rattle.numeric.specs.Marks.{noStep, stepOf, marks, marksBy}
@@ -169,6 +170,7 @@ demand-three =
       twisted-rulers = twisted-rulers;
       whole-marks = whole-marks;
       whole-places = λ a b v limit. places.mirror limit .whole-places a b v;
+      exact-places = λ a b v limit. exact limit .mirror a b v;
       real-places = λ a b v limit. places.mirror limit .real-places a b v;
       real-readings = λ a b x limit. places.mirror limit .readings a b x;
       whole-searches = searches.mirror .whole-searches;

@@ -14,6 +14,7 @@ use Rattle.ranged1d.specs.Admitted.{endsAdmitted}
 use Rattle.ranged1d.specs.declared.Limit.{Limit}
 use Rattle.real.specs.Place.{wholePlace, realPlace}
 use Rattle.real.specs.Reading.{realReading}
+use Rattle.real.specs.Exact.{wholeExact}
 use Rattle.real.specs.Mirror as film
 use Rattle.real.specs.Mirror.{negated, Opposite}
 use Rattle.numeric.specs.declared.Choice.{Choice}
@@ -169,6 +170,8 @@ pub record DemandThree : Type 0 where
       → BothLong (planReasons (endsAdmitted a b) a b m) (length (marks a b m)) old (length (marks (negℤ a) (negℤ b) m)) old' → Marks a b m old old'
   -- Mirroring negates places on whole and real axes, or both sides give the same refusal.
   pub whole-places : (a b v : ℤ) (limit : Limit) → wholePlace (negℤ a) (negℤ b) (negℤ v) (film.mirrored limit) ≡ negated (wholePlace a b v limit)
+  -- 02 (e): the exact place of a needle is that of the mirrored one.
+  pub exact-places : (a b v : ℤ) (limit : Limit) → wholeExact (negℤ a) (negℤ b) (negℤ v) (film.mirrored limit) ≡ wholeExact a b v limit
   pub real-places : (a b v : Float) (limit : Limit) → realPlace (neg a) (neg b) (neg v) (film.mirrored limit) ≡ negated (realPlace a b v limit)
   -- It negates real readings, or both sides give none or the same refusal. Zeros of either sign are equal, and a NaN equals a NaN.
   pub real-readings : (a b : Float) (x : ℤ) (limit : Limit) → Opposite (realReading (neg a) (neg b) (negℤ x) (film.mirrored limit)) (realReading a b x limit)

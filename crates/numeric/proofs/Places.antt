@@ -1,6 +1,6 @@
 -- Places of whole axes: by the tests that lead to each answer, and that every mark has one. Assumes nothing.
 use mathlib.Core.Path.{_≡_, sym, ap, _∙_}
-use mathlib.Core.Bool.{Bool, true, false, not, _&&_, not-eq-not}
+use mathlib.Core.Bool.{Bool, true, false, not, _&&_, _||_, not-eq-not}
 use mathlib.Core.List.{[], _∷_}
 use Prim.Native.Nat.{ℕ, _≤_, _<_}
 use lib.IntN.{ℤ, pos, natAbs, _-ℤ_}
@@ -12,6 +12,9 @@ use Rattle.ranged1d.specs.Answer.{given, _when_, lowest}
 use Rattle.ranged1d.specs.Admitted.{wholeAdmitted, limitAdmitted}
 use Rattle.ranged1d.specs.declared.Limit.{Limit}
 use Rattle.rounding.specs.declared.Whole.the-variants.{Number}
+use Rattle.ranged1d.specs.Numbers.{same}
+use Rattle.real.specs.Reading.{outside}
+use Rattle.real.specs.Exact.{quotient, remainder, wholeExact}
 use Rattle.real.specs.Place.{along, spot, realPlace, wholeSpot, wholePlace, spotAnswer}
 use Rattle.real.proofs.Exact.{int-self, same-int, whole-share}
 use Rattle.real.proofs.Placed.{Placed, whole-is-real, whole-placed}
@@ -31,6 +34,12 @@ by-tests a b v limit t u e f = whole-is-real a b v limit ∙ rw (e, f)
 pub past-tests : (a b v : ℤ) (limit : Limit) → true ≡ endsAdmitted a b → true ≡ wholeAdmitted v → limitAdmitted limit ≡ true → wholePlace a b v limit ≡ spotAnswer (wholeSpot a b v limit)
 unfolding realPlace
 past-tests a b v limit e f h = by-tests a b v limit true true e f ∙ rw h
+
+-- the exact place, by the tests of its call
+pub exact-tests : (a b v : ℤ) (limit : Limit) (t u w o : Bool) → t ≡ endsAdmitted a b → u ≡ wholeAdmitted v → w ≡ limitAdmitted limit → o ≡ (same a b || outside v a b)
+    → wholeExact a b v limit ≡ lowest (1 when not (t && u) ∷ 2 when not w ∷ 18 when o ∷ []) (given (quotient a b v limit, remainder a b v limit))
+unfolding wholeExact
+exact-tests a b v limit t u w o e f g h = rw (e, f, g, h)
 
 -- ---- the rule's place: of ends that are equal, and by the whole differences of others
 pub level-spot : (a b v : ℤ) (limit : Limit) → natAbs a ≤ 1000000000 → a ≡ b → wholeSpot a b v limit ≡ Number (quotZ (limit .1 -ℤ limit .0) (pos 2))

@@ -14,6 +14,7 @@ mod whole;
 
 pub use discrete::Index;
 use ranged1d::Refusal;
+pub use real::ExactPlace;
 pub use real::Place;
 pub use real::RangedCoordf64;
 pub use real::RealReading;

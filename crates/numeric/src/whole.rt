@@ -2,15 +2,20 @@
 // a value, the value at an index, the place of a value, and the value that a pixel is read as.
 ghost use mathlib.Core.Path.{_≡_};
 ghost use mathlib.Core.Bool.{true};
+ghost use Prim.Native.Nat.{_*_, _/_, _%_, _≤_, _<_};
+ghost use lib.IntN.{natAbs, _-ℤ_};
+ghost use Rattle.ranged1d.specs.Answer.{given};
 ghost use Rattle.ranged1d.specs.Admitted.{wholeAdmitted, limitAdmitted};
 ghost use Rattle.discrete.specs.Index.{tellIndex};
 ghost use Rattle.real.specs.Place.{tellPlace, wholeSpot, wholePlace};
+ghost use Rattle.real.specs.Exact.{tellExact, wholeExact};
 ghost use Rattle.numeric.specs.Whole.{endsAdmitted, tellCount, tellValue, wholeSize, wholeIndexOf, wholeFromIndex, wholeReading, countOf, valueFrom};
 use crate::RangedCoordi32;
 use crate::span;
 use discrete::Index;
 use ranged1d::Limit;
 use ranged1d::Refusal;
+use real::ExactPlace;
 use real::Place;
 use rounding::Whole;
 
@@ -23,6 +28,27 @@ pub enum Value {
     At(i32),
     Nothing,
     Refused(Refusal),
+}
+
+// How far y lies from x.
+fn apart(x: i32, y: i32) -> u32
+    requires { ⌜ natAbs x ≤ 1000000000 ⌝ }
+    requires { ⌜ natAbs y ≤ 1000000000 ⌝ }
+    ensures { λ r. ⌜ r ≡ natAbs (y -ℤ x) ⌝ }
+{
+    ranged1d::unsigned_abs(y - x)
+}
+
+// n times w by d, and what remains: w is a part of d, so that the quotient is no more than n.
+fn exact_of(n: u32, w: u32, d: u32) -> ExactPlace
+    requires { ⌜ n ≤ 2000000 ⌝ }
+    requires { ⌜ w ≤ d ⌝ }
+    requires { ⌜ 0 < d ⌝ }
+    ensures { λ r. ⌜ tellExact r ≡ given (n * w / d, n * w % d) ⌝ }
+{
+    let x = (n as u64) * (w as u64);
+    let y = d as u64;
+    ExactPlace::At((x / y) as u32, (x % y) as u32)
 }
 
 impl RangedCoordi32 {
@@ -139,6 +165,32 @@ impl RangedCoordi32 {
             Whole::Number(z) => Place::At(z as i32),
             Whole::Beyond => Place::Refused(Refusal::TooFar),
         }
+    }
+
+    // How many pixels v lies from p, and how many parts of one more, of which the length of the axis makes a pixel.
+    pub fn map_exact(self, v: i32, limit: Limit) -> ExactPlace
+        ensures { λ r. ⌜ tellExact r ≡ wholeExact (self .0) (self .1) v limit ⌝ }
+    {
+        if !self.admitted() {
+            return ExactPlace::Refused(Refusal::WholeNotAdmitted);
+        }
+        if !ranged1d::whole_admitted(v) {
+            return ExactPlace::Refused(Refusal::WholeNotAdmitted);
+        }
+        if !limit.admitted() {
+            return ExactPlace::Refused(Refusal::LimitNotAdmitted);
+        }
+        let a = self.0;
+        let b = self.1;
+        if a == b {
+            return ExactPlace::Refused(Refusal::NotOnAxis);
+        }
+        if real::outside_limit(v, a, b) {
+            return ExactPlace::Refused(Refusal::NotOnAxis);
+        }
+        let p = limit.0;
+        let q = limit.1;
+        exact_of(apart(p, q), apart(a, v), apart(a, b))
     }
 
     // The value that pixel x is read as.

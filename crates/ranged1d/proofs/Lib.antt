@@ -1,6 +1,7 @@
 pub mod Bools
 pub mod Answers
 pub mod Whole
+pub mod Parts
 pub mod Bits
 pub mod Lowest
 pub mod Table

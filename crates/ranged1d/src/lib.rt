@@ -30,6 +30,7 @@ pub enum Refusal {
     UnknownTwist,
     TwistLost,
     RealAxisNotMarked,
+    NotOnAxis,
 }
 
 // How many entries or marks were written to a lent list.
@@ -60,6 +61,7 @@ impl Refusal {
             Refusal::UnknownTwist => 15,
             Refusal::TwistLost => 16,
             Refusal::RealAxisNotMarked => 17,
+            Refusal::NotOnAxis => 18,
         }
     }
 }

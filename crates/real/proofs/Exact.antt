@@ -4,7 +4,7 @@ use mathlib.Core.Path.{_≡_, refl, sym, ap, ap₂, subst, _∙_}
 use mathlib.Core.Bool.{Bool, true, false, not, _||_, Bool·beq, true≢false}
 use mathlib.Core.Logic.{_⊎_, inl, inr}
 use Prim.Native.Nat.{ℕ, zero, suc, _+_, _-_, _*_, _/_, _%_, _^_, _≤_, _<_}
-use native.Mathlib.Nat.{add-zero, mul-one, zero-mul, mul-right-comm, eq-of-mul-eq-mul-right}
+use native.Mathlib.Nat.{add-zero, eq-of-mul-eq-mul-right}
 use native.Mathlib.Omega.{arith}
 use lib.IntN.{ℤ, pos, negsuc, natAbs, _+ℤ_, _-ℤ_, +ℤ-idr}
 use lib.Dec.{T, eqb, eqb→eq}
@@ -17,7 +17,10 @@ use lib.Ieee.Fits.{down-pos, round-fits}
 use mir.Facts.{and-yes, or-yes}
 use borrow.Author.Tests.{le-ltb, lt-leb}
 use Rattle.ranged1d.proofs.Whole.{minus-shift}
+use Rattle.ranged1d.proofs.Parts.{over, under, abs-parts}
 use Rattle.rounding.proofs.Signs.{round-neg}
+use Rattle.rounding.proofs.Compare.{own}
+use Rattle.rounding.proofs.Units.{Signed, Holds, valued-of, int-holds, of-holds, one-held}
 use Rattle.rounding.proofs.Sums.{ones, add-whole, whole-sum}
 use Rattle.real.specs.Place.{share}
 use Rattle.real.proofs.Signs.{level-same, int-value, int-neg}
@@ -91,21 +94,22 @@ int-self z h = let x = int-value binary64 z h in valued (ofInt binary64 z) (x .0
 pub differ : (a b : ℤ) → natAbs a ≤ 2 ^ 53 → eq (ofInt binary64 a) (ofInt binary64 b) ≡ false → a ≡ b → ⊥
 differ a b h n e = true≢false (sym (int-self a h) ∙ ap (λ (z : ℤ). eq (ofInt binary64 a) (ofInt binary64 z)) e ∙ n)
 
--- floats with whole values that are equal: the values are, and the signs, except at 0
-one-value : (x y : Float) (s t : Bool) (m n : ℕ) → HasValue x s m 1 → HasValue y t n 1 → eq x y ≡ true → (m ≡ n) × (Bool·beq s t ≡ false → m ≡ 0)
+-- floats that are equal: their values are, and the signs, except at 0
+one-value : (x y : Float) (s t : Bool) (m n c d : ℕ) → 0 < c → HasValue x s m c → HasValue y t n d → eq x y ≡ true → (m * d ≡ n * c) × (Bool·beq s t ≡ false → m ≡ 0)
 unfolding eq
-one-value (fin u j e) (fin w k d) s t m n hx hy h =
-    let A = j * up e * down d in
-    let B = k * up d * down e in
+one-value (fin u j e) (fin w k g) s t m n c d C hx hy h =
+    let A = j * up e * down g in
+    let B = k * up g * down e in
     let told = and-yes (eqb A B) (Bool·beq u w || eqb A 0) (subst T (sym h) tt) in
-    let left : A ≡ m * down e * down d = ap (λ (i : ℕ). i * down d) (sym (mul-one (j * up e)) ∙ hx .1) in
-    let right : B ≡ n * down d * down e = ap (λ (i : ℕ). i * down e) (sym (mul-one (k * up d)) ∙ hy .1) in (
-      cancel m n (sym left ∙ eqb→eq A B (told .0) ∙ right ∙ mul-right-comm n (down d) (down e)),
-      λ f. cancel m 0 (sym left ∙ nothing A (told .1) f ∙ sym (ap (λ (i : ℕ). i * down d) (zero-mul (down e)) ∙ zero-mul (down d))),
+    let same : A ≡ B = eqb→eq A B (told .0) in
+    let left : j * up e * c ≡ m * down e = hx .1 in
+    let right : k * up g * d ≡ n * down g = hy .1 in (
+      cancel (m * d) (n * c) (omega (arith, ap (λ (i : ℕ). i * down g * d) left, ap (λ (i : ℕ). i * down e * c) right, ap (λ (i : ℕ). i * c * d) same)),
+      λ f. cancel m 0 (omega (arith, ap (λ (i : ℕ). i * down g) left, ap (λ (i : ℕ). i * c) (nothing A (told .1) f))),
     )
   where
-    cancel : (i l : ℕ) → i * down e * down d ≡ l * down e * down d → i ≡ l
-    cancel i l q = eq-of-mul-eq-mul-right (down e) (down-pos e) i l (eq-of-mul-eq-mul-right (down d) (down-pos d) (i * down e) (l * down e) q)
+    cancel : (i l : ℕ) → i * down e * down g ≡ l * down e * down g → i ≡ l
+    cancel i l q = eq-of-mul-eq-mul-right (down e) (down-pos e) i l (eq-of-mul-eq-mul-right (down g) (down-pos g) (i * down e) (l * down e) q)
 
     nothing : (A : ℕ) → T (Bool·beq u w || eqb A 0) → Bool·beq s t ≡ false → A ≡ 0
     nothing A r f = go (or-yes (Bool·beq u w) (eqb A 0) r)
@@ -114,15 +118,32 @@ one-value (fin u j e) (fin w k d) s t m n hx hy h =
         go (inl q) = absurd (subst T (ap₂ Bool·beq (hx .0) (hy .0) ∙ f) q)
         go (inr q) = eqb→eq A 0 q
 
+-- a float that equals one of a whole value has that value
+signed-either : (s t : Bool) (z : ℤ) → (Bool·beq s t ≡ false → natAbs z ≡ 0) → Signed t (natAbs z) (over z) (under z) → Signed s (natAbs z) (over z) (under z)
+signed-either false false z n g = g
+signed-either true true z n g = g
+signed-either false true z n g = omega (arith, n refl, abs-parts z)
+signed-either true false z n g = omega (arith, n refl, abs-parts z)
+
+pub equal-holds : (x y : Float) (z : ℤ) → Holds y z → eq x y ≡ true → Holds x z
+unfolding eq
+equal-holds nan y z q e = absurd (true≢false (sym e))
+equal-holds (inf s) (fin t n g) z q e = absurd (true≢false (sym e))
+equal-holds (fin s m e) y z q h =
+    let (t, hy, g) = of-holds y z q in
+    let w = one-value (fin s m e) y s t (m * up e) (natAbs z) (down e) 1 (down-pos e) (own s m e) hy h in
+    valued-of (fin s m e) s (natAbs z) 1 (over z) (under z) (refl, w .0) (signed-either s t z (λ f. none (natAbs z) (down e) (down-pos e) (omega (arith, w .0, w .1 f))) g)
+  where
+    none : (a d : ℕ) → 0 < d → a * d ≡ 0 → a ≡ 0
+    none a d D h = eq-of-mul-eq-mul-right d D a 0 (omega arith)
+
+-- so that two that are equal have one value
+pub equal-held : (x y : Float) (a b : ℤ) → Holds x a → Holds y b → eq x y ≡ true → a ≡ b
+equal-held x y a b p q e = one-held x a b p (equal-holds x y b q e)
+
 -- whole numbers that are equal as floats are equal
 pub same-int : (a b : ℤ) → natAbs a ≤ 2 ^ 53 → natAbs b ≤ 2 ^ 53 → eq (ofInt binary64 a) (ofInt binary64 b) ≡ true → a ≡ b
-unfolding ofInt
-same-int (pos m) (pos n) h k e = ap pos (one-value _ _ false false m n (round-whole binary64 false m h) (round-whole binary64 false n k) e .0)
-same-int (pos m) (negsuc n) h k e = let v = one-value _ _ false true m (suc n) (round-whole binary64 false m h) (round-whole binary64 true (suc n) k) e in absurd (omega (arith, v .0, v .1 refl))
-same-int (negsuc m) (pos n) h k e = let v = one-value _ _ true false (suc m) n (round-whole binary64 true (suc m) h) (round-whole binary64 false n k) e in absurd (omega (arith, v .1 refl))
-same-int (negsuc m) (negsuc n) h k e =
-    let v : suc m ≡ suc n = one-value _ _ true true (suc m) (suc n) (round-whole binary64 true (suc m) h) (round-whole binary64 true (suc n) k) e .0 in
-    ap negsuc (omega arith)
+same-int a b h k e = equal-held (ofInt binary64 a) (ofInt binary64 b) a b (int-holds binary64 a h) (int-holds binary64 b k) e
 
 -- the share, as one quotient of whole numbers
 pub whole-share : (a b v : ℤ) → natAbs a ≤ 2 ^ 53 → natAbs b ≤ 2 ^ 53 → natAbs v ≤ 2 ^ 53

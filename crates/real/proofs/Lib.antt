@@ -7,4 +7,6 @@ pub mod Readings
 pub mod Mirror
 pub mod Placed
 pub mod Nan
+pub mod Error
+pub mod Relied
 pub mod Worked

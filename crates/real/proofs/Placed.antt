@@ -21,7 +21,7 @@ use Rattle.rounding.specs.declared.Whole.{Whole}
 use Rattle.rounding.specs.declared.Whole.the-variants.{Number, Beyond}
 use Rattle.rounding.proofs.Value.{Told}
 use Rattle.rounding.proofs.Small.{small-neg, add-small, mul-small}
-use Rattle.real.specs.Place.{farthest, milli, share, product, rising, falling, plus, orEnd, along, spot, number, realPlace, wholePlace, spotAnswer}
+use Rattle.real.specs.Place.{farthest, milli, share, product, rising, falling, plus, orEnd, along, spot, number, realPlace, wholeSpot, wholePlace, spotAnswer}
 use Rattle.real.proofs.Cases.{near-limits, steps, steps-near}
 use Rattle.real.proofs.Exact.{differ, whole-share}
 use Rattle.real.proofs.Sizes.{small-int, small-quotient, small-told}
@@ -75,6 +75,14 @@ pub whole-is-real : (a b v : ℤ) (limit : Limit)
     → wholePlace a b v limit ≡ lowest (1 when not (endsAdmitted a b && wholeAdmitted v) ∷ []) (realPlace (ofInt binary64 a) (ofInt binary64 b) (ofInt binary64 v) limit)
 unfolding wholePlace realPlace
 whole-is-real a b v limit = refl
+
+-- a place that the rule has is answered
+pub real-answered : (a b v : Float) (limit : Limit) {z : ℤ} → limitAdmitted limit ≡ true → spot a b v limit ≡ Number z → realPlace a b v limit ≡ given z
+unfolding realPlace
+real-answered a b v limit h e = rw (h, e)
+
+pub whole-answered : (a b v : ℤ) (limit : Limit) {z : ℤ} → endsAdmitted a b ≡ true → wholeAdmitted v ≡ true → limitAdmitted limit ≡ true → wholeSpot a b v limit ≡ Number z → wholePlace a b v limit ≡ given z
+whole-answered a b v limit ab ok h e = rw (whole-is-real a b v limit, ab, ok) (real-answered _ _ _ limit h e)
 
 -- ---- where 5 is not met: the place is answered
 pub record Placed (r : Answer ℤ) : Type 0 where

@@ -23,11 +23,11 @@ pub limit-neg : (limit : Limit) → limitAdmitted (mirrored limit) ≡ limitAdmi
 limit-neg limit = rw (pixel-neg (limit .0), pixel-neg (limit .1))
 
 -- ---- which pixels can be read
-outside-neg : (x p q : ℤ) → outside (negℤ x) (negℤ p) (negℤ q) ≡ outside x p q
+pub outside-neg : (x p q : ℤ) → outside (negℤ x) (negℤ p) (negℤ q) ≡ outside x p q
 outside-neg x p q =
     rw (low-neg p q, high-neg p q, neg-lt x (high p q), neg-lt (low p q) x) (or-comm (ltZ (high p q) x) (ltZ x (low p q)))
 
-same-neg : (p q : ℤ) → same (negℤ p) (negℤ q) ≡ same p q
+pub same-neg : (p q : ℤ) → same (negℤ p) (negℤ q) ≡ same p q
 same-neg p q = rw (neg-le p q, neg-le q p) (and-comm (leZ q p) (leZ p q))
 
 -- ---- the value

@@ -306,10 +306,17 @@ pub eq-alike : {x' x y' y : Float} → Alike x' x → Alike y' y → eq x' y' �
 eq-alike v w = same-both eq eq-left eq-right v w
 
 -- ---- whole numbers
-pub int-value : (f : Format) (z : ℤ) → natAbs z ≤ 2 ^ prec f → (s : Bool) × HasValue (ofInt f z) s (natAbs z) 1
+abbrev pub minus : ℤ → Bool
+minus (pos n) = false
+minus (negsuc n) = true
+
+pub int-signed : (f : Format) (z : ℤ) → natAbs z ≤ 2 ^ prec f → HasValue (ofInt f z) (minus z) (natAbs z) 1
 unfolding ofInt
-int-value f (pos n) h = (false, round-whole f false n h)
-int-value f (negsuc n) h = (true, round-whole f true (suc n) h)
+int-signed f (pos n) h = round-whole f false n h
+int-signed f (negsuc n) h = round-whole f true (suc n) h
+
+pub int-value : (f : Format) (z : ℤ) → natAbs z ≤ 2 ^ prec f → (s : Bool) × HasValue (ofInt f z) s (natAbs z) 1
+int-value f z h = (minus z, int-signed f z h)
 
 pub int-neg : (f : Format) (z : ℤ) → (z ≡ pos 0 → ⊥) → ofInt f (negℤ z) ≡ neg (ofInt f z)
 unfolding ofInt

@@ -1,17 +1,13 @@
 -- How large a quotient can be, and the whole number next to a float of at most C in size, C being a whole number that the format holds.
 -- Assumes nothing.
-use mathlib.Core.Path.{_≡_, sym, ap, _∙_}
 use mathlib.Core.Bool.{Bool, true, false}
 use Prim.Native.Nat.{ℕ, suc, _*_, _^_, _≤_, _<_}
-use native.Mathlib.Nat.{mul-assoc, mul-comm, mul-left-comm, mul-one, zero-mul, mul-pos}
 use native.Mathlib.Omega.{arith}
 use lib.IntN.{ℤ, pos, negsuc, natAbs}
 use lib.Ieee.{Format, prec, Float, fin, up, down, unlike, round, div, ofInt}
 use lib.Ieee.Fits.{down-pos}
 use lib.Ieee.Exact.{HasValue}
 use lib.Ieee.Back.{round-whole}
-use lib.Ieee.Scale.{round-same}
-use borrow.Author.Tests.{ne-eqb}
 use Rattle.rounding.specs.Integral.{Way, sized}
 use Rattle.rounding.specs.Within.{signed, wholeOf, within, AtMost}
 use Rattle.rounding.proofs.Quotients.{sized-le}
@@ -19,26 +15,10 @@ use Rattle.rounding.proofs.Bounds.{kept-in}
 use Rattle.rounding.proofs.Steps.{signed-abs}
 use Rattle.rounding.proofs.Small.{Plus, plus-round, round-small}
 use Rattle.rounding.proofs.Value.{Told}
+use Rattle.rounding.proofs.Values.{div-round}
 use Rattle.real.proofs.Signs.{int-value}
 
--- a number that is not 0 has digits
-some-digits : (v : Bool) (k : ℕ) (g : ℤ) (t : Bool) (d : ℕ) → 0 < d → HasValue (fin v k g) t d 1 → k ≡ 0 → ⊥
-some-digits v k g t d p b z =
-    let y : k * up g ≡ d * down g = sym (mul-one (k * up g)) ∙ b .1 in
-    let some : 0 < d * down g = mul-pos p (down-pos g) in
-    omega (arith, sym (ap (λ (i : ℕ). i * up g) z ∙ zero-mul (up g)) ∙ y)
-
--- the quotient of two whole numbers is their fraction, rounded
-pub div-round : (f : Format) (x y : Float) (s t : Bool) (k n : ℕ) → 0 < n → HasValue x s k 1 → HasValue y t n 1 → div f x y ≡ round f (unlike s t) k n
-unfolding div
-div-round f (fin u m e) (fin v p g) s t k n some a b =
-    let up-is : m * up e ≡ k * down e = sym (mul-one (m * up e)) ∙ a .1 in
-    let down-is : p * up g ≡ n * down g = sym (mul-one (p * up g)) ∙ b .1 in
-    let below : 0 < p * up g * down e = rw down-is (mul-pos (mul-pos some (down-pos g)) (down-pos e)) in
-    let same : m * up e * down g * n ≡ k * (p * up g * down e) = rw (up-is, down-is) (simp (mul-assoc, mul-comm, mul-left-comm)) in
-    rw (ne-eqb p 0 (some-digits v p g t n some b), a .0, b .0) (round-same f (unlike s t) (m * up e * down g) (p * up g * down e) k n below some same)
-
--- that of two numbers without a sign has none
+-- the quotient of two numbers without a sign has none
 pub plus-div : (f : Format) (x y : Float) (n d : ℕ) → 0 < d → HasValue x false n 1 → HasValue y false d 1 → Plus (div f x y)
 plus-div f x y n d p a b = rw (div-round f x y false false n d p a b) (plus-round f n d)
 

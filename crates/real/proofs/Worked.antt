@@ -1,15 +1,19 @@
 -- Places and readings that the rules give, computed. Assumes nothing.
-use mathlib.Core.Path.{_≡_, refl}
+use mathlib.Core.Path.{_≡_, refl, sym, ap, _∙_}
 use mathlib.Core.Bool.{true, false}
 use mathlib.Core.List.{[], _∷_, map}
-use lib.IntN.{ℤ, pos, negsuc}
+use Prim.Native.Nat.{ℕ, _+_, _*_, _≤_}
+use native.Mathlib.Omega.{arith}
+use lib.IntN.{ℤ, pos, negsuc, natAbs, _+ℤ_}
 use lib.Ieee.{Float, nan, inf, fin, binary64, eq, sub, div, mul, add, ofInt, ofBits}
 use Rattle.ranged1d.specs.Answer.{Answer, given, none, refused}
 use Rattle.ranged1d.specs.declared.Limit.{Limit}
 use Rattle.ranged1d.specs.Admitted.{limitOf}
+use Rattle.ranged1d.proofs.Answers.{given-is}
 use Rattle.rounding.specs.Within.{wholeOf, within}
 use Rattle.real.specs.Place.{rising, falling, along, spot, realPlace, wholePlace}
 use Rattle.real.specs.Reading.{realReading}
+use Rattle.real.specs.Exact.{distance, away, wholeExact}
 
 -- needle 7 on the axis 7..7, film 100..300
 equal-ends : wholePlace (pos 7) (pos 7) (pos 7) (limitOf (pos 100) (pos 300)) ≡ given (pos 100)
@@ -71,3 +75,36 @@ outside-both = refl
 no-length : map (λ x. realReading (fin false 0 (pos 0)) one x (limitOf (pos 3) (pos 3))) (pos 3 ∷ pos 1_000_001 ∷ []) ≡ none ∷ refused 2 ∷ []
 unfolding realReading
 no-length = refl
+
+-- exact places: up, down, at an end of a film without length, and refused: off the axis, with equal ends, and with 2 before 18
+exact-places : (wholeExact (pos 0) (pos 9) (pos 4) (limitOf (pos 0) (pos 100)) ≡ given (44, 4)) × (wholeExact (pos 9) (pos 0) (pos 4) (limitOf (pos 100) (pos 0)) ≡ given (55, 5))
+    × (wholeExact (pos 0) (pos 9) (pos 9) (limitOf (pos 5) (pos 5)) ≡ given (0, 0)) × (wholeExact (pos 0) (pos 9) (pos 10) (limitOf (pos 0) (pos 100)) ≡ refused 18)
+    × (wholeExact (pos 9) (pos 9) (pos 9) (limitOf (pos 0) (pos 100)) ≡ refused 18) × (wholeExact (pos 9) (pos 9) (pos 9) (limitOf (pos 0) (pos 1000001)) ≡ refused 2)
+unfolding wholeExact
+exact-places = (refl, refl, refl, refl, refl, refl)
+
+-- ---- wrong, 02 (e): one more only from so many thousandths of the axis on, 999 where 998 is right; and never one more
+abbrev MoreFrom : ℕ → Type 0
+MoreFrom c = (a b v : ℤ) (limit : Limit) (n r : ℕ) → wholeExact a b v limit ≡ given (n, r) → wholePlace a b v limit ≡ given (away limit (n + 1)) → c * distance a b ≤ 1000 * r
+
+abbrev NeverMore : Type 0
+NeverMore = (a b v : ℤ) (limit : Limit) (n r : ℕ) → wholeExact a b v limit ≡ given (n, r) → wholePlace a b v limit ≡ given (away limit n)
+
+-- the place is one more than the quotient, and 999 * 1863688619 - 1000 * 1861824930 is 381
+abbrev there : (ℤ × ℤ × ℤ) × Limit
+there = ((negsuc 931844308, pos 931844310, pos 59700026), limitOf (negsuc 977561) (pos 977562))
+
+one-more : (wholeExact (there .0 .0) (there .0 .1) (there .0 .2) (there .1) ≡ given (1040190, 1861824930)) × (wholePlace (there .0 .0) (there .0 .1) (there .0 .2) (there .1) ≡ given (away (there .1) 1040191))
+unfolding wholeExact wholePlace spot along rising falling within wholeOf eq sub div mul add ofInt ofBits
+one-more = (refl, refl)
+
+pub not-999 : MoreFrom 999 → ⊥
+not-999 h =
+    let n : 999 * 1863688619 ≤ 1000 * 1861824930 = h (there .0 .0) (there .0 .1) (there .0 .2) (there .1) 1040190 1861824930 (one-more .0) (one-more .1) in
+    let z : ⊥ = omega (arith, n) in z
+
+pub not-never : NeverMore → ⊥
+not-never h =
+    let e : negsuc 977561 +ℤ pos 1040191 ≡ negsuc 977561 +ℤ pos 1040190 = given-is (sym (one-more .1) ∙ h (there .0 .0) (there .0 .1) (there .0 .2) (there .1) 1040190 1861824930 (one-more .0)) in
+    let n : _≡_ {A = ℕ} 62629 62628 = ap natAbs e in
+    let z : ⊥ = omega (arith, n) in z

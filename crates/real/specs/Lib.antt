@@ -2,3 +2,4 @@
 pub mod Place
 pub mod Reading
 pub mod Mirror
+pub mod Exact

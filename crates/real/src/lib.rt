@@ -25,6 +25,12 @@ pub enum Place {
     Refused(Refusal),
 }
 
+// Quotient and remainder of an exact place.
+pub enum ExactPlace {
+    At(u32, u32),
+    Refused(Refusal),
+}
+
 pub enum RealReading {
     At(f64),
     Nothing,
@@ -89,8 +95,9 @@ pub fn place_along(p: i32, q: i32, l: i32, t: f64) -> Whole
     }
 }
 
-// Whether x lies off the film. The limits are put in order without a branch, since which way they run is as good as random.
-fn outside_limit(x: i32, p: i32, q: i32) -> bool
+// Whether x lies off the film with the limits p and q, or off an axis with these ends. They are put in order without a branch, since
+// which way they run is as good as random.
+pub fn outside_limit(x: i32, p: i32, q: i32) -> bool
     ensures { λ r. ⌜ r ≡ outside x p q ⌝ }
 {
     let lo = if p <= q { p } else { q };

@@ -2,6 +2,8 @@
 pub mod Quotients
 pub mod Compare
 pub mod Signs
+pub mod Errors
+pub mod Values
 pub mod Sums
 pub mod Small
 pub mod Steps
@@ -10,4 +12,5 @@ pub mod Cuts
 pub mod Bounds
 pub mod Value
 pub mod Order
+pub mod Units
 pub mod Worked

@@ -49,29 +49,20 @@ or-le x y b t = go (ltb x y) (eqb x y) (ltb→lt x y) (eqb→eq x y) t
     go false true f g t = let h = g tt in omega arith
     go false false f g t = absurd t
 
--- x is finite, and at most C / D in size
-abbrev pub UpTo : ℕ → ℕ → Float → Type 0
-UpTo C D nan = ⊥
-UpTo C D (inf s) = ⊥
-UpTo C D (fin s m e) = m * up e * D ≤ C * down e
-
-pub under : (C D : ℕ) (x y : Float) → Plus x → HasValue y false C D → T (le x y) → UpTo C D x
+under : (C : ℕ) (x y : Float) → Plus x → HasValue y false C 1 → T (le x y) → AtMost C x
 unfolding le lt eq
-under C D (inf true) (fin u n d) s v t = absurd (true≢false s)
-under C D (inf false) (fin u n d) s v t = absurd t
-under C D (fin true m e) (fin u n d) s v t = absurd (true≢false s)
-under C D (fin false m e) (fin true n d) s v t = absurd (true≢false (v .0))
-under C D (fin false m e) (fin false n d) s v t =
+under C (inf true) (fin u n d) s v t = absurd (true≢false s)
+under C (inf false) (fin u n d) s v t = absurd t
+under C (fin true m e) (fin u n d) s v t = absurd (true≢false s)
+under C (fin false m e) (fin true n d) s v t = absurd (true≢false (v .0))
+under C (fin false m e) (fin false n d) s v t =
     let l : m * up e * down d ≤ n * up d * down e = or-le (m * up e * down d) (n * up d * down e) _ t in
-    let q : n * up d * down e * D ≡ C * down e * down d = mul-right-comm (n * up d) (down e) D ∙ ap (λ (z : ℕ). z * down e) (v .1) ∙ mul-right-comm C (down d) (down e) in
-    le-of-mul-le-mul-right (le-trans (le-of-eq (mul-right-comm (m * up e) D (down d))) (le-trans (mul-le-mul-right D l) (le-of-eq q))) (down-pos d)
-
-up-to-one : (C : ℕ) (x : Float) → UpTo C 1 x → AtMost C x
-up-to-one C (fin s m e) v = le-trans (le-of-eq (sym (mul-one (m * up e)))) v
+    let q : n * up d * down e ≡ C * down e * down d = ap (λ (z : ℕ). z * down e) (sym (mul-one (n * up d)) ∙ v .1) ∙ mul-right-comm C (down d) (down e) in
+    le-of-mul-le-mul-right (le-trans l (le-of-eq q)) (down-pos d)
 
 module _ (f : Format) (C : ℕ) (exact : HasValue (round f false C 1) false C 1) where
   above-zero : (n d : ℕ) → 0 < d → n ≤ C * d → AtMost C (round f false n d)
-  above-zero n d p h = up-to-one C (round f false n d) (under C 1 (round f false n d) (round f false C 1) (plus-round f n d) exact (round-mono f n d C 1 p (zero-lt-suc 0) (rw (mul-one n) h)))
+  above-zero n d p h = under C (round f false n d) (round f false C 1) (plus-round f n d) exact (round-mono f n d C 1 p (zero-lt-suc 0) (rw (mul-one n) h))
 
   pub round-small : (s : Bool) (n d : ℕ) → 0 < d → n ≤ C * d → AtMost C (round f s n d)
   round-small false n d p h = above-zero n d p h

@@ -1,56 +1,25 @@
 -- Sums of whole numbers as floats are exact, and a sum in the range where a format holds whole numbers only is one next to the true sum. Assumes nothing.
 use mathlib.Core.Path.{_≡_, refl, sym, ap, _∙_, subst}
-use mathlib.Core.Bool.{Bool, true, false, cond, _&&_}
+use mathlib.Core.Bool.{Bool, true, false, cond}
 use Prim.Native.Nat.{ℕ, zero, suc, _+_, _-_, _*_, _/_, _%_, _^_, _≤_, _<_, compare, Ordering·lt, compare·zero-suc}
-use native.Mathlib.Nat.{le-trans, lt-of-lt-of-le, lt-of-le-of-lt, lt-of-not-le, not-le-of-lt, le-of-eq, lt-irrefl, mul-one, mul-comm, mul-assoc, mul-right-comm, mul-sub, add-mul, suc-mul, mul-pos, zero-lt-suc, mul-lt-mul-of-pos-right, mul-le-mul-right, le-div-iff-mul-le, div-lt-iff-lt-mul, div-add-mod', lt-div-mul-add, eq-of-mul-eq-mul-right, pos-of-ne-zero}
+use native.Mathlib.Nat.{le-trans, lt-of-lt-of-le, lt-of-le-of-lt, lt-of-not-le, not-le-of-lt, le-of-eq, lt-irrefl, mul-one, mul-assoc, mul-right-comm, suc-mul, mul-pos, zero-lt-suc, mul-lt-mul-of-pos-right, mul-le-mul-right, le-div-iff-mul-le, div-lt-iff-lt-mul, div-add-mod', lt-div-mul-add, eq-of-mul-eq-mul-right, pos-of-ne-zero}
 use native.Mathlib.Omega.{arith}
 use lib.Dec.{ltb, eqb, lit<}
 use lib.IntN.{ℤ, pos, negsuc, natAbs, _+ℤ_}
 use lib.Pow.{pow-add, pow-pos, pow-mono, pow-lt}
 use lib.Ieee.{Float, fin, Format, binary32, binary64, prec, emax, low, up, down, size, units, round, sum, add, ofInt}
 use lib.Ieee.Digits.{size-lt, size-le}
-use lib.Ieee.Fits.{down-pos, nearest-le, round-is, round-fits, two}
+use lib.Ieee.Fits.{nearest-le, round-is, round-fits, two}
 use lib.Ieee.Exact.{HasValue, units-val}
 use lib.Ieee.Nearest.{closest, closest-same, nearest-ge}
-use lib.Ieee.Scale.{round-same}
 use lib.Ieee.Back.{round-whole, whole-unique}
-use borrow.Author.Tests.{ltb-true, ltb-false, lt-ltb, le-ltb, eqb-true, eqb-false}
+use borrow.Author.Tests.{ltb-true, ltb-false, le-ltb, eqb-true, eqb-false}
 use Rattle.rounding.proofs.Quotients.{Next}
-
--- ---- a sum of fractions over one denominator that cancels
-ltb-scaled : (a b c : ℕ) → 0 < c → ltb (a * c) (b * c) ≡ ltb a b
-ltb-scaled a b c p = go (ltb a b) refl
-  where
-    go : (t : Bool) → ltb a b ≡ t → ltb (a * c) (b * c) ≡ t
-    go true h = lt-ltb (a * c) (b * c) (mul-lt-mul-of-pos-right (ltb-true a b h) p)
-    go false h = le-ltb (a * c) (b * c) (mul-le-mul-right c (ltb-false a b h))
-
-minus-scaled : (a b c : ℕ) → a * c - b * c ≡ (a - b) * c
-minus-scaled a b c = rw (mul-comm a c, mul-comm b c, mul-comm (a - b) c) (sym (mul-sub c a b))
-
-round-scaled : (f : Format) (s : Bool) (n k c : ℕ) → 0 < c → n ≡ k * c → round f s n c ≡ round f s k 1
-round-scaled f s n k c p h = round-same f s n c k 1 p (zero-lt-suc 0) (mul-one n ∙ h)
-
-sum-scaled : (f : Format) (s t : Bool) (a b c : ℕ) → 0 < c → sum f s (a * c) t (b * c) c ≡ sum f s a t b 1
-unfolding sum
-sum-scaled f s t a b c p =
-    rw (
-      ltb-scaled a b c p,
-      ltb-scaled b a c p,
-      round-scaled f s (a * c + b * c) (a + b) c p (sym (add-mul a b c)),
-      round-scaled f t (b * c - a * c) (b - a) c p (minus-scaled b a c),
-      round-scaled f (s && ltb b a) (a * c - b * c) (a - b) c p (minus-scaled a b c),
-    )
-
-over-both : (x e g a : ℕ) → x * 1 ≡ a * e → x * g ≡ a * (e * g)
-over-both x e g a h = ap (λ (z : ℕ). z * g) (sym (mul-one x) ∙ h) ∙ mul-assoc a e g
+use Rattle.rounding.proofs.Values.{add-value}
 
 -- ±a + ±b, for floats of these values
 pub add-whole : (f : Format) (x y : Float) (s t : Bool) (a b : ℕ) → HasValue x s a 1 → HasValue y t b 1 → add f x y ≡ sum f s a t b 1
-unfolding add
-add-whole f (fin u m e) (fin v n g) s t a b p q =
-    rw (p .0, q .0, over-both (m * up e) (down e) (down g) a (p .1), over-both (n * up g) (down g) (down e) b (q .1), mul-comm (down g) (down e))
-    (sum-scaled f s t a b (down e * down g) (mul-pos (down-pos e) (down-pos g)))
+add-whole f x y s t a b p q = add-value f x y s t a b 1 (zero-lt-suc 0) p q
 
 -- b - a, for an a that is not above b
 difference : (f : Format) (a b : ℕ) → a ≤ b → cond (ltb a b) (round f false (b - a) 1) (round f false (a - b) 1) ≡ round f false (b - a) 1

@@ -16,7 +16,8 @@ use lib.Ieee.Scale.{grid, finite, round-val, round-under, grid-scale, normal-of-
 use Rattle.rounding.specs.Integral.{halves}
 use Rattle.rounding.specs.Within.{wholeOf, AtMost}
 use Rattle.rounding.proofs.Small.{Plus}
-use Rattle.real.proofs.Sizes.{div-round, plus-div, small-quotient}
+use Rattle.rounding.proofs.Values.{div-round}
+use Rattle.real.proofs.Sizes.{plus-div, small-quotient}
 use Rattle.segmented.specs.Axes.{mostValues}
 use Rattle.segmented.specs.Segments.{shared}
 use Rattle.segmented.proofs.Margin.{quotient, int-plus, no-share}
