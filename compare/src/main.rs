@@ -1,6 +1,7 @@
 //! Runs plotters and culvraod side by side: `compare`, `bench` or `vectors`; `lines` and `rule` are for the ruler program.
 //!
-//! Each family of calls has a module with an entry of each name; a new family is added below.
+//! Each family of calls has a module with an entry of each name; a new family is added below. `compare`
+//! and `bench` take one family's name, to run that alone.
 
 mod counts;
 mod labels;
@@ -39,38 +40,52 @@ mod timing;
 use std::env;
 use std::process::ExitCode;
 
+/// A family of calls: its name, what compares it, and what times it.
+#[cfg(feature = "library")]
+type Family = (&'static str, fn() -> bool, fn());
+
+#[cfg(feature = "library")]
+macro_rules! family {
+    ($name:ident) => {
+        (stringify!($name), $name::compare, $name::bench)
+    };
+}
+
+#[cfg(feature = "library")]
+const FAMILIES: &[Family] = &[
+    family!(numeric),
+    family!(places),
+    family!(counts),
+    family!(readings),
+    family!(real_marks),
+    family!(rulers),
+    family!(search),
+    family!(linspace),
+    family!(labels),
+    family!(segmented),
+];
+
+/// The families, or the one that is named behind `compare` or `bench`.
+#[cfg(feature = "library")]
+fn families() -> impl Iterator<Item = &'static Family> {
+    let only = env::args().nth(2);
+    FAMILIES
+        .iter()
+        .filter(move |(name, ..)| only.as_deref().is_none_or(|only| only == *name))
+}
+
 /// Runs every family against plotters; true if nothing differs.
 #[cfg(feature = "library")]
 fn compare() -> bool {
-    let agrees = [
-        numeric::compare(),
-        places::compare(),
-        counts::compare(),
-        readings::compare(),
-        real_marks::compare(),
-        rulers::compare(),
-        search::compare(),
-        linspace::compare(),
-        labels::compare(),
-        segmented::compare(),
-    ];
-    agrees.iter().all(|&agrees| agrees)
+    let agrees: Vec<bool> = families().map(|(_, compare, _)| compare()).collect();
+    !agrees.is_empty() && agrees.iter().all(|&agrees| agrees)
 }
 
 /// Times every family beside plotters.
 #[cfg(feature = "library")]
 fn bench() -> bool {
     println!("{}", timing::HEADING);
-    numeric::bench();
-    places::bench();
-    counts::bench();
-    readings::bench();
-    real_marks::bench();
-    rulers::bench();
-    search::bench();
-    linspace::bench();
-    labels::bench();
-    segmented::bench();
+    families().for_each(|(_, _, bench)| bench());
     true
 }
 
