@@ -5,8 +5,8 @@
  * Every call returns an int32_t:
  *    0   answered: the answer stands where the pointers point;
  *   -1   none: there is no such value (only calls that say so);
- *   1..  refused: of the numbers that apply the first of 1 to 12, 17, 13 to 16,
- *        in this order.
+ *   1..  refused: of the numbers that apply the first of 1, 2, 18, 3 to 10, 19,
+ *        11, 12, 17, 13 to 16, in this order.
  *
  * Memory:
  *   - A list is a pointer and its length in entries. The pointer is valid even
@@ -57,7 +57,8 @@ enum {
     CULV_UNKNOWN_TWIST = 15,      /* the twist is neither 0 nor 1 */
     CULV_TWIST_LOST = 16,         /* a Z ruler is to move back */
     CULV_REAL_AXIS_NOT_MARKED = 17, /* the real axis, or its mark limit, has no marks */
-    CULV_NOT_ON_AXIS = 18         /* the needle lies off its axis, or the axis has no length */
+    CULV_NOT_ON_AXIS = 18,        /* the needle lies off its axis, or the axis has no length */
+    CULV_BELOW_I32 = 19           /* the value is below -2147483647 */
 };
 
 /* The most marks that culv_real_key_points gives: a list of so many always
@@ -237,6 +238,32 @@ int32_t culv_whole_from_index(int32_t a, int32_t b, uint64_t k, int32_t *v);
  */
 int32_t culv_whole_unmap(int32_t a, int32_t b, int32_t x, int32_t p, int32_t q,
                          int32_t *v);
+
+/*
+ * The value of the whole axis from a to b, by the way it runs, at the pixel x
+ * of a film from p to q.
+ *
+ * If a is at most b, this is culv_whole_unmap, number for number. If b is below
+ * a, the axis has the a - b + 1 values from a down to b; the index is that of
+ * culv_whole_unmap for so many values, and the value is a minus the index, also
+ * where that is below b.
+ *
+ * Where a is not b and p is not q, the mirrored axis (a, b, x, p and q negated)
+ * has the negated value, or none where there is none, or 19 for 10 and 10 for
+ * 19, or the same other refusal.
+ *
+ * 0: *v is the value.
+ * None: the index is above 2147483647, or there is none.
+ * Refused:
+ *    1: a or b is not admitted;
+ *    2: x, p or q is not admitted;
+ *   10: the index is at most 2147483647, but a plus the index is above it (a at
+ *       most b);
+ *   19: the index is at most 2147483647, but a minus the index is below
+ *       -2147483647 (b below a).
+ */
+int32_t culv_whole_unmap_directed(int32_t a, int32_t b, int32_t x,
+                                  int32_t p, int32_t q, int32_t *v);
 
 /*
  * The value of the real axis from a to b at the pixel x of a film from p to q:

@@ -152,6 +152,25 @@ static void whole_unmap(void)
     settle(code, wanted);
 }
 
+static void whole_unmap_directed(void)
+{
+    int32_t a, b, p, q;
+    draw_whole_ends(&a, &b);
+    draw_film(&p, &q);
+    int32_t x = draw_pixel("x"), *v = RESULT(int32_t);
+    int32_t code = CALLED(culv_whole_unmap_directed(a, b, x, p, q, v));
+    int32_t wanted = lower(WHOLES(a, b), FILMS(x, p, q));
+    if (wanted == 0) {
+        /* an axis that descends is that of the negated values, upward */
+        int falls = b < a;
+        int64_t k = model_index(falls ? model_count(b, a) : model_count(a, b), x, p, q);
+        int32_t value = model_value(falls ? -a : a, (uint64_t)k);
+        wanted = falls && value == 10 ? 19 : value;
+        demand(code != ANSWERED || *v == (falls ? a - k : a + k), "another value than the rule's");
+    }
+    settle(code, wanted);
+}
+
 static void real_unmap(void)
 {
     double a, b, *v = RESULT(double);
@@ -246,7 +265,7 @@ static void seg_whole_key_points(void)
 
 const struct call AXIS_CALLS[AXIS_COUNT] = {
     CALL(whole_key_points), CALL(index_key_points), CALL(whole_map), CALL(whole_map_exact), CALL(real_map), CALL(whole_size),
-    CALL(whole_index_of), CALL(whole_from_index), CALL(whole_unmap), CALL(real_unmap),
+    CALL(whole_index_of), CALL(whole_from_index), CALL(whole_unmap), CALL(whole_unmap_directed), CALL(real_unmap),
     CALL(seg_whole_size), CALL(seg_whole_map), CALL(seg_whole_index_of), CALL(seg_whole_from_index),
     CALL(seg_whole_unmap), CALL(seg_whole_key_points), CALL(real_key_points),
 };

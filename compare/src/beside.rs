@@ -136,15 +136,20 @@ pub trait Mirrored: Library + Cases {
     /// Whether both give the same number, and not one that is the other negated.
     const SAME: bool = false;
 
-    /// The mirrored input, if the type can hold it.
+    /// The mirrored input, if the type can hold it and the theorem covers it.
     fn mirror(self) -> Option<Self>;
+
+    /// What the mirrored input gives where this is no number.
+    fn across(told: Told) -> Told {
+        told
+    }
 }
 
 fn check_mirror<C: Mirrored>(call: C, mirror: C) -> Result<(), String> {
     let (one, other) = (told(call.safe()), told(mirror.safe()));
     let holds = match (one, other) {
         (Told::Given(one), Told::Given(other)) if !C::SAME => one.mirrors(other),
-        _ => one == other,
+        _ => C::across(one) == other,
     };
     ensure(holds, || format!("{one}, mirror {other}"))
 }

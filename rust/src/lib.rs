@@ -71,6 +71,7 @@
 //! | 16 | [`TwistLost`](Refusal::TwistLost) | a ruler with the twist Z is to move back |
 //! | 17 | [`RealAxisNotMarked`](Refusal::RealAxisNotMarked) | marks of a real axis with an end that is NaN or beyond ±1,000,000, with ends that differ by less than 0.001 yet not by less than `f64::EPSILON`, or for a mark limit above 1,000 |
 //! | 18 | [`NotOnAxis`](Refusal::NotOnAxis) | the exact place of a needle off its axis, or on an axis with equal ends, is asked for |
+//! | 19 | [`BelowI32`](Refusal::BelowI32) | the value at an index is below −2,147,483,647 |
 //!
 //! # C functions
 //!

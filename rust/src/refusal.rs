@@ -18,7 +18,7 @@ macro_rules! refusals {
         use Refusal::*;
 
         /// Every refusal, in the order of their numbers.
-        const ALL: [Refusal; 18] = [$($name),*];
+        const ALL: [Refusal; 19] = [$($name),*];
 
         impl Refusal {
             fn text(self) -> &'static str {
@@ -31,7 +31,8 @@ macro_rules! refusals {
 }
 
 refusals! {
-    /// Why a call stopped. Of several reasons it is the first in the order 1 to 12, 17, 13 to 16.
+    /// Why a call stopped. Of several reasons it is the first in the order 1, 2, 18, 3 to 10, 19, 11, 12, 17, 13
+    /// to 16.
     ///
     /// The [crate's page](crate#refusals) has a table of the numbers and of when each is met.
     ///
@@ -61,6 +62,7 @@ refusals! {
     16 TwistLost "the ruler has the twist Z, which its old kind cannot tell";
     17 RealAxisNotMarked "the real axis, or its mark limit, has no marks";
     18 NotOnAxis "the needle lies off its axis, or the axis has no length";
+    19 BelowI32 "the value at the index is below -2147483647";
 }
 
 impl Refusal {
@@ -135,8 +137,8 @@ mod tests {
     use super::*;
 
     #[test]
-    fn numbers_are_1_to_18_in_order() {
-        assert!(ALL.iter().map(|refusal| refusal.number()).eq(1..=18));
+    fn numbers_are_1_to_19_in_order() {
+        assert!(ALL.iter().map(|refusal| refusal.number()).eq(1..=19));
         assert_eq!(Refusal::from_number(13), Some(OutTooShort));
         assert_eq!(answered("call", 0, 7), Ok(7));
         assert_eq!(answered("call", 14, 7), Err(NotARuler));

@@ -4,7 +4,8 @@ use super::{FromIndex, IndexOf, Size};
 use crate::admitted;
 use crate::call::Answer;
 
-const LAST: i128 = 2_147_483_647;
+/// The largest i32.
+pub const LAST: i128 = 2_147_483_647;
 
 pub fn size(Size { a, b }: Size) -> Answer<u64> {
     admitted::whole([a, b])?;

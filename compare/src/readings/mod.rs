@@ -4,6 +4,8 @@ pub mod cases;
 pub mod rule;
 
 #[cfg(feature = "library")]
+mod directed;
+#[cfg(feature = "library")]
 mod library;
 
 use plotters::coord::ranged1d::ReversibleRanged;

@@ -19,6 +19,7 @@ lowest-first = record {
   key-points = λ admitted a b m new old. tt;
   from-index = λ a b k. tt;
   unmap = λ a b x limit. tt;
+  unmap-directed = λ a b x limit. tt;
   whole-map = λ a b v limit. tt;
   map-exact = λ a b v limit. tt;
   real-map = λ a b v limit. tt;

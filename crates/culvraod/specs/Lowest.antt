@@ -13,6 +13,7 @@ use Rattle.keypoints.specs.Marks.{realKeyPointsReasons}
 use Rattle.real.specs.Place.{realPlaceReasons, wholePlaceReasons}
 use Rattle.real.specs.Exact.{exactReasons}
 use Rattle.numeric.specs.Whole.{fromIndexReasons, readingReasons}
+use Rattle.numeric.specs.Directed.{directedReasons}
 use Rattle.numeric.specs.Calls.{keyPointsReasons, planReasons}
 use Rattle.search.specs.declared.RoundingMethod.{RoundingMethod}
 use Rattle.search.specs.Lists.{wholeSearchReasons, realSearchReasons}
@@ -51,6 +52,7 @@ pub record LowestFirst : Type 1 where
   pub key-points : {A : Type 0} (admitted : Bool) (a b : ℤ) (m : ℕ) (new old : List A) → Rising (keyPointsReasons admitted a b m new old)
   pub from-index : (a b : ℤ) (k : ℕ) → Rising (fromIndexReasons a b k)
   pub unmap : (a b x : ℤ) (limit : Limit) → Rising (readingReasons a b x limit)
+  pub unmap-directed : (a b x : ℤ) (limit : Limit) → Rising (directedReasons a b x limit)
   pub whole-map : (a b v : ℤ) (limit : Limit) → Rising (wholePlaceReasons a b v limit)
   pub map-exact : (a b v : ℤ) (limit : Limit) → Rising (exactReasons a b v limit)
   pub real-map : (a b v : Float) (limit : Limit) → Rising (realPlaceReasons a b v limit)

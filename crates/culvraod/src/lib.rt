@@ -8,6 +8,7 @@ ghost use Rattle.ranged1d.specs.Listed.{tellListed};
 ghost use Rattle.ranged1d.specs.Admitted.{limitOf};
 ghost use Rattle.discrete.specs.Index.{tellIndex};
 ghost use Rattle.numeric.specs.Calls.{tellMarks, wholeKeyPoints, indexKeyPoints};
+ghost use Rattle.numeric.specs.Directed.{wholeDirected};
 ghost use Rattle.numeric.specs.Whole.{tellCount, tellValue, wholeSize, wholeIndexOf, wholeFromIndex, wholeReading};
 ghost use Rattle.real.specs.Place.{tellPlace, wholePlace, realPlace};
 ghost use Rattle.real.specs.Exact.{wholeExact};
@@ -265,6 +266,20 @@ pub extern "C" fn culv_whole_unmap(a: i32, b: i32, x: i32, p: i32, q: i32, v: &m
     ensures { λ r. ⌜ (r, now (v .exit)) ≡ single (wholeReading a b x (limitOf p q)) (now (v .entry)) ⌝ }
 {
     give_value(RangedCoordi32(a, b).unmap(x, Limit(p, q)), v)
+}
+
+#[no_mangle]
+pub extern "C" fn culv_whole_unmap_directed(
+    a: i32,
+    b: i32,
+    x: i32,
+    p: i32,
+    q: i32,
+    v: &mut i32,
+) -> i32
+    ensures { λ r. ⌜ (r, now (v .exit)) ≡ single (wholeDirected a b x (limitOf p q)) (now (v .entry)) ⌝ }
+{
+    give_value(RangedCoordi32(a, b).unmap_directed(x, Limit(p, q)), v)
 }
 
 #[no_mangle]

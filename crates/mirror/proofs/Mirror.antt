@@ -18,6 +18,7 @@ use Rattle.numeric.specs.Marks.{noStep, stepOf, marks, marksBy}
 use Rattle.numeric.specs.Calls.{planReasons, keyPointsReasons, wholeKeyPoints}
 use Rattle.numeric.specs.Mirror.{stepOnly}
 use Rattle.numeric.proofs.Mirror as marks-mirror
+use Rattle.numeric.proofs.Directed.{directed}
 use Rattle.search.specs.Mirror.{end}
 use Rattle.search.proofs.Mirror as searches
 use Rattle.linspace.specs.List.{Kind, whole, real, stepped}
@@ -173,6 +174,7 @@ demand-three =
       exact-places = λ a b v limit. exact limit .mirror a b v;
       real-places = λ a b v limit. places.mirror limit .real-places a b v;
       real-readings = λ a b x limit. places.mirror limit .readings a b x;
+      directed-readings = directed .mirror;
       whole-searches = searches.mirror .whole-searches;
       real-searches = searches.mirror .real-searches;
       whole-steps = whole-steps;

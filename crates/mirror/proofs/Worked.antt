@@ -25,6 +25,8 @@ use Rattle.ruler.specs.declared.Twist.the-variants.{Plain, S, Z}
 use Rattle.ruler.specs.declared.Form.{Form}
 use Rattle.numeric.specs.Marks.{high, stepAt, firstOf, chosen, noStepFor, stepFor, marksFor, insideFor, stepOf}
 use Rattle.numeric.specs.Calls.{wholeKeyPoints}
+use Rattle.numeric.specs.Directed.{directedValue, wholeDirected, negatedReading}
+use Rattle.discrete.specs.Index.{floorDiv, noIndex, indexBy}
 use Rattle.numeric.specs.Mirror.{nearestZero, Divides, OneMore, stepOnly}
 use Rattle.numeric.proofs.Mirror.{cut-next}
 use Rattle.search.specs.Lists.{searchable, wholeSearch}
@@ -80,6 +82,31 @@ SearchesKept = (l : List ℤ) (t : ℤ) (method : RoundingMethod) → wholeSearc
 pub searches-not-kept : SearchesKept → ⊥
 unfolding wholeSearch searchable
 searches-not-kept h = not-none (sym (h (pos 0 ∷ []) (pos 1) Ceil))
+
+-- ---- wrong of readings by the way an axis runs: refusals that stay, 10 on both sides; equal ends, 0..0, on which both sides count upward; limits that
+-- meet, where the pixel above them has no value and the one below them has
+abbrev RefusalsKept : Type 0
+RefusalsKept = (a b x : ℤ) (limit : Limit) → (a ≡ b → ⊥) → (limit .0 ≡ limit .1 → ⊥) → wholeDirected (negℤ a) (negℤ b) (negℤ x) (film.mirrored limit) ≡ film.negated (wholeDirected a b x limit)
+
+pub refusals-not-kept : RefusalsKept → ⊥
+unfolding wholeDirected directedValue noIndex indexBy floorDiv
+refusals-not-kept h =
+    let e = h (pos 500_000_000) (pos 1_000_000_000) (pos 4) (limitOf (pos 0) (pos 1)) (λ e. let z : _≡_ {A = ℕ} 500_000_000 1_000_000_000 = cc in omega (arith, z)) (λ e. let z : _≡_ {A = ℕ} 0 1 = cc in omega (arith, z)) in
+    let z : _≡_ {A = ℕ} 19 10 = cc in omega (arith, z)
+
+abbrev DirectedBy : (ℤ → ℤ → Type 0) → (Limit → Type 0) → Type 0
+DirectedBy ends limits =
+    (a b x : ℤ) (limit : Limit) → ends a b → limits limit → wholeDirected (negℤ a) (negℤ b) (negℤ x) (film.mirrored limit) ≡ negatedReading (wholeDirected a b x limit)
+
+pub ends-not-alike : DirectedBy (λ a b. Unit {0}) (λ l. l .0 ≡ l .1 → ⊥) → ⊥
+unfolding wholeDirected directedValue noIndex indexBy floorDiv
+ends-not-alike h =
+    let e = h (pos 0) (pos 0) (pos 1) (limitOf (pos 0) (pos 1)) tt (λ e. let z : _≡_ {A = ℕ} 0 1 = cc in omega (arith, z)) in
+    let z : _≡_ {A = ℕ} 0 1 = cc in omega (arith, z)
+
+pub limits-not-alike : DirectedBy (λ a b. a ≡ b → ⊥) (λ l. Unit {0}) → ⊥
+unfolding wholeDirected directedValue noIndex indexBy floorDiv
+limits-not-alike h = not-none (sym (h (pos 0) (pos 1) (pos 1) (limitOf (pos 0) (pos 0)) (λ e. let z : _≡_ {A = ℕ} 0 1 = cc in omega (arith, z)) tt))
 
 -- ---- wrong: no mark more. −3..−1 with m 1 has the step 10 and the mark 0, and 1..3 has none.
 abbrev AlwaysMirrored : Type 0

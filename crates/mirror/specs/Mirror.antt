@@ -20,6 +20,7 @@ use Rattle.real.specs.Mirror.{negated, Opposite}
 use Rattle.numeric.specs.declared.Choice.{Choice}
 use Rattle.numeric.specs.Marks.{low, high, stepOf, marks}
 use Rattle.numeric.specs.Calls.{planReasons, wholeKeyPoints}
+use Rattle.numeric.specs.Directed.{wholeDirected, negatedReading}
 use Rattle.numeric.specs.Mirror.{mirrored, nearestZero, Divides, OneMore, stepOnly}
 use Rattle.search.specs.Lists.{wholeSearch, realSearch}
 use Rattle.search.specs.Mirror.{turned}
@@ -175,6 +176,9 @@ pub record DemandThree : Type 0 where
   pub real-places : (a b v : Float) (limit : Limit) → realPlace (neg a) (neg b) (neg v) (film.mirrored limit) ≡ negated (realPlace a b v limit)
   -- It negates real readings, or both sides give none or the same refusal. Zeros of either sign are equal, and a NaN equals a NaN.
   pub real-readings : (a b : Float) (x : ℤ) (limit : Limit) → Opposite (realReading (neg a) (neg b) (negℤ x) (film.mirrored limit)) (realReading a b x limit)
+  -- 02 (g): with ends that differ and limits that differ, the reading of a whole axis by the way it runs is the opposite one at the negated pixel.
+  pub directed-readings : (a b x : ℤ) (limit : Limit) → (a ≡ b → ⊥) → (limit .0 ≡ limit .1 → ⊥)
+      → wholeDirected (negℤ a) (negℤ b) (negℤ x) (film.mirrored limit) ≡ negatedReading (wholeDirected a b x limit)
   -- A search of a lent list and its mirror, every entry and the target negated, the entries in the same order, up and down exchanged, give the same
   -- index, or both none, or the same refusal.
   pub whole-searches : (l : List ℤ) (t : ℤ) (method : RoundingMethod) → wholeSearch (map negℤ l) (negℤ t) (turned method) ≡ wholeSearch l t method

@@ -14,6 +14,7 @@ pub mod Near
 pub mod Places
 pub mod Theorems
 pub mod Readings
+pub mod Directed
 pub mod WorkedReadings
 pub mod Discrete
 pub mod OnAxis

@@ -4,4 +4,5 @@ pub mod Mirror
 pub mod OnAxis
 pub mod Worked
 pub mod Whole
+pub mod Directed
 pub mod WorkedReadings

@@ -4,11 +4,13 @@ ghost use mathlib.Core.Path.{_≡_};
 ghost use mathlib.Core.Bool.{true};
 ghost use Prim.Native.Nat.{_*_, _/_, _%_, _≤_, _<_};
 ghost use lib.IntN.{natAbs, _-ℤ_};
+ghost use lib.Signed.{ltZ};
 ghost use Rattle.ranged1d.specs.Answer.{given};
 ghost use Rattle.ranged1d.specs.Admitted.{wholeAdmitted, limitAdmitted};
 ghost use Rattle.discrete.specs.Index.{tellIndex};
 ghost use Rattle.real.specs.Place.{tellPlace, wholeSpot, wholePlace};
 ghost use Rattle.real.specs.Exact.{tellExact, wholeExact};
+ghost use Rattle.numeric.specs.Directed.{directedFrom, wholeDirected};
 ghost use Rattle.numeric.specs.Whole.{endsAdmitted, tellCount, tellValue, wholeSize, wholeIndexOf, wholeFromIndex, wholeReading, countOf, valueFrom};
 use crate::RangedCoordi32;
 use crate::span;
@@ -87,6 +89,23 @@ impl RangedCoordi32 {
         let v = (a as i64) + (k as i64);
         if 2147483647 < v {
             return Value::Refused(Refusal::AboveI32);
+        }
+        Value::At(v as i32)
+    }
+
+    // The value at index i of an axis that descends: i below a. An i64 has room for the difference, an i32 has not.
+    fn value_below(self, i: u64) -> Value
+        requires { ⌜ endsAdmitted (self .0) (self .1) ≡ true ⌝ }
+        requires { ⌜ ltZ (self .1) (self .0) ≡ true ⌝ }
+        ensures { λ r. ⌜ tellValue r ≡ directedFrom (self .0) (self .1) i ⌝ }
+    {
+        if 2147483647 < i {
+            return Value::Nothing;
+        }
+        let from = self.0;
+        let v = (from as i64) - (i as i64);
+        if v < -2147483647 {
+            return Value::Refused(Refusal::BelowI32);
         }
         Value::At(v as i32)
     }
@@ -204,6 +223,26 @@ impl RangedCoordi32 {
             Index::Refused(r) => Value::Refused(r),
             Index::Nothing => Value::Nothing,
             Index::At(k) => self.value_at(k),
+        }
+    }
+
+    // The value that pixel x is read as on the axis as it runs: as `unmap` has it where the axis does not descend; where it does, among
+    // the values from a down to b, at most 2,000,000,001.
+    pub fn unmap_directed(self, x: i32, limit: Limit) -> Value
+        ensures { λ r. ⌜ tellValue r ≡ wholeDirected (self .0) (self .1) x limit ⌝ }
+    {
+        let a = self.0;
+        let b = self.1;
+        if a <= b {
+            return self.unmap(x, limit);
+        }
+        if !self.admitted() {
+            return Value::Refused(Refusal::WholeNotAdmitted);
+        }
+        match discrete::pixel_index(x, limit, apart(a, b) + 1) {
+            Index::Refused(r) => Value::Refused(r),
+            Index::Nothing => Value::Nothing,
+            Index::At(k) => self.value_below(k),
         }
     }
 }

@@ -29,9 +29,9 @@ abbrev pub lowest : {A : Type 0} → List Reason → Answer A → Answer A
 lowest [] a = a
 lowest (r ∷ rs) a = cond (r .applies) (refused (r .number)) (lowest rs a)
 
--- The numbers of all refusals, the lowest first: 1 to 14 as 01 has them, then those of 02 (c), with that of 02 (e) behind 2 and that of 02 (d) before 13.
+-- The numbers of all refusals, the lowest first: 01's as they rise, and each of 02's at the place that 02 gives it among them.
 abbrev pub order : List ℕ
-order = 1 ∷ 2 ∷ 18 ∷ 3 ∷ 4 ∷ 5 ∷ 6 ∷ 7 ∷ 8 ∷ 9 ∷ 10 ∷ 11 ∷ 12 ∷ 17 ∷ 13 ∷ 14 ∷ 15 ∷ 16 ∷ []
+order = 1 ∷ 2 ∷ 18 ∷ 3 ∷ 4 ∷ 5 ∷ 6 ∷ 7 ∷ 8 ∷ 9 ∷ 10 ∷ 19 ∷ 11 ∷ 12 ∷ 17 ∷ 13 ∷ 14 ∷ 15 ∷ 16 ∷ []
 
 -- The place of a number in that order, counted from 1; 0 for a number that is not there.
 abbrev pub placeFrom : ℕ → List ℕ → ℕ → ℕ

@@ -1,7 +1,7 @@
 -- 01 "Why a call stops": the number of each refusal. Assumes nothing.
 use Prim.Native.Nat.{ℕ}
 use Rattle.ranged1d.specs.declared.Refusal.{Refusal}
-use Rattle.ranged1d.specs.declared.Refusal.the-variants.{WholeNotAdmitted, LimitNotAdmitted, NoStep, NoSegments, TooFar, StepAgainstAxis, ListTooLong, NotMonotone, NanTarget, AboveI32, NotPrintable, TooManyDecimals, OutTooShort, NotARuler, UnknownTwist, TwistLost, RealAxisNotMarked, NotOnAxis}
+use Rattle.ranged1d.specs.declared.Refusal.the-variants.{WholeNotAdmitted, LimitNotAdmitted, NoStep, NoSegments, TooFar, StepAgainstAxis, ListTooLong, NotMonotone, NanTarget, AboveI32, NotPrintable, TooManyDecimals, OutTooShort, NotARuler, UnknownTwist, TwistLost, RealAxisNotMarked, NotOnAxis, BelowI32}
 
 abbrev pub numberOf : Refusal → ℕ
 -- a whole end, value, step or list entry that is not admitted
@@ -40,3 +40,5 @@ numberOf TwistLost = 16
 numberOf RealAxisNotMarked = 17
 -- 02 (e): a needle off its axis, or on one without length
 numberOf NotOnAxis = 18
+-- 02 (g): a value below the negation of the largest i32
+numberOf BelowI32 = 19

@@ -31,6 +31,7 @@ pub enum Refusal {
     TwistLost,
     RealAxisNotMarked,
     NotOnAxis,
+    BelowI32,
 }
 
 // How many entries or marks were written to a lent list.
@@ -62,6 +63,7 @@ impl Refusal {
             Refusal::TwistLost => 16,
             Refusal::RealAxisNotMarked => 17,
             Refusal::NotOnAxis => 18,
+            Refusal::BelowI32 => 19,
         }
     }
 }

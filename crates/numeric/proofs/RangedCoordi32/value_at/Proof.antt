@@ -72,7 +72,7 @@ value-fits : (c : tie.Else2) → SFits w32 (a (c .before) +ℤ pos (k (c .before
 unfolding a k
 value-fits c =
     let at = c .before in
-    range32 (a at +ℤ pos (k at)) (not-too-low (a at) (k at) (a-near at)) (not-lt (pos 2147483647) (a at +ℤ pos (k at)) (rw (sum-is at) at (c .if2 .left)))
+    range32 (a at +ℤ pos (k at)) (not-too-low 2147483647 (a at) (k at) (omega (arith, a-near at))) (not-lt (pos 2147483647) (a at +ℤ pos (k at)) (rw (sum-is at) at (c .if2 .left)))
 
 cast-t9 : tie.Need-cast-t9
 unfolding a k
