@@ -6,7 +6,7 @@
  *    0   answered: the answer stands where the pointers point;
  *   -1   none: there is no such value (only calls that say so);
  *   1..  refused: of the numbers that apply the first of 1, 2, 18, 3 to 10, 19,
- *        11, 12, 17, 13 to 16, in this order.
+ *        11, 12, 17, 24, 25, 13 to 16, in this order.
  *
  * Memory:
  *   - A list is a pointer and its length in entries. The pointer is valid even
@@ -58,7 +58,9 @@ enum {
     CULV_TWIST_LOST = 16,         /* a Z ruler is to move back */
     CULV_REAL_AXIS_NOT_MARKED = 17, /* the real axis, or its mark limit, has no marks */
     CULV_NOT_ON_AXIS = 18,        /* the needle lies off its axis, or the axis has no length */
-    CULV_BELOW_I32 = 19           /* the value is below -2147483647 */
+    CULV_BELOW_I32 = 19,          /* the value is below -2147483647 */
+    CULV_TOO_MANY_DIGITS = 24,    /* more than 6 digits are to be decimals */
+    CULV_NOT_A_DECIMAL = 25       /* the text is printed of no admitted number */
 };
 
 /* The most marks that culv_real_key_points gives: a list of so many always
@@ -765,6 +767,38 @@ int32_t culv_ruler_pair(const uint8_t *left, size_t left_len,
  */
 int32_t culv_label(double n, uint32_t max_decimal, uint32_t min_decimal,
                    uint8_t *out, size_t len, size_t *written);
+
+/* ---- Whole numbers with decimals ---- */
+
+/* The most bytes that culv_decimal_print writes: so many always suffice. */
+#define CULV_DECIMAL_MAX 12
+
+/*
+ * The text of the whole number x, its last f digits taken as decimals: -5 with
+ * f = 2 is "-0.05". There are exactly f digits behind the point, and no point
+ * if f is 0; before it at least one digit and no needless zero; a minus sign
+ * only if x is below 0; no blanks, and no byte behind the text.
+ *
+ * 0: *written is the number of bytes, out[0] to out[*written - 1] are the text.
+ * Refused:
+ *    1: x is not admitted;
+ *   24: f is above 6;
+ *   13: len is less than the number of bytes.
+ */
+int32_t culv_decimal_print(int32_t x, uint32_t f, uint8_t *out, size_t len,
+                           size_t *written);
+
+/*
+ * The number whose text with f decimals this is: exactly the texts that
+ * culv_decimal_print writes for that f are read.
+ *
+ * 0: *x is the number.
+ * Refused:
+ *   24: f is above 6;
+ *   25: the text is none that culv_decimal_print writes with f decimals.
+ */
+int32_t culv_decimal_read(const uint8_t *text, size_t len, uint32_t f,
+                          int32_t *x);
 
 #ifdef __cplusplus
 }

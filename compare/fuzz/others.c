@@ -298,4 +298,5 @@ const struct call OTHER_CALLS[OTHER_COUNT] = {
     CALL(search_whole), CALL(search_real), CALL(ruler_write), CALL(ruler_write_inside),
     CALL(ruler_write_twisted), CALL(ruler_write_inside_twisted), CALL(ruler_read), CALL(ruler_read_kind),
     CALL(ruler_label), CALL(ruler_pair), CALL(ruler_upgrade), CALL(ruler_downgrade), CALL(label),
+    CALL(decimal_print), CALL(decimal_read),
 };

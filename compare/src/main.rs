@@ -27,6 +27,8 @@ mod written;
 #[cfg(feature = "library")]
 mod beside;
 #[cfg(feature = "library")]
+mod fixed;
+#[cfg(feature = "library")]
 mod lends;
 #[cfg(feature = "library")]
 mod lent;
@@ -63,6 +65,7 @@ const FAMILIES: &[Family] = &[
     family!(linspace),
     family!(labels),
     family!(segmented),
+    family!(fixed),
 ];
 
 /// The families, or the one that is named behind `compare` or `bench`.

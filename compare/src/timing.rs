@@ -114,6 +114,15 @@ pub fn report_batch(title: &str, n: u64, sides: [&mut dyn FnMut(); 3]) {
     );
 }
 
+/// Prints the times of two sides that make `n` calls whatever they are told: ours, and one that
+/// has this name.
+pub fn report_beside(title: &str, name: &str, n: u64, sides: [&mut dyn FnMut(); 2]) {
+    let [ours, other] = sides;
+    let [ours, other] = in_turns([n; 2], [&mut |_| ours(), &mut |_| other()]);
+    let ratio = ours / other;
+    println!("{title}: ours {ours:.1} ns, {name} {other:.1} ns, ratio {ratio:.2}");
+}
+
 /// Prints the time of one call.
 pub fn report_alone(title: &str, mut call: impl FnMut(u64)) {
     let n = enough(&mut call);

@@ -13,7 +13,8 @@
 //! | [`SegmentedCoord`] | the segments over a whole axis or one by a step |
 //! | [`FloatPrettyPrinter`] | the form of a label |
 //!
-//! Rulers are in [`ruler`], searches of any list in [`search`].
+//! Rulers are in [`ruler`], searches of any list in [`search`], whole
+//! numbers with decimals in [`fixed`].
 //!
 //! ```
 //! use culvraod::{ruler, Limit, RangedCoordi32, Refusal};
@@ -72,6 +73,8 @@
 //! | 17 | [`RealAxisNotMarked`](Refusal::RealAxisNotMarked) | marks of a real axis with an end that is NaN or beyond ±1,000,000, with ends that differ by less than 0.001 yet not by less than `f64::EPSILON`, or for a mark limit above 1,000 |
 //! | 18 | [`NotOnAxis`](Refusal::NotOnAxis) | the exact place of a needle off its axis, or on an axis with equal ends, is asked for |
 //! | 19 | [`BelowI32`](Refusal::BelowI32) | the value at an index is below −2,147,483,647 |
+//! | 24 | [`TooManyDigits`](Refusal::TooManyDigits) | more than 6 digits of a whole number are to be decimals |
+//! | 25 | [`NotADecimal`](Refusal::NotADecimal) | a text is printed of no admitted number with so many decimals |
 //!
 //! # C functions
 //!
@@ -83,6 +86,7 @@
 #![deny(missing_docs)]
 
 pub mod counts;
+pub mod fixed;
 pub mod label;
 mod limit;
 pub mod linspace;

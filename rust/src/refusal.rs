@@ -18,7 +18,7 @@ macro_rules! refusals {
         use Refusal::*;
 
         /// Every refusal, in the order of their numbers.
-        const ALL: [Refusal; 19] = [$($name),*];
+        const ALL: [Refusal; 21] = [$($name),*];
 
         impl Refusal {
             fn text(self) -> &'static str {
@@ -31,8 +31,8 @@ macro_rules! refusals {
 }
 
 refusals! {
-    /// Why a call stopped. Of several reasons it is the first in the order 1, 2, 18, 3 to 10, 19, 11, 12, 17, 13
-    /// to 16.
+    /// Why a call stopped. Of several reasons it is the first in the order 1, 2, 18, 3 to 10, 19, 11, 12, 17, 24,
+    /// 25, 13 to 16.
     ///
     /// The [crate's page](crate#refusals) has a table of the numbers and of when each is met.
     ///
@@ -63,6 +63,8 @@ refusals! {
     17 RealAxisNotMarked "the real axis, or its mark limit, has no marks";
     18 NotOnAxis "the needle lies off its axis, or the axis has no length";
     19 BelowI32 "the value at the index is below -2147483647";
+    24 TooManyDigits "more than 6 digits are to be decimals";
+    25 NotADecimal "the text is printed of no admitted number with so many decimals";
 }
 
 impl Refusal {
@@ -137,8 +139,9 @@ mod tests {
     use super::*;
 
     #[test]
-    fn numbers_are_1_to_19_in_order() {
-        assert!(ALL.iter().map(|refusal| refusal.number()).eq(1..=19));
+    fn numbers_are_in_order() {
+        let numbers = (1..=19).chain(24..=25);
+        assert!(ALL.iter().map(|refusal| refusal.number()).eq(numbers));
         assert_eq!(Refusal::from_number(13), Some(OutTooShort));
         assert_eq!(answered("call", 0, 7), Ok(7));
         assert_eq!(answered("call", 14, 7), Err(NotARuler));

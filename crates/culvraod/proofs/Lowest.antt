@@ -34,4 +34,6 @@ lowest-first = record {
   ruler-upgrade = λ l old. tt;
   ruler-downgrade = λ l old. tt;
   print = λ n h e old. tt;
+  decimal-print = λ x f old. tt;
+  decimal-read = λ s f. tt;
 }

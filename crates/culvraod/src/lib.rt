@@ -20,11 +20,14 @@ ghost use Rattle.culvraod.specs.Steps.{listC};
 ghost use Rattle.float.specs.Calls.{tellLabel, labelPrint};
 ghost use Rattle.search.specs.Lists.{wholeSearch, realSearch};
 ghost use Rattle.culvraod.specs.Search.{methodOf, byMethod};
+ghost use Rattle.fixed.specs.Fixed.{tellPrinted, tellNumber, fixedPrint, fixedRead};
 ghost use Rattle.ruler.specs.Rule.{tellWrote, tellMoved, rulerWrite, rulerWriteInside, twistedWrite, rulerUpgrade, rulerDowngrade, rulerOf, rulerRead, recordIn, labelIn, sideOf};
 ghost use Rattle.culvraod.specs.Ruler.{readC, readKindC, partC, pairC};
 ghost use Rattle.culvraod.specs.Boundary.{single, double};
 ghost use Rattle.culvraod.specs.Numeric.{marksC, keyPointsC};
 use discrete::Index;
+use fixed::Number;
+use fixed::Printed;
 use float::FloatPrettyPrinter;
 use float::Label;
 use linspace::Linspacef64;
@@ -164,6 +167,30 @@ fn give_label(x: Label, written: &mut usize) -> i32
             0
         }
         Label::Refused(r) => refused(r),
+    }
+}
+
+fn give_printed(x: Printed, written: &mut usize) -> i32
+    ensures { λ r. ⌜ (r, now (written .exit)) ≡ single (tellPrinted x) (now (written .entry)) ⌝ }
+{
+    match x {
+        Printed::Written(long) => {
+            *written = long;
+            0
+        }
+        Printed::Refused(r) => refused(r),
+    }
+}
+
+fn give_number(x: Number, z: &mut i32) -> i32
+    ensures { λ r. ⌜ (r, now (z .exit)) ≡ single (tellNumber x) (now (z .entry)) ⌝ }
+{
+    match x {
+        Number::Whole(n) => {
+            *z = n;
+            0
+        }
+        Number::Refused(r) => refused(r),
     }
 }
 
@@ -790,4 +817,18 @@ pub extern "C" fn culv_label(
         max_decimal,
     };
     give_label(printer.print(n, out), written)
+}
+
+#[no_mangle]
+pub extern "C" fn culv_decimal_print(x: i32, f: u32, out: &mut [u8], written: &mut usize) -> i32
+    ensures { λ r. ⌜ (r, now (out .exit), now (written .exit)) ≡ listC (fixedPrint x f (now (out .entry))) (now (written .entry)) ⌝ }
+{
+    give_printed(fixed::print(x, f, out), written)
+}
+
+#[no_mangle]
+pub extern "C" fn culv_decimal_read(text: &[u8], f: u32, x: &mut i32) -> i32
+    ensures { λ r. ⌜ (r, now (x .exit)) ≡ single (fixedRead (now (text .entry)) f) (now (x .entry)) ⌝ }
+{
+    give_number(fixed::read(text, f), x)
 }

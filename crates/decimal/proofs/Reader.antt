@@ -37,7 +37,7 @@ minus-fits (suc n) h = record { sfits = omega arith }
 
 -- ---- a text's own length
 -- digits begin with one, not with a minus sign
-digits-head : (f n : ℕ) → (0 < length (digits f n)) × (48 ≤ getD (digits f n) 0 0)
+pub digits-head : (f n : ℕ) → (0 < length (digits f n)) × (48 ≤ getD (digits f n) 0 0)
 digits-head =
     digits-by (λ n l. (0 < length l) × (48 ≤ getD l 0 0)) (λ n. (omega arith, omega arith))
     (λ n l h. (omega (arith, length-append l (digit (n % 10) ∷ [])), rw (List·getD-append l (digit (n % 10) ∷ []) 0 0 (h .0)) (h .1)))
@@ -83,12 +83,12 @@ value-plain [] f = refl
 value-plain (c ∷ cs) f = rw (ne-eqb c 45 f)
 
 -- ---- the value of what is printed
-value-append : (n : ℕ) (l k : List ℕ) → valueOf n (l ++ k) ≡ valueOf (valueOf n l) k
+pub value-append : (n : ℕ) (l k : List ℕ) → valueOf n (l ++ k) ≡ valueOf (valueOf n l) k
 unfolding valueOf
 value-append n [] k = refl
 value-append n (c ∷ cs) k = value-append (n * 10 + (c - 48)) cs k
 
-value-digits : (f n : ℕ) → valueOf 0 (digits f n) ≡ n
+pub value-digits : (f n : ℕ) → valueOf 0 (digits f n) ≡ n
 unfolding valueOf
 value-digits =
     digits-by (λ n l. valueOf 0 l ≡ n) (λ n. omega arith)

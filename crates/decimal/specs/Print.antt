@@ -9,12 +9,15 @@ use lib.ListN.{length, replicate}
 use Rattle.decimal.specs.declared.Text.{Text}
 use Rattle.decimal.specs.declared.LongText.{LongText}
 
--- a digit's byte; the bytes of a minus sign and of a blank
+-- a digit's byte; the bytes of a minus sign, of a decimal point and of a blank
 abbrev pub digit : ℕ → ℕ
 digit d = 48 + d
 
 abbrev pub minus : ℕ
 minus = 45
+
+abbrev pub point : ℕ
+point = 46
 
 abbrev pub blank : ℕ
 blank = 32

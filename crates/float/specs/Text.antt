@@ -12,6 +12,7 @@ use Rattle.rounding.specs.Integral.{floors, halves, floorOf}
 use Rattle.rounding.specs.Within.{wholeOf}
 use Rattle.ranged1d.specs.Numbers.{every}
 use Rattle.decimal.specs.Print.{digit, minus, longNatural, signedDigits, filledWith}
+pub use Rattle.decimal.specs.Print.{point}
 use Rattle.float.specs.declared.Shortened.{Shortened}
 use Rattle.float.specs.Shorten.{shorten, tolerance}
 
@@ -42,9 +43,6 @@ fillsUp x zero = false
 fillsUp x (suc p) = leb (10 ^ suc p) (decimalsOf x (suc p))
 
 -- ---- its bytes
-abbrev pub point : ℕ
-point = 46
-
 abbrev pub nought : ℕ
 nought = digit 0
 

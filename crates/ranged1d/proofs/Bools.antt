@@ -1,6 +1,10 @@
 -- What a test that is put together of two says of each, and what it is by one of them; what holds by either value of a test; whether two tests
--- differ. Assumes nothing.
+-- differ; the two cases of a test, and of the order of two numbers. Assumes nothing.
 use mathlib.Core.Path.{_≡_, refl, sym}
+use mathlib.Core.Logic.{_⊎_, inl, inr}
+use Prim.Native.Nat.{ℕ, _≤_, _<_}
+use borrow.Author.Tests.{leb-true, leb-false}
+use lib.Dec.{leb}
 use mathlib.Core.Bool.{Bool, true, false, cond, not, Bool·beq, true≢false, _&&_, _||_, or-true}
 
 pub both-true : (x y : Bool) → (x && y) ≡ true → (x ≡ true) × (y ≡ true)
@@ -36,3 +40,14 @@ alike true true h = refl
 alike true false h = absurd (true≢false h)
 alike false true h = absurd (true≢false h)
 alike false false h = refl
+
+pub yes-or : (t : Bool) → (t ≡ true) ⊎ (t ≡ false)
+yes-or true = inl refl
+yes-or false = inr refl
+
+pub le-or : (a b : ℕ) → (a ≤ b) ⊎ (b < a)
+le-or a b = go (leb a b) refl
+  where
+    go : (t : Bool) → leb a b ≡ t → (a ≤ b) ⊎ (b < a)
+    go true e = inl (leb-true a b e)
+    go false e = inr (leb-false a b e)

@@ -1,7 +1,7 @@
 -- 01 "Why a call stops": the number of each refusal. Assumes nothing.
 use Prim.Native.Nat.{ℕ}
 use Rattle.ranged1d.specs.declared.Refusal.{Refusal}
-use Rattle.ranged1d.specs.declared.Refusal.the-variants.{WholeNotAdmitted, LimitNotAdmitted, NoStep, NoSegments, TooFar, StepAgainstAxis, ListTooLong, NotMonotone, NanTarget, AboveI32, NotPrintable, TooManyDecimals, OutTooShort, NotARuler, UnknownTwist, TwistLost, RealAxisNotMarked, NotOnAxis, BelowI32}
+use Rattle.ranged1d.specs.declared.Refusal.the-variants.{WholeNotAdmitted, LimitNotAdmitted, NoStep, NoSegments, TooFar, StepAgainstAxis, ListTooLong, NotMonotone, NanTarget, AboveI32, NotPrintable, TooManyDecimals, OutTooShort, NotARuler, UnknownTwist, TwistLost, RealAxisNotMarked, NotOnAxis, BelowI32, TooManyDigits, NotADecimal}
 
 abbrev pub numberOf : Refusal → ℕ
 -- a whole end, value, step or list entry that is not admitted
@@ -42,3 +42,7 @@ numberOf RealAxisNotMarked = 17
 numberOf NotOnAxis = 18
 -- 02 (g): a value below the negation of the largest i32
 numberOf BelowI32 = 19
+-- 02 (k): more decimals than a printed pitch can have
+numberOf TooManyDigits = 24
+-- 02 (k): a text that is printed of no admitted number with so many decimals
+numberOf NotADecimal = 25

@@ -32,6 +32,8 @@ pub enum Refusal {
     RealAxisNotMarked,
     NotOnAxis,
     BelowI32,
+    TooManyDigits,
+    NotADecimal,
 }
 
 // How many entries or marks were written to a lent list.
@@ -64,6 +66,8 @@ impl Refusal {
             Refusal::RealAxisNotMarked => 17,
             Refusal::NotOnAxis => 18,
             Refusal::BelowI32 => 19,
+            Refusal::TooManyDigits => 24,
+            Refusal::NotADecimal => 25,
         }
     }
 }

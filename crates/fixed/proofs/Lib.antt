@@ -1,0 +1,5 @@
+pub mod Fractions
+pub mod Texts
+pub mod Calls
+pub mod Theorems
+pub mod Worked
