@@ -5,8 +5,8 @@
  * Every call returns an int32_t:
  *    0   answered: the answer stands where the pointers point;
  *   -1   none: there is no such value (only calls that say so);
- *   1..  refused: of the numbers that apply the first of 1, 2, 18, 3 to 10, 19,
- *        11, 12, 17, 24, 25, 13 to 16, in this order.
+ *   1..  refused: of the numbers that apply the first of 26, 27, 1, 2, 18, 3 to
+ *        10, 19, 11, 12, 17, 24, 25, 13 to 16, in this order.
  *
  * Memory:
  *   - A list is a pointer and its length in entries. The pointer is valid even
@@ -60,7 +60,9 @@ enum {
     CULV_NOT_ON_AXIS = 18,        /* the needle lies off its axis, or the axis has no length */
     CULV_BELOW_I32 = 19,          /* the value is below -2147483647 */
     CULV_TOO_MANY_DIGITS = 24,    /* more than 6 digits are to be decimals */
-    CULV_NOT_A_DECIMAL = 25       /* the text is printed of no admitted number */
+    CULV_NOT_A_DECIMAL = 25,      /* the text is printed of no admitted number */
+    CULV_BAD_WEEK = 26,           /* the windows are no running week */
+    CULV_BAD_MINUTE = 27          /* the clock minute is above 10079 */
 };
 
 /* The most marks that culv_real_key_points gives: a list of so many always
@@ -799,6 +801,44 @@ int32_t culv_decimal_print(int32_t x, uint32_t f, uint8_t *out, size_t len,
  */
 int32_t culv_decimal_read(const uint8_t *text, size_t len, uint32_t f,
                           int32_t *x);
+/* ---- The running week ---- */
+
+/*
+ * A week has the minutes 0 to 10079. The mill runs in up to 32 windows of it,
+ * each from its first minute up to, but without, its end. Windows are a list of
+ * numbers, two for each window, first minute and end; len counts the numbers,
+ * so that it is twice the number of windows. No windows at all are a week too.
+ *
+ * They are refused with 26 where a window is empty (its end is not above its
+ * first minute), where one begins at the end of the one before or earlier,
+ * where one ends beyond 10080, where there are more than 32, or where len is
+ * odd.
+ */
+
+/*
+ * The running minute of the clock minute clock: how many minutes before it lie
+ * in windows.
+ *
+ * 0: *running is the running minute.
+ * None: clock lies in no window.
+ * Refused:
+ *   26: the windows are no running week;
+ *   27: clock is above 10079.
+ */
+int32_t culv_week_running(const uint32_t *windows, size_t len, uint32_t clock,
+                          uint32_t *running);
+
+/*
+ * The clock minute of the running minute running: the one minute of the week of
+ * which culv_week_running gives running. The two calls undo each other.
+ *
+ * 0: *clock is the clock minute.
+ * None: running is not below the number of all minutes in windows.
+ * Refused:
+ *   26: the windows are no running week.
+ */
+int32_t culv_week_clock(const uint32_t *windows, size_t len, uint32_t running,
+                        uint32_t *clock);
 
 #ifdef __cplusplus
 }

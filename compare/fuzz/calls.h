@@ -14,11 +14,13 @@ extern const struct call AXIS_CALLS[];
 extern const struct call WHOLE_STEP_CALLS[];
 extern const struct call REAL_STEP_CALLS[];
 extern const struct call OTHER_CALLS[];
-enum { AXIS_COUNT = 18, STEP_COUNT = 13, OTHER_COUNT = 15 };
+enum { AXIS_COUNT = 18, STEP_COUNT = 13, OTHER_COUNT = 17 };
 
 /* Trials that stand in files of their own. */
 void decimal_print(void);
 void decimal_read(void);
+void week_running(void);
+void week_clock(void);
 
 /* Demands the count, and lets so many entries be written. */
 void counted(int32_t code, const void *out, size_t size, const size_t *count, uint64_t wanted);

@@ -299,4 +299,5 @@ const struct call OTHER_CALLS[OTHER_COUNT] = {
     CALL(ruler_write_twisted), CALL(ruler_write_inside_twisted), CALL(ruler_read), CALL(ruler_read_kind),
     CALL(ruler_label), CALL(ruler_pair), CALL(ruler_upgrade), CALL(ruler_downgrade), CALL(label),
     CALL(decimal_print), CALL(decimal_read),
+    CALL(week_running), CALL(week_clock),
 };

@@ -38,6 +38,8 @@ mod rulers;
 mod tally;
 #[cfg(feature = "library")]
 mod timing;
+#[cfg(feature = "library")]
+mod week;
 
 use std::env;
 use std::process::ExitCode;
@@ -66,6 +68,7 @@ const FAMILIES: &[Family] = &[
     family!(labels),
     family!(segmented),
     family!(fixed),
+    family!(week),
 ];
 
 /// The families, or the one that is named behind `compare` or `bench`.

@@ -19,6 +19,12 @@ impl From<i32> for Number {
     }
 }
 
+impl From<u32> for Number {
+    fn from(n: u32) -> Number {
+        u64::from(n).into()
+    }
+}
+
 impl From<u64> for Number {
     fn from(n: u64) -> Number {
         Whole(n.into())

@@ -13,8 +13,8 @@
 //! | [`SegmentedCoord`] | the segments over a whole axis or one by a step |
 //! | [`FloatPrettyPrinter`] | the form of a label |
 //!
-//! Rulers are in [`ruler`], searches of any list in [`search`], whole
-//! numbers with decimals in [`fixed`].
+//! Rulers are in [`ruler`], searches of any list in [`search`], whole numbers with decimals in
+//! [`fixed`], the running week in [`week`].
 //!
 //! ```
 //! use culvraod::{ruler, Limit, RangedCoordi32, Refusal};
@@ -75,6 +75,8 @@
 //! | 19 | [`BelowI32`](Refusal::BelowI32) | the value at an index is below −2,147,483,647 |
 //! | 24 | [`TooManyDigits`](Refusal::TooManyDigits) | more than 6 digits of a whole number are to be decimals |
 //! | 25 | [`NotADecimal`](Refusal::NotADecimal) | a text is printed of no admitted number with so many decimals |
+//! | 26 | [`BadWeek`](Refusal::BadWeek) | windows are empty, touch, descend, end beyond minute 10,080, or are more than 32 |
+//! | 27 | [`BadMinute`](Refusal::BadMinute) | a clock minute is above 10,079 |
 //!
 //! # C functions
 //!
@@ -97,6 +99,7 @@ mod refusal;
 pub mod ruler;
 pub mod search;
 pub mod segmented;
+pub mod week;
 
 pub use label::FloatPrettyPrinter;
 pub use limit::Limit;

@@ -20,6 +20,7 @@ lowest-first = record {
   from-index = λ a b k. tt;
   unmap = λ a b x limit. tt;
   unmap-directed = λ a b x limit. tt;
+  week-running = λ l c. tt;
   whole-map = λ a b v limit. tt;
   map-exact = λ a b v limit. tt;
   real-map = λ a b v limit. tt;

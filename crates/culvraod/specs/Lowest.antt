@@ -14,6 +14,7 @@ use Rattle.real.specs.Place.{realPlaceReasons, wholePlaceReasons}
 use Rattle.real.specs.Exact.{exactReasons}
 use Rattle.numeric.specs.Whole.{fromIndexReasons, readingReasons}
 use Rattle.numeric.specs.Directed.{directedReasons}
+use Rattle.week.specs.Week.{runningReasons}
 use Rattle.numeric.specs.Calls.{keyPointsReasons, planReasons}
 use Rattle.search.specs.declared.RoundingMethod.{RoundingMethod}
 use Rattle.search.specs.Lists.{wholeSearchReasons, realSearchReasons}
@@ -54,6 +55,7 @@ pub record LowestFirst : Type 1 where
   pub from-index : (a b : ℤ) (k : ℕ) → Rising (fromIndexReasons a b k)
   pub unmap : (a b x : ℤ) (limit : Limit) → Rising (readingReasons a b x limit)
   pub unmap-directed : (a b x : ℤ) (limit : Limit) → Rising (directedReasons a b x limit)
+  pub week-running : (l : List ℕ) (c : ℕ) → Rising (runningReasons l c)
   pub whole-map : (a b v : ℤ) (limit : Limit) → Rising (wholePlaceReasons a b v limit)
   pub map-exact : (a b v : ℤ) (limit : Limit) → Rising (exactReasons a b v limit)
   pub real-map : (a b v : Float) (limit : Limit) → Rising (realPlaceReasons a b v limit)

@@ -21,6 +21,7 @@ ghost use Rattle.float.specs.Calls.{tellLabel, labelPrint};
 ghost use Rattle.search.specs.Lists.{wholeSearch, realSearch};
 ghost use Rattle.culvraod.specs.Search.{methodOf, byMethod};
 ghost use Rattle.fixed.specs.Fixed.{tellPrinted, tellNumber, fixedPrint, fixedRead};
+ghost use Rattle.week.specs.Week.{tellMinute, runningMinute, clockMinute};
 ghost use Rattle.ruler.specs.Rule.{tellWrote, tellMoved, rulerWrite, rulerWriteInside, twistedWrite, rulerUpgrade, rulerDowngrade, rulerOf, rulerRead, recordIn, labelIn, sideOf};
 ghost use Rattle.culvraod.specs.Ruler.{readC, readKindC, partC, pairC};
 ghost use Rattle.culvraod.specs.Boundary.{single, double};
@@ -50,6 +51,7 @@ use ruler::Moved;
 use ruler::Reading;
 use ruler::Wrote;
 use search::RoundingMethod;
+use week::Minute;
 
 // A search as C chooses it.
 enum Method {
@@ -229,6 +231,19 @@ fn give_moved(x: Moved, written: &mut usize) -> i32
             0
         }
         Moved::Refused(r) => refused(r),
+    }
+}
+
+fn give_minute(x: Minute, minute: &mut u32) -> i32
+    ensures { λ r. ⌜ (r, now (minute .exit)) ≡ single (tellMinute x) (now (minute .entry)) ⌝ }
+{
+    match x {
+        Minute::At(at) => {
+            *minute = at;
+            0
+        }
+        Minute::Nothing => -1,
+        Minute::Refused(r) => refused(r),
     }
 }
 
@@ -831,4 +846,18 @@ pub extern "C" fn culv_decimal_read(text: &[u8], f: u32, x: &mut i32) -> i32
     ensures { λ r. ⌜ (r, now (x .exit)) ≡ single (fixedRead (now (text .entry)) f) (now (x .entry)) ⌝ }
 {
     give_number(fixed::read(text, f), x)
+}
+
+#[no_mangle]
+pub extern "C" fn culv_week_running(windows: &[u32], clock: u32, running: &mut u32) -> i32
+    ensures { λ r. ⌜ (r, now (running .exit)) ≡ single (runningMinute (now (windows .entry)) clock) (now (running .entry)) ⌝ }
+{
+    give_minute(week::running(windows, clock), running)
+}
+
+#[no_mangle]
+pub extern "C" fn culv_week_clock(windows: &[u32], running: u32, clock: &mut u32) -> i32
+    ensures { λ r. ⌜ (r, now (clock .exit)) ≡ single (clockMinute (now (windows .entry)) running) (now (clock .entry)) ⌝ }
+{
+    give_minute(week::clock(windows, running), clock)
 }

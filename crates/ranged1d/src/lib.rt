@@ -34,6 +34,8 @@ pub enum Refusal {
     BelowI32,
     TooManyDigits,
     NotADecimal,
+    BadWeek,
+    BadMinute,
 }
 
 // How many entries or marks were written to a lent list.
@@ -68,6 +70,8 @@ impl Refusal {
             Refusal::BelowI32 => 19,
             Refusal::TooManyDigits => 24,
             Refusal::NotADecimal => 25,
+            Refusal::BadWeek => 26,
+            Refusal::BadMinute => 27,
         }
     }
 }
