@@ -4,7 +4,7 @@ use culvraod::readings::{culv_real_unmap, culv_whole_unmap, culv_whole_unmap_dir
 use culvraod::{Limit, RangedCoordf64, RangedCoordi32};
 
 use super::directed::Directed;
-use super::Reading;
+use super::{stray, Reading};
 use crate::beside::{self, library, Mirrored};
 use crate::call::Told;
 
@@ -56,6 +56,7 @@ pub fn compare() -> bool {
         & beside::compare_mirror::<Reading<f64>>()
         & beside::compare::<Directed>()
         & beside::compare_mirror::<Directed>()
+        & stray::compare()
 }
 
 pub fn bench() {

@@ -7,6 +7,8 @@ pub mod rule;
 mod directed;
 #[cfg(feature = "library")]
 mod library;
+#[cfg(feature = "library")]
+mod stray;
 
 use plotters::coord::ranged1d::ReversibleRanged;
 use plotters::coord::{RangedCoordf64, RangedCoordi32};

@@ -15,6 +15,7 @@ pub mod Places
 pub mod Theorems
 pub mod Readings
 pub mod Directed
+pub mod NeedleBack
 pub mod WorkedReadings
 pub mod Discrete
 pub mod OnAxis

@@ -5,4 +5,5 @@ pub mod OnAxis
 pub mod Worked
 pub mod Whole
 pub mod Directed
+pub mod NeedleBack
 pub mod WorkedReadings

@@ -9,4 +9,5 @@ pub mod Placed
 pub mod Nan
 pub mod Error
 pub mod Relied
+pub mod Stray
 pub mod Worked

@@ -1,6 +1,6 @@
 -- Places and readings that the rules give, computed. Assumes nothing.
 use mathlib.Core.Path.{_≡_, refl, sym, ap, _∙_}
-use mathlib.Core.Bool.{true, false}
+use mathlib.Core.Bool.{true, false, true≢false}
 use mathlib.Core.List.{[], _∷_, map}
 use Prim.Native.Nat.{ℕ, _+_, _*_, _≤_}
 use native.Mathlib.Omega.{arith}
@@ -9,11 +9,13 @@ use lib.Ieee.{Float, nan, inf, fin, binary64, eq, sub, div, mul, add, ofInt, ofB
 use Rattle.ranged1d.specs.Answer.{Answer, given, none, refused}
 use Rattle.ranged1d.specs.declared.Limit.{Limit}
 use Rattle.ranged1d.specs.Admitted.{limitOf}
-use Rattle.ranged1d.proofs.Answers.{given-is}
+use borrow.Author.Tests.{le-leb}
+use Rattle.ranged1d.proofs.Answers.{given-is, not-none}
 use Rattle.rounding.specs.Within.{wholeOf, within}
 use Rattle.real.specs.Place.{rising, falling, along, spot, realPlace, wholePlace}
-use Rattle.real.specs.Reading.{realReading}
-use Rattle.real.specs.Exact.{distance, away, wholeExact}
+use Rattle.real.specs.Reading.{outside, realReading}
+use Rattle.real.specs.Exact.{pixels, distance, away, wholeExact}
+use Rattle.real.specs.Stray.{IsWhole, Away}
 
 -- needle 7 on the axis 7..7, film 100..300
 equal-ends : wholePlace (pos 7) (pos 7) (pos 7) (limitOf (pos 100) (pos 300)) ≡ given (pos 100)
@@ -108,3 +110,35 @@ not-never h =
     let e : negsuc 977561 +ℤ pos 1040191 ≡ negsuc 977561 +ℤ pos 1040190 = given-is (sym (one-more .1) ∙ h (there .0 .0) (there .0 .1) (there .0 .2) (there .1) 1040190 1861824930 (one-more .0)) in
     let n : _≡_ {A = ℕ} 62629 62628 = ap natAbs e in
     let z : ⊥ = omega (arith, n) in z
+
+-- ---- 02 (m): near the bound. On a film of one pixel the value is placed on the first limit and read there as the first end, 1,997,999,999 away from it
+-- where the axis is 2,000,000,000 long.
+pub strayed : (realPlace (ofInt binary64 (negsuc 999_999_999)) (ofInt binary64 (pos 1_000_000_000)) (ofInt binary64 (pos 997_999_999)) (limitOf (pos 0) (pos 1)) ≡ given (pos 0))
+    × (realReading (ofInt binary64 (negsuc 999_999_999)) (ofInt binary64 (pos 1_000_000_000)) (pos 0) (limitOf (pos 0) (pos 1)) ≡ given (ofInt binary64 (negsuc 999_999_999)))
+unfolding realPlace realReading spot along rising falling within wholeOf eq sub div mul add ofInt ofBits
+strayed = (refl, refl)
+
+-- wrong: within half the bound. On 0..4 and a film of one pixel, 3 is placed at 0 and read there as 0.
+abbrev HalfAsFar : Type 0
+HalfAsFar =
+    (fa fb fv reading : Float) (a b v place : ℤ) (limit : Limit) → IsWhole fa a → IsWhole fb b → IsWhole fv v → outside v a b ≡ false → realPlace fa fb fv limit ≡ given place
+    → realReading fa fb place limit ≡ given reading → Away _≤_ (2 * pixels limit) reading v (distance a b + 1)
+
+pub not-half-as-far : HalfAsFar → ⊥
+unfolding realPlace realReading spot along rising falling within wholeOf eq sub div mul add ofInt ofBits
+not-half-as-far h =
+    true≢false
+    (sym
+    (le-leb _ _
+    (h (ofInt binary64 (pos 0)) (ofInt binary64 (pos 4)) (ofInt binary64 (pos 3)) (ofInt binary64 (pos 0)) (pos 0) (pos 4) (pos 3) (pos 0) (limitOf (pos 0) (pos 1)) refl refl refl refl refl refl)))
+
+-- wrong: of values off the axis too. On 0..1 and a film of one pixel, 2 is placed at 2, where nothing is read.
+abbrev OffTheAxis : Type 0
+OffTheAxis =
+    (fa fb fv : Float) (a b v place : ℤ) (limit : Limit) → IsWhole fa a → IsWhole fb b → IsWhole fv v → realPlace fa fb fv limit ≡ given place
+    → (reading : Float) × (realReading fa fb place limit ≡ given reading)
+
+pub not-off-the-axis : OffTheAxis → ⊥
+unfolding realPlace realReading spot along rising falling within wholeOf eq sub div mul add ofInt ofBits
+not-off-the-axis h =
+    not-none (h (ofInt binary64 (pos 0)) (ofInt binary64 (pos 1)) (ofInt binary64 (pos 2)) (pos 0) (pos 1) (pos 2) (pos 2) (limitOf (pos 0) (pos 1)) refl refl refl refl .1)

@@ -3,3 +3,4 @@ pub mod Place
 pub mod Reading
 pub mod Mirror
 pub mod Exact
+pub mod Stray
