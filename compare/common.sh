@@ -44,13 +44,13 @@ make_reference() {
     make_tabled
 }
 
-# The same with the decade of a length from the library's table, as 02 has it. One line of numeric.rs is changed, and
-# the table is the text of crates/decades.
+# The same with the decade of a length, and of a label's number, from the library's table, as 02 has it. One line of
+# numeric.rs and two of float.rs are changed, and the table is the text of crates/decades.
 make_tabled() {
-    local file numeric=src/coord/ranged1d/types/numeric.rs changed
+    local file numeric=src/coord/ranged1d/types/numeric.rs float=src/data/float.rs changed
     (cd "$built/plotters" && find src -type f) | while read -r file; do
         case $file in
-        src/lib.rs | "$numeric") ;;
+        src/lib.rs | "$numeric" | "$float") ;;
         *) copy "$built/plotters/$file" "$built/tabled/$file" ;;
         esac
     done
@@ -65,6 +65,15 @@ make_tabled() {
         exit 2
     fi
     copy "$built/numeric.rs" "$built/tabled/$numeric"
+    sed -e 's/let mut idx = n\.abs()\.log10()\.floor();/let mut idx = crate::powers::exponent(n.abs());/' \
+        -e 's/let mut exp = (10\.0f64)\.powf(idx);/let mut exp = crate::powers::decade(n.abs());/' \
+        "$built/plotters/$float" >"$built/float.rs"
+    changed=$(diff "$built/plotters/$float" "$built/float.rs" | grep -c '^>') || true
+    if [ "$changed" != 2 ]; then
+        echo "of the two lines of float.rs that take the decade $changed were found" >&2
+        exit 2
+    fi
+    copy "$built/float.rs" "$built/tabled/$float"
     sed -n '/^const POWERS/,/^];/p' crates/decades/src/lib.rt | sed '1s/.*/[/; $s/.*/]/' >"$built/powers.in"
     copy "$built/powers.in" "$built/tabled/src/powers.in"
 }

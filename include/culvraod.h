@@ -6,7 +6,7 @@
  *    0   answered: the answer stands where the pointers point;
  *   -1   none: there is no such value (only calls that say so);
  *   1..  refused: of the numbers that apply the first of 26, 27, 1, 2, 18, 3 to
- *        10, 19, 11, 12, 17, 24, 25, 13 to 16, in this order.
+ *        10, 19, 11, 12, 28, 17, 24, 25, 13 to 16, in this order.
  *
  * Memory:
  *   - A list is a pointer and its length in entries. The pointer is valid even
@@ -62,7 +62,8 @@ enum {
     CULV_TOO_MANY_DIGITS = 24,    /* more than 6 digits are to be decimals */
     CULV_NOT_A_DECIMAL = 25,      /* the text is printed of no admitted number */
     CULV_BAD_WEEK = 26,           /* the windows are no running week */
-    CULV_BAD_MINUTE = 27          /* the clock minute is above 10079 */
+    CULV_BAD_MINUTE = 27,         /* the clock minute is above 10079 */
+    CULV_TOO_SMALL = 28           /* the number of a scientific label is below 1e-307 in size, and not 0 */
 };
 
 /* The most marks that culv_real_key_points gives: a list of so many always
@@ -769,6 +770,32 @@ int32_t culv_ruler_pair(const uint8_t *left, size_t left_len,
  */
 int32_t culv_label(double n, uint32_t max_decimal, uint32_t min_decimal,
                    uint8_t *out, size_t len, size_t *written);
+
+/*
+ * The scientific label of n: "0" for zero of either sign; else the label of
+ * culv_label, or the scientific text, a mantissa, the letter e and an exponent,
+ * as "4.0e-7" is of 0.0000004 with max_decimal 5 and min_decimal 1. It is
+ * written to out, which has len bytes; 29 are always enough.
+ *
+ * The decade of n is the greatest power of ten not above its size, from a table
+ * of the doubles nearest to the powers of ten, so that no label depends on a
+ * platform's logarithm; where n over it, and 0.00001, reach ten, the exponent
+ * is one more, and the power ten times the decade. The mantissa is n over that
+ * power, shortened with the tolerance 0.00001, with at least min_decimal
+ * decimals. The scientific text is taken where the exponent is 3 or more in
+ * size and either culv_label's text, its sign before zeros counted, has more
+ * than one byte more, or n is shortened to zero there.
+ *
+ * 0: *written is the number of bytes of the label.
+ * Refused:
+ *   11: n is NaN, infinite, or of size 2^53 or more;
+ *   12: max_decimal is above 10, or min_decimal above 20;
+ *   28: n is not 0, but smaller in size than 1e-307;
+ *   13: len is less than the number of bytes of the label.
+ */
+int32_t culv_label_scientific(double n, uint32_t max_decimal,
+                              uint32_t min_decimal, uint8_t *out, size_t len,
+                              size_t *written);
 
 /* ---- Whole numbers with decimals ---- */
 

@@ -257,12 +257,14 @@ static void ruler_downgrade(void)
 
 /* ---- Labels ---- */
 
+typedef int32_t printer(double, uint32_t, uint32_t, uint8_t *, size_t, size_t *);
+
 /* How long the label is: what the call says itself, with bytes enough for every label. */
-static size_t label_length(double n, uint32_t max_decimal, uint32_t min_decimal)
+static size_t label_length(printer *print, double n, uint32_t max_decimal, uint32_t min_decimal)
 {
     uint8_t out[38];
     size_t written = 0;
-    culv_label(n, max_decimal, min_decimal, out, sizeof out, &written);
+    print(n, max_decimal, min_decimal, out, sizeof out, &written);
     return written;
 }
 
@@ -275,21 +277,33 @@ static int sign_right(double n, const uint8_t *text, size_t length)
     return text[0] != '-' || (n < 0 && k < length);
 }
 
-static void label(void)
+/* A plain label; or a scientific one, whose number must not be too small. */
+static void label_by(printer *print, bool scientific)
 {
     double n = draw_real("n");
     uint32_t max_decimal = below(8) ? (uint32_t)below(12) : (uint32_t)draw_index();
     uint32_t min_decimal = below(8) ? (uint32_t)below(22) : (uint32_t)draw_index();
     note_natural("max_decimal", max_decimal);
     note_natural("min_decimal", min_decimal);
-    size_t length = label_length(n, max_decimal, min_decimal), len = draw_length(length, 60);
+    size_t length = label_length(print, n, max_decimal, min_decimal), len = draw_length(length, 60);
     size_t *written = RESULT(size_t);
     uint8_t *out = LIST(uint8_t, len);
-    int32_t code = CALLED(culv_label(n, max_decimal, min_decimal, out, len, written));
+    int32_t code = CALLED(print(n, max_decimal, min_decimal, out, len, written));
     int32_t wanted = lower(fabs(n) < 0x1p53 ? 0 : 11, max_decimal > 10 || min_decimal > 20 ? 12 : 0);
+    wanted = lower(wanted, scientific && n != 0 && fabs(n) < 1e-307 ? 28 : 0);
     counted(code, out, 1, written, length);
     demand(code != 0 || sign_right(n, out, length), "a minus sign where there may be none");
     settle(code, lower(wanted, len < length ? 13 : ANSWERED));
+}
+
+static void label(void)
+{
+    label_by(culv_label, false);
+}
+
+static void label_scientific(void)
+{
+    label_by(culv_label_scientific, true);
 }
 
 #define CALL(name) {"culv_" #name, name}
@@ -297,7 +311,7 @@ static void label(void)
 const struct call OTHER_CALLS[OTHER_COUNT] = {
     CALL(search_whole), CALL(search_real), CALL(ruler_write), CALL(ruler_write_inside),
     CALL(ruler_write_twisted), CALL(ruler_write_inside_twisted), CALL(ruler_read), CALL(ruler_read_kind),
-    CALL(ruler_label), CALL(ruler_pair), CALL(ruler_upgrade), CALL(ruler_downgrade), CALL(label),
+    CALL(ruler_label), CALL(ruler_pair), CALL(ruler_upgrade), CALL(ruler_downgrade), CALL(label), CALL(label_scientific),
     CALL(decimal_print), CALL(decimal_read),
     CALL(week_running), CALL(week_clock),
 };

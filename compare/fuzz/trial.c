@@ -21,7 +21,7 @@ enum {
     ROOM = 1 << 20,   /* bytes of an area between its two closed pages */
     GUARD = 64,       /* bytes on each side of lent memory that are looked at after each call */
     SECONDS = 20,     /* no call may take longer */
-    HIGHEST = 27,
+    HIGHEST = 28,
     STATUSES = HIGHEST + 2
 };
 

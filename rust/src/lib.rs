@@ -77,6 +77,7 @@
 //! | 25 | [`NotADecimal`](Refusal::NotADecimal) | a text is printed of no admitted number with so many decimals |
 //! | 26 | [`BadWeek`](Refusal::BadWeek) | windows are empty, touch, descend, end beyond minute 10,080, or are more than 32 |
 //! | 27 | [`BadMinute`](Refusal::BadMinute) | a clock minute is above 10,079 |
+//! | 28 | [`TooSmall`](Refusal::TooSmall) | the number of a scientific label is not zero, but smaller in size than 1e-307 |
 //!
 //! # C functions
 //!

@@ -18,7 +18,7 @@ macro_rules! refusals {
         use Refusal::*;
 
         /// Every refusal, in the order of their numbers.
-        const ALL: [Refusal; 23] = [$($name),*];
+        const ALL: [Refusal; 24] = [$($name),*];
 
         impl Refusal {
             fn text(self) -> &'static str {
@@ -32,7 +32,7 @@ macro_rules! refusals {
 
 refusals! {
     /// Why a call stopped. Of several reasons it is the first in the order 26, 27, 1, 2, 18, 3 to 10,
-    /// 19, 11, 12, 17, 24, 25, 13 to 16.
+    /// 19, 11, 12, 28, 17, 24, 25, 13 to 16.
     ///
     /// The [crate's page](crate#refusals) has a table of the numbers and of when each is met.
     ///
@@ -67,6 +67,7 @@ refusals! {
     25 NotADecimal "the text is printed of no admitted number with so many decimals";
     26 BadWeek "the windows are no running week";
     27 BadMinute "the clock minute is above 10079";
+    28 TooSmall "the number of a scientific label is smaller in size than 1e-307";
 }
 
 impl Refusal {
@@ -142,7 +143,7 @@ mod tests {
 
     #[test]
     fn numbers_are_in_order() {
-        let numbers = (1..=19).chain(24..=27);
+        let numbers = (1..=19).chain(24..=28);
         assert!(ALL.iter().map(|refusal| refusal.number()).eq(numbers));
         assert_eq!(Refusal::from_number(13), Some(OutTooShort));
         assert_eq!(answered("call", 0, 7), Ok(7));

@@ -1,6 +1,6 @@
 //! Inputs of labels.
 
-use super::Asked;
+use super::{Asked, Notation};
 use crate::cases::{nudged, real};
 use crate::random::Random;
 
@@ -88,6 +88,33 @@ pub fn drawn(random: &mut Random) -> Asked {
     asked(n, h, e)
 }
 
+/// A number of any decade, next to a power of ten or to where the mantissa becomes ten as often as
+/// not, or too small.
+fn of_a_decade(random: &mut Random) -> f64 {
+    let power: f64 = format!("1e{}", random.within(-308, 15)).parse().unwrap();
+    let n = match random.below(6) {
+        0 => power,
+        1 => power * 9.99999,
+        2 => power * 9.999_995,
+        3 => power * (1.0 + random.below(90) as f64 / 10.0),
+        4 => power * (1.0 + 9.0 * random.unit()),
+        _ => f64::from_bits(random.below(1 << 53)),
+    };
+    nudged(random, n) * random.pick(&[1.0, -1.0])
+}
+
+/// As labels of this notation are drawn.
+pub fn drawn_for(random: &mut Random, notation: Notation) -> Asked {
+    let asked = drawn(random);
+    match notation {
+        Notation::Scientific if random.below(4) > 0 => Asked {
+            n: of_a_decade(random),
+            ..asked
+        },
+        _ => asked,
+    }
+}
+
 /// A number below zero that is nearer to it than the tolerance, or not much further.
 #[cfg(feature = "library")]
 pub fn vanishing(random: &mut Random) -> Asked {
@@ -110,6 +137,13 @@ pub fn all() -> impl Iterator<Item = Asked> {
         .iter()
         .flat_map(|n| [*n, n.next_up(), n.next_down()]);
     numbers.flat_map(|n| (0..=10).flat_map(move |h| (0..=20).map(move |e| asked(n, h, e))))
+}
+
+/// Tensions of every size down to 10^-9.
+#[cfg(feature = "library")]
+pub fn tiny(random: &mut Random, h: u32, e: u32) -> Asked {
+    let n = random.within(-1_000_000, 1_000_000) as f64;
+    asked(n / 10f64.powi(random.below(16) as i32), h, e)
 }
 
 /// As an ordinary axis has them: up to six decimals.

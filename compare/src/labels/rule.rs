@@ -2,6 +2,7 @@
 //! with the sign as request (b) has it.
 
 use super::Asked;
+use tabled::powers::POWERS;
 
 /// From this size on a number has no label.
 const TOO_LARGE: f64 = 9_007_199_254_740_992.0;
@@ -28,9 +29,8 @@ fn last(n: f64, tolerance: f64) -> Option<f64> {
     reached.then_some(n).or(near.map(|&(_, whole)| whole))
 }
 
-/// The shortened number, and how many levels it took.
-fn shortened(n: f64, h: u32) -> (f64, usize) {
-    let (mut n, mut tolerance) = (n, 1.0 / 10u64.pow(h) as f64);
+/// The number shortened with this tolerance, and how many levels it took.
+fn shortened(mut n: f64, mut tolerance: f64) -> (f64, usize) {
     let mut floors = Vec::new();
     let found = loop {
         if let Some(found) = last(n, tolerance) {
@@ -54,9 +54,8 @@ pub fn zero_unsigned(text: String) -> String {
     }
 }
 
-pub fn label(asked: Asked) -> Result<Label, i32> {
-    refused(asked)?;
-    let (value, levels) = shortened(asked.n, asked.h);
+/// The text of a shortened number with at least e decimals, its sign as it is.
+fn text_of((value, levels): (f64, usize), e: u32) -> Label {
     let size = value.abs();
     let one = 10u64.pow(levels as u32);
     let decimals = match levels {
@@ -70,11 +69,52 @@ pub fn label(asked: Asked) -> Result<Label, i32> {
         false => format!("{decimals:0levels$}"),
     };
     shown.truncate(shown.trim_end_matches('0').len());
-    while shown.len() < asked.e as usize {
+    while shown.len() < e as usize {
         shown.push('0');
     }
     let sign = if value.is_sign_negative() { "-" } else { "" };
     let point = if shown.is_empty() { "" } else { "." };
-    let text = zero_unsigned(format!("{sign}{whole}{point}{shown}"));
+    let text = format!("{sign}{whole}{point}{shown}");
+    Label { text, fills_up }
+}
+
+/// What a label's number is shortened to.
+fn plain(asked: Asked) -> (f64, usize) {
+    shortened(asked.n, 1.0 / 10u64.pow(asked.h) as f64)
+}
+
+pub fn label(asked: Asked) -> Result<Label, i32> {
+    refused(asked)?;
+    let Label { text, fills_up } = text_of(plain(asked), asked.e);
+    let text = zero_unsigned(text);
+    Ok(Label { text, fills_up })
+}
+
+/// The scientific label, from the request's own words.
+pub fn scientific(asked: Asked) -> Result<Label, i32> {
+    refused(asked)?;
+    let (n, size) = (asked.n, asked.n.abs());
+    if n == 0.0 {
+        let text = "0".into();
+        return Ok(Label { text, fills_up: false });
+    }
+    if size < POWERS[0] {
+        return Err(28);
+    }
+    let place = POWERS.iter().rposition(|&power| power <= size).expect("28");
+    let (mut exponent, mut power) = (place as i32 - 307, POWERS[place]);
+    if size / power + 0.00001 >= 10.0 {
+        exponent += 1;
+        power *= 10.0;
+    }
+    if exponent.abs() < 3 {
+        return label(asked);
+    }
+    let short = text_of(shortened(n / power, 0.00001), asked.e);
+    let long = text_of(plain(asked), asked.e);
+    let text = format!("{}e{exponent}", short.text);
+    let chosen = text.len() + 1 < long.text.len() || plain(asked).0 == 0.0;
+    let fills_up = short.fills_up || long.fills_up;
+    let text = if chosen { text } else { zero_unsigned(long.text) };
     Ok(Label { text, fills_up })
 }

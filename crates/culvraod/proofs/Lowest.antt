@@ -35,6 +35,7 @@ lowest-first = record {
   ruler-upgrade = λ l old. tt;
   ruler-downgrade = λ l old. tt;
   print = λ n h e old. tt;
+  print-scientific = λ n h e old. tt;
   decimal-print = λ x f old. tt;
   decimal-read = λ s f. tt;
 }

@@ -26,7 +26,7 @@ use Rattle.segmented.specs.Segments as segments
 use Rattle.numeric.specs.declared.Choice.{Choice}
 use Rattle.ruler.specs.declared.Form.{Form}
 use Rattle.ruler.specs.Rule.{noRuler, writeReasonsBy, twistedReasons, upgradeReasons, downgradeReasons}
-use Rattle.float.specs.Calls.{printReasons}
+use Rattle.float.specs.Calls.{printReasons, scientificReasons}
 use Rattle.fixed.specs.Fixed.{fixedReasons, fixedReadReasons}
 
 abbrev pub Rising : List Reason → Type 0
@@ -70,5 +70,6 @@ pub record LowestFirst : Type 1 where
   pub ruler-upgrade : (l old : List ℕ) → Rising (upgradeReasons l old)
   pub ruler-downgrade : (l old : List ℕ) → Rising (downgradeReasons l old)
   pub print : (n : Float) (h e : ℕ) (old : List ℕ) → Rising (printReasons n h e old)
+  pub print-scientific : (n : Float) (h e : ℕ) (old : List ℕ) → Rising (scientificReasons n h e old)
   pub decimal-print : (x : ℤ) (f : ℕ) (old : List ℕ) → Rising (fixedReasons x f old)
   pub decimal-read : (s : List ℕ) (f : ℕ) → Rising (fixedReadReasons s f)

@@ -17,7 +17,7 @@ ghost use Rattle.keypoints.specs.Marks.{realKeyPoints};
 ghost use Rattle.linspace.specs.List.{whole, real};
 ghost use Rattle.linspace.specs.Calls.{stepValues, stepSize, stepFromIndex, stepIndexOf, stepPlace, stepReading, stepKeyPoints};
 ghost use Rattle.culvraod.specs.Steps.{listC};
-ghost use Rattle.float.specs.Calls.{tellLabel, labelPrint};
+ghost use Rattle.float.specs.Calls.{tellLabel, labelPrint, labelScientific};
 ghost use Rattle.search.specs.Lists.{wholeSearch, realSearch};
 ghost use Rattle.culvraod.specs.Search.{methodOf, byMethod};
 ghost use Rattle.fixed.specs.Fixed.{tellPrinted, tellNumber, fixedPrint, fixedRead};
@@ -832,6 +832,23 @@ pub extern "C" fn culv_label(
         max_decimal,
     };
     give_label(printer.print(n, out), written)
+}
+
+#[no_mangle]
+pub extern "C" fn culv_label_scientific(
+    n: f64,
+    max_decimal: u32,
+    min_decimal: u32,
+    out: &mut [u8],
+    written: &mut usize,
+) -> i32
+    ensures { λ r. ⌜ (r, now (out .exit), now (written .exit)) ≡ listC (labelScientific n «max_decimal» «min_decimal» (now (out .entry))) (now (written .entry)) ⌝ }
+{
+    let printer = FloatPrettyPrinter {
+        min_decimal,
+        max_decimal,
+    };
+    give_label(printer.print_scientific(n, out), written)
 }
 
 #[no_mangle]

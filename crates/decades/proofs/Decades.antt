@@ -96,7 +96,7 @@ module _ (x : Float) (k n : ℕ) (h : k < n) (l : n ≤ 616) where
       let s : k + (n - k) ≡ n = omega arith in
       e ∙ rw s at (last-skips (reached x) k (n - k) (λ i a b. unreached-after x k i a (omega arith) f))
 
-from-all : (x : Float) → decadeIndex x ≡ lastOf (reached x) 616
+pub from-all : (x : Float) → decadeIndex x ≡ lastOf (reached x) 616
 unfolding decadeIndex
 from-all x = refl
 
@@ -130,7 +130,7 @@ unfolding decadeOf decadeIndex
 decade-inside x = last-inside (reached x) 615
 
 -- ---- 02 (d): the decade is the greatest power not above x, where there is one
-last-found : (p : ℕ → Bool) (k n : ℕ) → k < n → p k ≡ true → (p (lastOf p n) ≡ true) × (lastOf p n < n) × (k ≤ lastOf p n)
+pub last-found : (p : ℕ → Bool) (k n : ℕ) → k < n → p k ≡ true → (p (lastOf p n) ≡ true) × (lastOf p n < n) × (k ≤ lastOf p n)
 unfolding lastOf
 last-found p k (suc n) h e = go (p n) refl (λ l. last-found p k n l e)
   where

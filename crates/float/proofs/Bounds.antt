@@ -36,7 +36,7 @@ sign-round s = rounded (λ (x : Float). signOf x ≡ s) binary64 s (λ m e. refl
 round-one : (a b : ℕ) → 0 < b → a ≤ 1 * b → Small 1 (round binary64 false a b)
 round-one a b p h = (sign-round false a b, small.round-small binary64 1 (round-whole binary64 false 1 (omega arith)) false a b p h)
 
-wider : (C D : ℕ) (x : Float) → C ≤ D → AtMost C x → AtMost D x
+pub wider : (C D : ℕ) (x : Float) → C ≤ D → AtMost C x → AtMost D x
 wider C D (fin s m e) l w = le-trans w (mul-le-mul-right (down e) l)
 
 -- ---- the whole numbers next to x
@@ -101,7 +101,7 @@ inner-small C x t w = small.mul-small binary64 10 (round-whole binary64 false 10
 inner-fits : (x : Float) → fits binary64 (inner x) ≡ true
 inner-fits x = is-true (fits binary64 (inner x)) (mul-fits binary64 (sub binary64 x (floorOf x)) ten)
 
-stays : (C D : ℕ) → HasValue (round binary64 false D 1) false D 1 → C + 2 ≤ D → (k : ℕ) (x eps : Float) → fits binary64 x ≡ true → AtMost C x → AtMost D (shorten k x eps .value)
+pub stays : (C D : ℕ) → HasValue (round binary64 false D 1) false D 1 → C + 2 ≤ D → (k : ℕ) (x eps : Float) → fits binary64 x ≡ true → AtMost C x → AtMost D (shorten k x eps .value)
 unfolding shorten
 stays C D exact l zero x eps t w = wider C D x (omega (arith, l)) w
 stays C D exact l (suc k) x eps t w =

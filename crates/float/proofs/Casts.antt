@@ -21,9 +21,12 @@ use Rattle.float.specs.Text.{sizeOf, wholePart, decimalsOf}
 use Rattle.float.proofs.Bounds.{near, Small, sign-round, value-within, part-small}
 
 -- ---- the whole part
-pub whole-le : (x : Float) → AtMost near x → wholePart x ≤ near
+pub whole-most : (C : ℕ) (x : Float) → AtMost C x → wholePart x ≤ C
 unfolding wholeOf
-whole-le (fin s m e) w = sized-le floors false (m * up e) (down e) near (down-pos e) w
+whole-most C (fin s m e) w = sized-le floors false (m * up e) (down e) C (down-pos e) w
+
+pub whole-le : (x : Float) → AtMost near x → wholePart x ≤ near
+whole-le = whole-most near
 
 -- the whole part of a label is that of the shortened number
 pub whole-exact : (x : Float) → AtMost near x → toUnsigned 64 (sizeOf x) ≡ wholePart x

@@ -6,7 +6,14 @@ pub mod Signs
 pub mod Bounds
 pub mod Casts
 pub mod Levels
+pub mod Exponents
+pub mod Shown
+pub mod Scales
+pub mod Notation
+pub mod Longest
+pub mod Mantissa
 pub mod Enough
 pub mod Printed
+pub mod Theorems
 pub mod Worked
 pub mod Zeros

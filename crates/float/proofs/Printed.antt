@@ -22,7 +22,7 @@ use Rattle.float.proofs.Cases.{Few, trim-few, tail-le, shorten-few}
 use Rattle.float.proofs.Decimals.{decimals-kept}
 use Rattle.float.proofs.Lists.{front-most, bytes-length}
 use Rattle.float.proofs.Bounds.{near, stays-near, printable-at-most}
-use Rattle.float.proofs.Casts.{whole-le}
+use Rattle.float.proofs.Casts.{whole-most}
 
 -- ---- the refusals
 pub print-11 : (n : Float) (h e : ℕ) (old : List ℕ) → printable n ≡ false → _≡_ {A = Answer ℕ × List ℕ} (refused 11, old) (labelPrint n h e old)
@@ -81,13 +81,14 @@ whole-grows x p = chosen (λ (t : Parts). t .whole ≤ wholePart x + 1) (fillsUp
     kept : trimmed (signOf x) (wholePart x) p (decimalsOf x p) .whole ≤ wholePart x + 1
     kept = rw (trim-keeps (signOf x) (wholePart x) p (decimalsOf x p) .1) (omega arith)
 
-shown-short : (x : Float) (p e : ℕ) → AtMost near x → p ≤ 10 → e ≤ 20 → length (shown x p e) ≤ 38
-shown-short x p e w l k =
+-- a number of at most C with e decimals or fewer levels than 10: one byte for the sign, as many as C + 1 has digits, and 21
+pub shown-most : (C d : ℕ) (x : Float) (p e : ℕ) → AtMost C x → C + 1 < 10 ^ suc d → p ≤ 10 → e ≤ 20 → length (shown x p e) ≤ 23 + d
+shown-most C d x p e w c l k =
     let t = partsOf x p in
     let f = parts-few x p in
     let g = whole-grows x p in
-    let a = whole-le x w in
-    let d : length (longNatural (t .whole)) ≤ 16 = digits-few 19 15 (t .whole) (omega arith) in
+    let a = whole-most C x w in
+    let n : length (longNatural (t .whole)) ≤ suc d = digits-few 19 d (t .whole) (omega arith) in
     rw (← bytes-shown x p e l, bytes-length t e (f .1))
     (omega (arith, front-most (t .minus) (t .whole), tail-le (t .places) e (omega (arith, f .0)) k))
 
@@ -96,4 +97,4 @@ unfolding plottersText
 text-short n h e t a l k =
     let r = shorten h n (tolerance h) in
     let f = shorten-few h n (tolerance h) in
-    shown-short (r .value) (r .levels) e (stays-near h n (tolerance h) t (printable-at-most n a)) (omega arith) k
+    shown-most near 15 (r .value) (r .levels) e (stays-near h n (tolerance h) t (printable-at-most n a)) (omega arith) (omega arith) k

@@ -185,7 +185,7 @@ label-minus n h e = go (plottersText n h e) (allZero (plottersText n h e)) (show
         both false = refl
 
 -- 38 bytes are enough for every label
-unsigned-shorter : (t : List ℕ) → length (zeroUnsigned t) ≤ length t
+pub unsigned-shorter : (t : List ℕ) → length (zeroUnsigned t) ≤ length t
 unfolding zeroUnsigned
 unsigned-shorter t =
     chosen (λ (u : List ℕ). length u ≤ length t) (allZero t)

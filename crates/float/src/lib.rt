@@ -1,17 +1,23 @@
-// Labels of real numbers, after data/float.rs without scientific notation, into lent bytes.
+// Labels of real numbers, after data/float.rs, plain and in scientific notation, into lent bytes.
+use decades::Power;
 use decimal::LongText;
 use ranged1d::Refusal;
 ghost use mathlib.Core.Path.{_≡_};
-ghost use mathlib.Core.Bool.{false};
+ghost use mathlib.Core.Bool.{true, false, _||_};
+ghost use mathlib.Core.List.{[], _∷_, _++_};
 ghost use Prim.Native.Nat.{_+_, _-_, _^_, _≤_, _<_};
 ghost use lib.ListN.{length, take, drop, replicate};
 ghost use lib.Seq.{sets};
+ghost use lib.Dec.{ltb};
+ghost use lib.IntN.{natAbs};
 ghost use lib.Ieee as Ieee;
 ghost use Rattle.ranged1d.specs.Answer.{listWritten};
 ghost use Rattle.rounding.specs.Within.{AtMost};
-ghost use Rattle.float.specs.Shorten.{shorten, plain};
-ghost use Rattle.float.specs.Text.{signOf, sizeOf};
-ghost use Rattle.float.specs.Calls.{tellLabel, printable, labelPrint};
+ghost use Rattle.decimal.specs.Print.{decimal, longTextOf};
+ghost use Rattle.float.specs.Shorten.{shorten, tolerance, plain};
+ghost use Rattle.float.specs.Text.{signOf, sizeOf, nought};
+ghost use Rattle.float.specs.Scientific.{zeroFloat, letter, tableIndex, scaleOf, exponentAt, scientificOf};
+ghost use Rattle.float.specs.Calls.{tellLabel, printable, tooSmall, labelPrint, labelScientific};
 ghost use Rattle.float.specs.Steps.{back, trimmed, partsOf, unsignedParts, placed, tailOf, tailLength, bytesOf};
 
 // How a label is written: with at least min_decimal decimals, of which at most max_decimal say anything of the number.
@@ -113,6 +119,14 @@ fn find_minimal_repr(n: f64, eps: f64, left: u32) -> Shortened
         value = floors[k] + value / 10.0;
     }
     Shortened { value, levels }
+}
+
+// n shortened to at most h decimals.
+fn shorten_to(n: f64, h: u32) -> Shortened
+    requires { ⌜ h ≤ 10 ⌝ }
+    ensures { λ r. ⌜ r ≡ shorten h n (tolerance h) ⌝ }
+{
+    find_minimal_repr(n, 1.0 / (power(h) as f64), h)
 }
 
 // Whether n has a minus sign, a zero its own.
@@ -298,6 +312,130 @@ fn float_to_string(t: Parts, e: u32, out: &mut [u8]) -> Label
     Label::Written(need)
 }
 
+// Writes the parts without a minus before zero.
+fn put_plain(t: Parts, e: u32, out: &mut [u8]) -> Label
+    requires { ⌜ t .places ≤ 10 ⌝ ∗ ⌜ t .decimals < 10 ^ t .places ⌝ ∗ ⌜ e ≤ 20 ⌝ }
+    ensures { λ r. ⌜ (tellLabel r, now (out .exit)) ≡ listWritten (bytesOf (unsignedParts t) e) (now (out .entry)) ⌝ }
+{
+    float_to_string(unsigned(t), e, out)
+}
+
+// How many bytes `float_to_string` writes.
+fn text_length(t: Parts, e: u32) -> usize
+    requires { ⌜ t .places ≤ 10 ⌝ ∗ ⌜ t .decimals < 10 ^ t .places ⌝ ∗ ⌜ e ≤ 20 ⌝ }
+    ensures { λ r. ⌜ (r ≡ length (bytesOf t e)) × (r ≤ 42) ⌝ }
+{
+    let text = decimal::long_label(t.minus, t.whole);
+    let k = t.places as usize;
+    let m = e as usize;
+    21 - text.blanks + tail_length(k, m)
+}
+
+// The power of ten in front of which the mantissa of a number of the size x stands.
+fn scale(x: f64) -> Power
+    ensures { λ r. ⌜ (r .index ≡ tableIndex x) × (r .value ≡ scaleOf x) × (r .index ≤ 616) ⌝ }
+{
+    let d = decades::decade(x);
+    let k = d.index;
+    let p = d.value;
+    if x / p + 0.00001 >= 10.0 {
+        return Power {
+            index: k + 1,
+            value: p * 10.0,
+        };
+    }
+    d
+}
+
+// The text of the exponent at a place of the table.
+fn exponent_text(k: usize) -> LongText
+    requires { ⌜ k ≤ 616 ⌝ }
+    ensures { λ r. ⌜ r ≡ longTextOf (decimal (exponentAt k)) ⌝ }
+{
+    if k < 307 {
+        return decimal::long_label(true, (307 - k) as u64);
+    }
+    decimal::long_label(false, (k - 307) as u64)
+}
+
+// Whether that exponent is below 3 in size.
+fn is_short(k: usize) -> bool
+    ensures { λ r. ⌜ r ≡ ltb (natAbs (exponentAt k)) 3 ⌝ }
+{
+    if 304 < k {
+        return k < 310;
+    }
+    false
+}
+
+// Writes the parts of a mantissa, the letter e and an exponent's text, if out is long enough.
+fn put_scientific(t: Parts, e: u32, x: LongText, out: &mut [u8]) -> Label
+    requires { ⌜ t .places ≤ 10 ⌝ ∗ ⌜ t .decimals < 10 ^ t .places ⌝ ∗ ⌜ e ≤ 20 ⌝ ∗ ⌜ x .blanks ≤ 21 ⌝ ∗ ⌜ length (x .bytes) ≡ 21 ⌝ }
+    ensures { λ r. ⌜ (tellLabel r, now (out .exit)) ≡ listWritten (bytesOf t e ++ (letter ∷ drop (x .blanks) (x .bytes))) (now (out .entry)) ⌝ }
+{
+    let at = text_length(t, e);
+    let all = at + 1 + (21 - x.blanks);
+    if out.len() < all {
+        return Label::Refused(Refusal::OutTooShort);
+    }
+    float_to_string(t, e, out);
+    out[at] = 101;
+    put_text(out, at + 1, x);
+    Label::Written(all)
+}
+
+// Writes a zero.
+fn put_zero(out: &mut [u8]) -> Label
+    ensures { λ r. ⌜ (tellLabel r, now (out .exit)) ≡ listWritten (nought ∷ []) (now (out .entry)) ⌝ }
+{
+    if out.len() == 0 {
+        return Label::Refused(Refusal::OutTooShort);
+    }
+    out[0] = 48;
+    Label::Written(1)
+}
+
+// Whether a scientific text of so many bytes is preferred to a plain one, of a number that is shortened to value.
+fn is_preferred(value: f64, long: usize, plain: usize) -> bool
+    requires { ⌜ long ≤ 64 ⌝ }
+    ensures { λ r. ⌜ r ≡ (ltb (long + 1) plain || Ieee.eq value zeroFloat) ⌝ }
+{
+    if long + 1 < plain {
+        return true;
+    }
+    value == 0.0
+}
+
+// Writes the plain or the scientific text of a number that is neither zero nor too small.
+fn put_either(n: f64, h: u32, e: u32, out: &mut [u8]) -> Label
+    requires { ⌜ h ≤ 10 ⌝ ∗ ⌜ e ≤ 20 ⌝ ∗ ⌜ printable n ≡ true ⌝ ∗ ⌜ Ieee.eq n zeroFloat ≡ false ⌝ ∗ ⌜ tooSmall n ≡ false ⌝ }
+    ensures { λ r. ⌜ (tellLabel r, now (out .exit)) ≡ listWritten (scientificOf n h e) (now (out .entry)) ⌝ }
+{
+    let r = shorten_to(n, h);
+    let value = r.value;
+    let levels = r.levels;
+    let t = take_apart(value, levels);
+    let s = scale(absolute(n));
+    let k = s.index;
+    let p = s.value;
+    if is_short(k) {
+        return put_plain(t, e, out);
+    }
+    let m = shorten_to(n / p, 5);
+    let mantissa = m.value;
+    let places = m.levels;
+    let u = take_apart(mantissa, places);
+    let x = exponent_text(k);
+    if is_preferred(
+        value,
+        text_length(u, e) + 1 + (21 - x.blanks),
+        text_length(t, e),
+    ) {
+        return put_scientific(u, e, x, out);
+    }
+    put_plain(t, e, out)
+}
+
 // Whether n has a label: a NaN compares with nothing.
 fn has_label(n: f64) -> bool
     ensures { λ r. ⌜ r ≡ printable n ⌝ }
@@ -326,10 +464,33 @@ impl FloatPrettyPrinter {
         if 20 < e {
             return Label::Refused(Refusal::TooManyDecimals);
         }
-        let eps = 1.0 / (power(h) as f64);
-        let r = find_minimal_repr(n, eps, h);
+        let r = shorten_to(n, h);
         let value = r.value;
         let levels = r.levels;
-        float_to_string(unsigned(take_apart(value, levels)), e, out)
+        put_plain(take_apart(value, levels), e, out)
+    }
+
+    // The scientific label of n, written to the start of out: 29 bytes are always enough.
+    pub fn print_scientific(self, n: f64, out: &mut [u8]) -> Label
+        ensures { λ r. ⌜ (tellLabel r, now (out .exit)) ≡ labelScientific n (self .«max_decimal») (self .«min_decimal») (now (out .entry)) ⌝ }
+    {
+        let most = self.max_decimal;
+        let least = self.min_decimal;
+        if !has_label(n) {
+            return Label::Refused(Refusal::NotPrintable);
+        }
+        if 10 < most {
+            return Label::Refused(Refusal::TooManyDecimals);
+        }
+        if 20 < least {
+            return Label::Refused(Refusal::TooManyDecimals);
+        }
+        if n == 0.0 {
+            return put_zero(out);
+        }
+        if absolute(n) < 1e-307 {
+            return Label::Refused(Refusal::TooSmall);
+        }
+        put_either(n, most, least, out)
     }
 }

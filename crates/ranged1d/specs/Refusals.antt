@@ -1,7 +1,7 @@
 -- 01 "Why a call stops": the number of each refusal. Assumes nothing.
 use Prim.Native.Nat.{ℕ}
 use Rattle.ranged1d.specs.declared.Refusal.{Refusal}
-use Rattle.ranged1d.specs.declared.Refusal.the-variants.{WholeNotAdmitted, LimitNotAdmitted, NoStep, NoSegments, TooFar, StepAgainstAxis, ListTooLong, NotMonotone, NanTarget, AboveI32, NotPrintable, TooManyDecimals, OutTooShort, NotARuler, UnknownTwist, TwistLost, RealAxisNotMarked, NotOnAxis, BelowI32, TooManyDigits, NotADecimal, BadWeek, BadMinute}
+use Rattle.ranged1d.specs.declared.Refusal.the-variants.{WholeNotAdmitted, LimitNotAdmitted, NoStep, NoSegments, TooFar, StepAgainstAxis, ListTooLong, NotMonotone, NanTarget, AboveI32, NotPrintable, TooManyDecimals, OutTooShort, NotARuler, UnknownTwist, TwistLost, RealAxisNotMarked, NotOnAxis, BelowI32, TooManyDigits, NotADecimal, BadWeek, BadMinute, TooSmall}
 
 abbrev pub numberOf : Refusal → ℕ
 -- a whole end, value, step or list entry that is not admitted
@@ -50,3 +50,5 @@ numberOf NotADecimal = 25
 numberOf BadWeek = 26
 -- 02 (l): a clock minute beyond the week
 numberOf BadMinute = 27
+-- 02 (n): a number of a scientific label that is smaller than the table's first power
+numberOf TooSmall = 28

@@ -36,6 +36,7 @@ pub enum Refusal {
     NotADecimal,
     BadWeek,
     BadMinute,
+    TooSmall,
 }
 
 // How many entries or marks were written to a lent list.
@@ -72,6 +73,7 @@ impl Refusal {
             Refusal::NotADecimal => 25,
             Refusal::BadWeek => 26,
             Refusal::BadMinute => 27,
+            Refusal::TooSmall => 28,
         }
     }
 }

@@ -20,7 +20,15 @@ fn ends_with(line: &[u8], text: &[u8]) -> bool {
     check::same(&line[at..], text)
 }
 
-fn printed(line: &[u8], numbers: &[u64], n: usize, out: &mut [u8]) -> bool
+// By the one call or the other.
+fn print(printer: FloatPrettyPrinter, scientific: bool, x: f64, out: &mut [u8]) -> Label {
+    if scientific {
+        return printer.print_scientific(x, out);
+    }
+    printer.print(x, out)
+}
+
+fn printed(line: &[u8], numbers: &[u64], n: usize, scientific: bool, out: &mut [u8]) -> bool
     requires { ⌜ n ≤ length (now numbers) ⌝ }
 {
     if n < 4 {
@@ -30,7 +38,7 @@ fn printed(line: &[u8], numbers: &[u64], n: usize, out: &mut [u8]) -> bool
         min_decimal: low_half(numbers[2]),
         max_decimal: low_half(numbers[1]),
     };
-    match printer.print(double(numbers[0]), out) {
+    match print(printer, scientific, double(numbers[0]), out) {
         Label::Refused(r) => same(numbers, n, 3, refused(r)),
         Label::Written(k) => {
             if n < 5 {
@@ -47,9 +55,9 @@ fn printed(line: &[u8], numbers: &[u64], n: usize, out: &mut [u8]) -> bool
     }
 }
 
-pub(crate) fn label(line: &[u8], numbers: &[u64], n: usize) -> bool
+pub(crate) fn label(line: &[u8], numbers: &[u64], n: usize, scientific: bool) -> bool
     requires { ⌜ n ≤ length (now numbers) ⌝ }
 {
     let mut out = [0u8; 38];
-    printed(line, numbers, n, &mut out)
+    printed(line, numbers, n, scientific, &mut out)
 }
