@@ -6,7 +6,7 @@
  *    0   answered: the answer stands where the pointers point;
  *   -1   none: there is no such value (only calls that say so);
  *   1..  refused: of the numbers that apply the first of 26, 27, 1, 2, 18, 3 to
- *        10, 19, 11, 12, 28, 17, 24, 25, 13 to 16, in this order.
+ *        9, 20 to 22, 10, 19, 11, 12, 28, 17, 24, 25, 13 to 16, in this order.
  *
  * Memory:
  *   - A list is a pointer and its length in entries. The pointer is valid even
@@ -15,7 +15,8 @@
  *   - Unless 0 is returned nothing is written, neither to a list nor through
  *     any other pointer.
  *   - On 0 a list is written from its first entry up to the count given back.
- *     All entries from there on keep their contents.
+ *     All entries from there on keep their contents. (A chart is no such list:
+ *     its calls say what they write.)
  *   - No call allocates or keeps a pointer after it has returned.
  *
  * Numbers:
@@ -59,6 +60,9 @@ enum {
     CULV_REAL_AXIS_NOT_MARKED = 17, /* the real axis, or its mark limit, has no marks */
     CULV_NOT_ON_AXIS = 18,        /* the needle lies off its axis, or the axis has no length */
     CULV_BELOW_I32 = 19,          /* the value is below -2147483647 */
+    CULV_NO_CHART_ENTRY = 20,     /* the pin is at no entry, or the list is too long for a chart */
+    CULV_COUNT_FULL = 21,         /* there are 65535 pins at the entry already */
+    CULV_COUNT_EMPTY = 22,        /* there is no pin at the entry */
     CULV_TOO_MANY_DIGITS = 24,    /* more than 6 digits are to be decimals */
     CULV_NOT_A_DECIMAL = 25,      /* the text is printed of no admitted number */
     CULV_BAD_WEEK = 26,           /* the windows are no running week */
@@ -69,6 +73,10 @@ enum {
 /* The most marks that culv_real_key_points gives: a list of so many always
  * suffices. */
 #define CULV_REAL_MARKS_MAX 2000
+
+/* How many counts a chart has: so many are to be lent, and a list of more
+ * entries has no chart. */
+#define CULV_CHART_COUNTS 1024
 
 /* ---- Axes of whole numbers and of indices ---- */
 
@@ -625,6 +633,63 @@ int32_t culv_seg_step_whole_key_points(int32_t a, int32_t b, int32_t d,
 int32_t culv_seg_step_real_key_points(double a, double b, double d,
                                       uint32_t m, double *out, size_t len,
                                       size_t *count);
+
+/* ---- Fault charts ---- */
+
+/*
+ * A chart counts pins at the entries of a stepped list, that of
+ * culv_step_whole_values: counts[k] is the number of pins at entry k. A pin
+ * counts at the entry that culv_step_whole_index_of finds for it with method 2,
+ * the greatest one that is not above the pin.
+ *
+ * A chart has CULV_CHART_COUNTS counts, however few entries its list has; the
+ * caller keeps them, and lends them with the same a, b and d every time. len is
+ * the number of counts lent; those from counts[CULV_CHART_COUNTS] on are neither
+ * read nor written. No call writes a count past the list but culv_chart_clear,
+ * which makes it zero.
+ *
+ * After any pins set and pulled on a chart that was cleared, each count is the
+ * number of pins set at its entry less that of pins pulled there, those that
+ * were refused left out. Two pins at different entries may be set or pulled in
+ * either order. A pin that was set can be pulled, and the chart is as before.
+ *
+ * The refusals mean:
+ *    1: a, b, d or pin is not admitted;
+ *    6, 7: as for stepped lists;
+ *   20: the list has more than CULV_CHART_COUNTS entries, or none of them is
+ *       that of the pin;
+ *   21: the count is 65535;
+ *   22: the count is 0;
+ *   13: len is less than CULV_CHART_COUNTS, which holds no chart: 21 and 22 are
+ *       not met there.
+ */
+
+/*
+ * Makes the counts an empty chart: the first CULV_CHART_COUNTS become 0.
+ *
+ * 0: that is done.
+ * Refused: 1, 6, 7, 20 (too many entries), 13.
+ */
+int32_t culv_chart_clear(int32_t a, int32_t b, int32_t d,
+                         uint16_t *counts, size_t len);
+
+/*
+ * Sets a pin: the count at its entry becomes one more. Every other count stays.
+ *
+ * 0: that is done.
+ * Refused: 1, 6, 7, 20, 21, 13.
+ */
+int32_t culv_chart_set(int32_t a, int32_t b, int32_t d, int32_t pin,
+                       uint16_t *counts, size_t len);
+
+/*
+ * Pulls a pin: the count at its entry becomes one less. Every other count stays.
+ *
+ * 0: that is done.
+ * Refused: 1, 6, 7, 20, 22, 13.
+ */
+int32_t culv_chart_pull(int32_t a, int32_t b, int32_t d, int32_t pin,
+                        uint16_t *counts, size_t len);
 
 /* ---- Rulers as bytes ---- */
 

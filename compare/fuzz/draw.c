@@ -257,6 +257,40 @@ void draw_real_steps(double *a, double *b, double *d)
     note_real("d", *d);
 }
 
+void draw_chart_steps(int32_t *a, int32_t *b, int32_t *d)
+{
+    if (below(4) == 0) {
+        draw_whole_steps(a, b, d);
+        return;
+    }
+    int64_t n = below(2) ? within(1022, 1027) : within(0, 40), step = 1 + (int64_t)below(below(2) ? 3 : 400000);
+    int64_t sign = below(2) ? 1 : -1, length = n * step - (int64_t)below((uint64_t)step);
+    *a = (int32_t)within(-1000000, 1000000);
+    *b = held(*a + sign * length);
+    *d = held(sign * step);
+    note_whole("a", *a);
+    note_whole("b", *b);
+    note_whole("d", *d);
+}
+
+int32_t draw_pin(int32_t a, int32_t d)
+{
+    if (below(8) == 0)
+        return draw_whole("pin");
+    int32_t pin = held(a + within(-1, below(2) ? 1026 : 4) * d + within(-1, 1));
+    note_whole("pin", pin);
+    return pin;
+}
+
+void draw_counts(uint16_t *counts, size_t len)
+{
+    uint64_t kind = below(4);
+    for (size_t k = 0; k < len; k++) {
+        uint16_t little = (uint16_t)(kind == 3 ? bits() : k % 3);
+        counts[k] = kind == 1 ? UINT16_MAX - little : little;
+    }
+}
+
 size_t draw_length(uint64_t count, size_t most)
 {
     uint64_t len = below(3) ? count + below(3) - 1 : below(40);

@@ -31,6 +31,11 @@ void draw_real_ends(double *a, double *b);
 void draw_real_axis(double *a, double *b, uint32_t *m);
 void draw_whole_steps(int32_t *a, int32_t *b, int32_t *d);
 void draw_real_steps(double *a, double *b, double *d);
+/* About as many entries as a chart has counts, as a rule, and a pin about one of them. */
+void draw_chart_steps(int32_t *a, int32_t *b, int32_t *d);
+int32_t draw_pin(int32_t a, int32_t d);
+/* Counts that are near nothing, near full, or anything. */
+void draw_counts(uint16_t *counts, size_t len);
 
 /* A length of a lent list, about the count or not, but not above what can be lent. */
 size_t draw_length(uint64_t count, size_t most);

@@ -166,6 +166,19 @@ static void bytes_wrapped(void)
     give_back(out, len, 1);
 }
 
+/* Cut to 32 bits, the length would be 0. */
+static void counts_wrapped(void)
+{
+    size_t len = WRAPPED;
+    uint16_t *counts = zeros(len, sizeof *counts);
+    begin("chart_set");
+    told("chart_set, 4294967296 counts lent", CALLED_ANEW(counts[1023] = 0, culv_chart_set(0, 1024, 1, 1023, counts, len)), 0);
+    demand(counts[1023] == 1 && untouched(counts, 2 * 1024, len * sizeof *counts), "another count");
+    TOLD("chart_clear, 4294967296 counts lent", culv_chart_clear(0, 1024, 1, counts, len), 0);
+    demand(untouched(counts, 0, len * sizeof *counts), "another count");
+    give_back(counts, len, sizeof *counts);
+}
+
 void huge(void)
 {
     search_millions();
@@ -175,4 +188,5 @@ void huge(void)
     marks_wrapped();
     rulers_by_millions();
     bytes_wrapped();
+    counts_wrapped();
 }

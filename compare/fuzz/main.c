@@ -12,7 +12,7 @@
 #include "stream.h"
 #include "trial.h"
 
-enum { ALL = AXIS_COUNT + 2 * STEP_COUNT + OTHER_COUNT };
+enum { ALL = AXIS_COUNT + 2 * STEP_COUNT + OTHER_COUNT + CHART_COUNT };
 _Static_assert((int)ALL == (int)CALLS, "another number of functions");
 
 static struct call call_at(size_t at)
@@ -23,7 +23,10 @@ static struct call call_at(size_t at)
     if (at < STEP_COUNT)
         return WHOLE_STEP_CALLS[at];
     at -= STEP_COUNT;
-    return at < STEP_COUNT ? REAL_STEP_CALLS[at] : OTHER_CALLS[at - STEP_COUNT];
+    if (at < STEP_COUNT)
+        return REAL_STEP_CALLS[at];
+    at -= STEP_COUNT;
+    return at < OTHER_COUNT ? OTHER_CALLS[at] : CHART_CALLS[at - OTHER_COUNT];
 }
 
 static void call_all(uint64_t count)

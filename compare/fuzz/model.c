@@ -157,6 +157,20 @@ struct list model_list(struct steps axis, double v)
     return list;
 }
 
+int64_t model_entry(struct steps axis, uint64_t count, double v)
+{
+    int64_t found = -1;
+    double greatest = -INFINITY;
+    for (uint64_t k = 0; k < count; k++) {
+        double x = axis.a + (double)k * axis.d;
+        if (x <= v && x > greatest) {
+            found = (int64_t)k;
+            greatest = x;
+        }
+    }
+    return found;
+}
+
 int32_t method_refused(uint32_t method)
 {
     return method > 3 ? 1 : 0;

@@ -53,6 +53,9 @@ struct list {
 };
 struct list model_list(struct steps axis, double v);
 
+/* The index of the greatest entry that is not above v, of a list with so many, or -1. */
+int64_t model_entry(struct steps axis, uint64_t count, double v);
+
 /* Whether the list has entries, be they refused with 6 or 7 or not. */
 bool model_has_entries(struct steps axis);
 

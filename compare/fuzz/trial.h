@@ -6,7 +6,7 @@
 #include <stdint.h>
 
 /* How many functions are tried. */
-enum { CALLS = 62 };
+enum { CALLS = 65 };
 
 /* Begins a trial of the call with this name: nothing is lent and nothing noted. */
 void trial_begin(size_t call, const char *name);
@@ -22,7 +22,7 @@ void *lend(size_t entries, size_t size);
 /* Lends memory for one result, which is written if the call answers. */
 void *lend_result(size_t size);
 
-/* Lends what `from` holds, to be read only. */
+/* Lends what `from` holds, to be read only unless may_write says otherwise. */
 const void *lend_copy(const char *name, const void *from, size_t entries, size_t size);
 
 /* The call may write so many bytes, from the first one on, to what was lent. */
@@ -40,8 +40,12 @@ void call_ended(int32_t code);
 int seems_slowest(void);
 void call_repeated(int32_t code);
 int32_t call_done(void);
-#define CALLED(call) \
-    (call_begins(), call_ended(call), seems_slowest() ? (call_begins(), call_repeated(call)) : (void)0, call_done())
+#define CALLED(call) CALLED_ANEW((void)0, call)
+
+/* The same for a call that changes what it was lent, which is put back before the second time. */
+#define CALLED_ANEW(put_back, call) \
+    (call_begins(), call_ended(call), seems_slowest() ? (put_back, call_begins(), call_repeated(call)) : (void)0, \
+     call_done())
 
 /* What the last call took, in milliseconds. */
 double last_took(void);

@@ -36,6 +36,12 @@ impl Fill for u64 {
     }
 }
 
+impl Fill for u16 {
+    fn fill(at: usize) -> u16 {
+        usize::fill(at) as u16
+    }
+}
+
 impl Fill for u8 {
     fn fill(at: usize) -> u8 {
         usize::fill(at) as u8

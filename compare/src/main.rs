@@ -27,6 +27,8 @@ mod written;
 #[cfg(feature = "library")]
 mod beside;
 #[cfg(feature = "library")]
+mod charts;
+#[cfg(feature = "library")]
 mod fixed;
 #[cfg(feature = "library")]
 mod lends;
@@ -67,6 +69,7 @@ const FAMILIES: &[Family] = &[
     family!(linspace),
     family!(labels),
     family!(segmented),
+    family!(charts),
     family!(fixed),
     family!(week),
 ];

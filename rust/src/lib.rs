@@ -2,7 +2,8 @@
 //!
 //! An axis has two ends, and is placed on a film between two limits, which are pixels. The calls
 //! choose marks along an axis, place values on the film, read pixels back, step along an axis,
-//! search lists, cut an axis into segments, write and read rulers as bytes, and print labels.
+//! search lists, cut an axis into segments, count pins at the entries of a list, write and read
+//! rulers as bytes, and print labels.
 //!
 //! | type | stands for |
 //! |---|---|
@@ -11,6 +12,7 @@
 //! | [`RangedCoordusize`] | an axis of indices |
 //! | [`Linspacei32`], [`Linspacef64`] | an axis by a step, and the list of its entries |
 //! | [`SegmentedCoord`] | the segments over a whole axis or one by a step |
+//! | [`Chart`] | the pins at the entries of an axis by a step |
 //! | [`FloatPrettyPrinter`] | the form of a label |
 //!
 //! Rulers are in [`ruler`], searches of any list in [`search`], whole numbers with decimals in
@@ -49,8 +51,8 @@
 //!
 //! # Refusals
 //!
-//! Each call names those that it can give. If several apply it is the first in the order 1 to 12,
-//! 17, 13 to 16.
+//! Each call names those that it can give. If several apply it is the first in the order 1, 2, 18,
+//! 3 to 9, 20 to 22, 10 to 12, 17, 13 to 16.
 //!
 //! | number | refusal | when |
 //! |---|---|---|
@@ -66,13 +68,16 @@
 //! | 10 | [`AboveI32`](Refusal::AboveI32) | the index is no larger than `i32::MAX`, but the value at it is |
 //! | 11 | [`NotPrintable`](Refusal::NotPrintable) | the label of NaN, an infinity, or a number of size 2^53 or more is asked for |
 //! | 12 | [`TooManyDecimals`](Refusal::TooManyDecimals) | more than 10 decimals are allowed, or more than 20 asked for |
-//! | 13 | [`OutTooShort`](Refusal::OutTooShort) | the marks, the ruler or the label does not fit what is lent |
+//! | 13 | [`OutTooShort`](Refusal::OutTooShort) | the marks, the ruler, the label or the chart does not fit what is lent |
 //! | 14 | [`NotARuler`](Refusal::NotARuler) | bytes to be read or moved are no ruler, or none of the kind that is moved |
 //! | 15 | [`UnknownTwist`](Refusal::UnknownTwist) | a twist is neither 0 nor 1; [`ruler::Twist`] has no other |
 //! | 16 | [`TwistLost`](Refusal::TwistLost) | a ruler with the twist Z is to move back |
 //! | 17 | [`RealAxisNotMarked`](Refusal::RealAxisNotMarked) | marks of a real axis with an end that is NaN or beyond ±1,000,000, with ends that differ by less than 0.001 yet not by less than `f64::EPSILON`, or for a mark limit above 1,000 |
 //! | 18 | [`NotOnAxis`](Refusal::NotOnAxis) | the exact place of a needle off its axis, or on an axis with equal ends, is asked for |
 //! | 19 | [`BelowI32`](Refusal::BelowI32) | the value at an index is below −2,147,483,647 |
+//! | 20 | [`NoChartEntry`](Refusal::NoChartEntry) | a pin is at no entry of its chart, or a chart's list has more than 1,024 entries |
+//! | 21 | [`CountFull`](Refusal::CountFull) | a pin is set where 65,535 are counted |
+//! | 22 | [`CountEmpty`](Refusal::CountEmpty) | a pin is pulled where none is counted |
 //! | 24 | [`TooManyDigits`](Refusal::TooManyDigits) | more than 6 digits of a whole number are to be decimals |
 //! | 25 | [`NotADecimal`](Refusal::NotADecimal) | a text is printed of no admitted number with so many decimals |
 //! | 26 | [`BadWeek`](Refusal::BadWeek) | windows are empty, touch, descend, end beyond minute 10,080, or are more than 32 |
@@ -88,6 +93,7 @@
 
 #![deny(missing_docs)]
 
+pub mod chart;
 pub mod counts;
 pub mod fixed;
 pub mod label;
@@ -102,6 +108,7 @@ pub mod search;
 pub mod segmented;
 pub mod week;
 
+pub use chart::Chart;
 pub use label::FloatPrettyPrinter;
 pub use limit::Limit;
 pub use linspace::{Linspacef64, Linspacei32};

@@ -8,7 +8,8 @@ use Rattle.search.specs.declared.RoundingMethod.{RoundingMethod}
 use Rattle.culvraod.specs.declared.Method.{Method}
 use Rattle.culvraod.specs.declared.Method.the-variants as method-is
 use Rattle.culvraod.specs.Search.{methodOf, byMethod}
-use Rattle.culvraod.specs.Boundary.{single}
+use Rattle.culvraod.specs.Boundary.{code, single}
+use Rattle.culvraod.specs.Chart.{chartC}
 use Rattle.culvraod.specs.Numeric.{marksC, keyPointsC}
 use Rattle.culvraod.specs.Steps.{listC}
 
@@ -51,3 +52,7 @@ pub marks-handed : {A : Type 0} (step : A) (count : ℕ) {r : ℤ} {s : A} {n : 
     → (r, held, s, n) ≡ keyPointsC rule step count
 marks-handed {A} step count {held = held} e d =
     passed-on (λ (x : Answer (A × ℕ) × List A). keyPointsC x step count) (ap (λ (p : ℤ × A × ℕ). (p .0, held, p .1, p .2)) e) d
+
+-- a chart, of which nothing is told but whether it is done
+pub chart-cross : {r : ℤ} {t : Answer Unit} {held : List ℕ} {rule : Answer Unit × List ℕ} → r ≡ code t → (t, held) ≡ rule → (r, held) ≡ chartC rule
+chart-cross {held = held} e d = passed-on chartC (ap (λ (z : ℤ). (z, held)) e) d

@@ -1,8 +1,14 @@
 -- The reasons of every rule are listed by rising places: computed, whatever the arguments are. Assumes nothing.
+use Prim.Native.Nat.{ℕ}
+use mathlib.Core.List.{List}
+use lib.IntN.{ℤ}
 use Rattle.ranged1d.specs.Answer.{rank}
 use Rattle.linspace.specs.List.{Kind}
 use Rattle.segmented.specs.Segments.{Axis}
-use Rattle.culvraod.specs.Lowest.{StepsRise, SegmentsRise, LowestFirst}
+use Rattle.chart.specs.Chart.{pinReasons}
+use Rattle.chart.specs.declared.Deed.{Deed}
+use Rattle.chart.specs.declared.Deed.the-variants.{Setting, Pulling}
+use Rattle.culvraod.specs.Lowest.{Rising, StepsRise, SegmentsRise, LowestFirst}
 
 steps-rise : {A : Type 0} (kind : Kind A) (a b d : A) → StepsRise kind a b d
 unfolding rank
@@ -11,6 +17,11 @@ steps-rise kind a b d = record { values = λ old. tt; size = tt; index-of = λ v
 segments-rise : {A : Type 0} (axis : Axis A) → SegmentsRise axis
 unfolding rank
 segments-rise axis = record { size = tt; index-of = λ find s. tt; map = λ find s limit. tt; unmap = λ x limit. tt; key-points = λ m old. tt }
+
+chart-pin-rises : (a b d : ℤ) (deed : Deed) (pin : ℤ) (old : List ℕ) → Rising (pinReasons a b d deed pin old)
+unfolding rank
+chart-pin-rises a b d Setting pin old = tt
+chart-pin-rises a b d Pulling pin old = tt
 
 pub lowest-first : LowestFirst
 unfolding rank
@@ -29,6 +40,9 @@ lowest-first = record {
   search-real = λ l t method. tt;
   stepped = steps-rise;
   segmented = segments-rise;
+  chart-clear = λ a b d old. tt;
+  chart-entry = λ a b d pin. tt;
+  chart-pin = chart-pin-rises;
   ruler-plan = λ a b limit m. tt;
   ruler-write = λ f a b limit m old. tt;
   ruler-twisted = λ c t a b limit m old. tt;

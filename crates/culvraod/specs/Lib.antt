@@ -1,4 +1,5 @@
 pub mod Boundary
+pub mod Chart
 pub mod Lowest
 pub mod Numeric
 pub mod Ruler

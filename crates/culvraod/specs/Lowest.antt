@@ -20,6 +20,8 @@ use Rattle.search.specs.declared.RoundingMethod.{RoundingMethod}
 use Rattle.search.specs.Lists.{wholeSearchReasons, realSearchReasons}
 use Rattle.linspace.specs.List.{Kind}
 use Rattle.linspace.specs.Calls as steps
+use Rattle.chart.specs.Chart.{clearReasons, entryReasons, pinReasons}
+use Rattle.chart.specs.declared.Deed.{Deed}
 use Rattle.segmented.specs.Values.{Segment}
 use Rattle.segmented.specs.Segments.{Axis, Finder}
 use Rattle.segmented.specs.Segments as segments
@@ -64,6 +66,9 @@ pub record LowestFirst : Type 1 where
   pub search-real : (l : List Float) (t : Float) (method : RoundingMethod) → Rising (realSearchReasons l t method)
   pub stepped : {A : Type 0} (kind : Kind A) (a b d : A) → StepsRise kind a b d
   pub segmented : {A : Type 0} (axis : Axis A) → SegmentsRise axis
+  pub chart-clear : (a b d : ℤ) (old : List ℕ) → Rising (clearReasons a b d old)
+  pub chart-entry : (a b d pin : ℤ) → Rising (entryReasons a b d pin)
+  pub chart-pin : (a b d : ℤ) (deed : Deed) (pin : ℤ) (old : List ℕ) → Rising (pinReasons a b d deed pin old)
   pub ruler-plan : (a b : ℤ) (limit : Limit) (m : ℕ) → Rising (noRuler a b limit m)
   pub ruler-write : (f : Form) (a b : ℤ) (limit : Limit) (m : ℕ) (old : List ℕ) → Rising (writeReasonsBy f a b limit m old)
   pub ruler-twisted : (c : Choice) (t : ℕ) (a b : ℤ) (limit : Limit) (m : ℕ) (old : List ℕ) → Rising (twistedReasons c t a b limit m old)

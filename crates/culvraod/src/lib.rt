@@ -16,6 +16,8 @@ ghost use Rattle.real.specs.Reading.{tellReading, realReading};
 ghost use Rattle.keypoints.specs.Marks.{realKeyPoints};
 ghost use Rattle.linspace.specs.List.{whole, real};
 ghost use Rattle.linspace.specs.Calls.{stepValues, stepSize, stepFromIndex, stepIndexOf, stepPlace, stepReading, stepKeyPoints};
+ghost use Rattle.chart.specs.Chart.{tellCharted, chartClear, chartSet, chartPull};
+ghost use Rattle.culvraod.specs.Chart.{chartC};
 ghost use Rattle.culvraod.specs.Steps.{listC};
 ghost use Rattle.float.specs.Calls.{tellLabel, labelPrint, labelScientific};
 ghost use Rattle.search.specs.Lists.{wholeSearch, realSearch};
@@ -24,8 +26,9 @@ ghost use Rattle.fixed.specs.Fixed.{tellPrinted, tellNumber, fixedPrint, fixedR
 ghost use Rattle.week.specs.Week.{tellMinute, runningMinute, clockMinute};
 ghost use Rattle.ruler.specs.Rule.{tellWrote, tellMoved, rulerWrite, rulerWriteInside, twistedWrite, rulerUpgrade, rulerDowngrade, rulerOf, rulerRead, recordIn, labelIn, sideOf};
 ghost use Rattle.culvraod.specs.Ruler.{readC, readKindC, partC, pairC};
-ghost use Rattle.culvraod.specs.Boundary.{single, double};
+ghost use Rattle.culvraod.specs.Boundary.{code, single, double};
 ghost use Rattle.culvraod.specs.Numeric.{marksC, keyPointsC};
+use chart::Charted;
 use discrete::Index;
 use fixed::Number;
 use fixed::Printed;
@@ -244,6 +247,15 @@ fn give_minute(x: Minute, minute: &mut u32) -> i32
         }
         Minute::Nothing => -1,
         Minute::Refused(r) => refused(r),
+    }
+}
+
+fn give_charted(x: Charted) -> i32
+    ensures { λ r. ⌜ r ≡ code (tellCharted x) ⌝ }
+{
+    match x {
+        Charted::Done => 0,
+        Charted::Refused(r) => refused(r),
     }
 }
 
@@ -815,6 +827,39 @@ pub extern "C" fn culv_step_real_key_points(
         step: d,
     };
     give_listed(reals.key_points(m, out), count)
+}
+
+#[no_mangle]
+pub extern "C" fn culv_chart_clear(a: i32, b: i32, d: i32, counts: &mut [u16]) -> i32
+    ensures { λ r. ⌜ (r, now (counts .exit)) ≡ chartC (chartClear a b d (now (counts .entry))) ⌝ }
+{
+    let wholes = Linspacei32 {
+        inner: RangedCoordi32(a, b),
+        step: d,
+    };
+    give_charted(chart::clear(wholes, counts))
+}
+
+#[no_mangle]
+pub extern "C" fn culv_chart_set(a: i32, b: i32, d: i32, pin: i32, counts: &mut [u16]) -> i32
+    ensures { λ r. ⌜ (r, now (counts .exit)) ≡ chartC (chartSet a b d pin (now (counts .entry))) ⌝ }
+{
+    let wholes = Linspacei32 {
+        inner: RangedCoordi32(a, b),
+        step: d,
+    };
+    give_charted(chart::set(wholes, pin, counts))
+}
+
+#[no_mangle]
+pub extern "C" fn culv_chart_pull(a: i32, b: i32, d: i32, pin: i32, counts: &mut [u16]) -> i32
+    ensures { λ r. ⌜ (r, now (counts .exit)) ≡ chartC (chartPull a b d pin (now (counts .entry))) ⌝ }
+{
+    let wholes = Linspacei32 {
+        inner: RangedCoordi32(a, b),
+        step: d,
+    };
+    give_charted(chart::pull(wholes, pin, counts))
 }
 
 #[no_mangle]

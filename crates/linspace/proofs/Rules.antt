@@ -8,7 +8,7 @@ use borrow.Author.Tests.{lt-ltb, le-ltb, ltb-false}
 use lib.Dec.{ltb}
 use lib.IntN.{ℤ}
 use lib.ListN.{length, drop}
-use Rattle.ranged1d.specs.Answer.{Answer, given, refused, Reason, _when_, lowest, written, andThen, listWritten}
+use Rattle.ranged1d.specs.Answer.{Answer, given, none, refused, Reason, _when_, lowest, written, andThen, listWritten}
 use Rattle.ranged1d.specs.Admitted.{readingAdmitted}
 use Rattle.ranged1d.specs.declared.Limit.{Limit}
 use Rattle.ranged1d.proofs.Answers.{given-is}
@@ -18,7 +18,7 @@ use Rattle.real.specs.Place.{number, realPlaceReasons}
 use Rattle.search.specs.declared.RoundingMethod.{RoundingMethod}
 use Rattle.search.specs.Search as rule
 use Rattle.linspace.specs.List.{Kind, most, stepped, against, tooLong, axisAdmitted}
-use Rattle.linspace.specs.Calls.{nth, nthOf, unlisted, stepValues, stepSize, stepFromIndex, stepIndexOf, stepSpot, stepPlace, stepReading, stepMarks, stepKeyPoints, unserved}
+use Rattle.linspace.specs.Calls.{nth, nthOf, unlisted, stepValues, stepSize, stepFromIndex, stepIndexOf, among, stepSpot, stepPlace, stepReading, stepMarks, stepKeyPoints, unserved}
 
 -- an answer once the entries are counted
 abbrev pub onceListed : {B : Type 0} → Answer ℕ → Answer B → Answer B
@@ -27,6 +27,10 @@ onceListed counts r = andThen counts (λ n. r)
 -- a place that is answered once the entries are counted
 abbrev pub placeListed : Answer ℤ → Answer ℕ → Answer ℤ
 placeListed place counts = andThen place (λ z. onceListed counts (given z))
+
+-- an index without the number of entries
+abbrev pub indexAlone : Answer (ℕ × ℕ) → Answer ℕ
+indexAlone r = andThen r (λ e. given (e .0))
 
 -- 7 for one reason or another
 seven : (t u : Bool) (r : Answer ℕ) → lowest (7 when (t || u) ∷ []) r ≡ lowest (7 when t ∷ 7 when u ∷ []) r
@@ -59,6 +63,12 @@ module _ {A : Type 0} (kind : Kind A) (a b d : A) where
       let g = given-tests (unlisted kind a b d) (given (length (stepped kind a b d))) h in
       let s = given-is (g .1) in
       record { onward = g .0 .0; short = g .0 .1 .0; all = sym s; few = omega (arith, s, ltb-false most (length (stepped kind a b d)) (g .0 .1 .0)) }
+
+  -- an index among the entries is that index
+  pub index-alone : (found : Answer ℕ) → indexAlone (among kind a b d found) ≡ found
+  index-alone (given k) = refl
+  index-alone none = refl
+  index-alone (refused n) = refl
 
   -- an answer with 6 and 7 in front of it, by the count
   once-listed : {B : Type 0} {s : Answer ℕ} → counts ≡ s → (r : Answer B) → lowest (unlisted kind a b d) r ≡ onceListed s r

@@ -7,7 +7,8 @@ use mathlib.Core.List.{List, [], _∷_, _++_, map}
 use lib.Dec.{ltb, eqb}
 use lib.IntN.{ℤ, _-ℤ_}
 use lib.ListN.{length, getD}
-use Rattle.ranged1d.specs.Answer.{Answer, given, none, Reason, _when_, lowest, written, andThen}
+use Rattle.ranged1d.specs.Answer.{Answer, given, none, refused, Reason, _when_, lowest, written, andThen}
+use Rattle.ranged1d.specs.Refusals.{numberOf}
 use Rattle.ranged1d.specs.Admitted.{readingAdmitted}
 use Rattle.ranged1d.specs.declared.Limit.{Limit}
 use Rattle.rounding.specs.declared.Whole.{Whole}
@@ -18,6 +19,8 @@ use Rattle.search.specs.Search.{search}
 use Rattle.search.specs.Lists.{nanTarget}
 use Rattle.search.specs.declared.RoundingMethod.{RoundingMethod}
 use Rattle.linspace.specs.List.{Kind, stepped, against, tooLong, axisAdmitted}
+use Rattle.linspace.specs.declared.Among.{Among}
+use Rattle.linspace.specs.declared.Among.the-variants as among-is
 
 -- ---- lists: the entry at an index, none past the end; whether there is an entry; the entries at the marks of 0..count − 1
 abbrev pub nth : {A : Type 0} → List A → ℕ → Answer A
@@ -31,6 +34,12 @@ hasEntries l = ltb 0 (length l)
 -- the value at an index that a pixel was read as, if it was
 abbrev pub nthOf : {A : Type 0} → List A → Answer ℕ → Answer A
 nthOf l r = andThen r (nth l)
+
+-- an index and the number of entries, as they are told
+abbrev pub tellAmong : Among → Answer (ℕ × ℕ)
+tellAmong (among-is.At k n) = given (k, n)
+tellAmong among-is.Nothing = none
+tellAmong (among-is.Refused r) = refused (numberOf r)
 
 unfoldable pub marksOf : {A : Type 0} → A → List A → ℕ → List A
 marksOf x l m = cond (hasEntries l) (map (λ k. getD l k x) (indexMarks 0 (length l - 1) m)) []
@@ -71,6 +80,13 @@ module _ {A : Type 0} (kind : Kind A) (a b d : A) where
 
   unfoldable pub stepIndexOf : A → RoundingMethod → Answer ℕ
   stepIndexOf v method = lowest (stepIndexReasons v method) (search (kind .numbers) v method (stepped kind a b d))
+
+  -- ---- `index_among`: that index, and beside it the number of entries
+  abbrev pub among : Answer ℕ → Answer (ℕ × ℕ)
+  among found = andThen found (λ k. given (k, length (stepped kind a b d)))
+
+  abbrev pub stepIndexAmong : A → RoundingMethod → Answer (ℕ × ℕ)
+  stepIndexAmong v method = among (stepIndexOf v method)
 
   -- ---- `map`: the place of v, by the ends alone; 2 and 5 as on a real axis, before 6 and 7
   abbrev pub stepSpot : A → Limit → Whole

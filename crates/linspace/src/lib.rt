@@ -6,6 +6,7 @@ mod wholes;
 
 use numeric::RangedCoordf64;
 use numeric::RangedCoordi32;
+use ranged1d::Refusal;
 
 // A whole axis by a step.
 pub struct Linspacei32 {
@@ -17,4 +18,11 @@ pub struct Linspacei32 {
 pub struct Linspacef64 {
     pub inner: RangedCoordf64,
     pub step: f64,
+}
+
+// The index of an entry, and how many entries there are.
+pub enum Among {
+    At(u64, u64),
+    Nothing,
+    Refused(Refusal),
 }

@@ -15,8 +15,9 @@ ghost use Rattle.numeric.specs.Whole.{tellCount, tellValue};
 ghost use Rattle.real.specs.Place.{tellPlace};
 ghost use Rattle.search.specs.Search.{search, wholes};
 ghost use Rattle.linspace.specs.List.{whole, stepped, against, tooLong, axisAdmitted};
-ghost use Rattle.linspace.specs.Calls.{nth, hasEntries, marksOf, stepValues, stepSize, stepFromIndex, stepIndexOf, stepPlace, stepReading, stepKeyPoints, unserved};
+ghost use Rattle.linspace.specs.Calls.{nth, hasEntries, marksOf, tellAmong, stepValues, stepSize, stepFromIndex, stepIndexOf, stepIndexAmong, stepPlace, stepReading, stepKeyPoints, unserved};
 ghost use Rattle.linspace.specs.WholeSteps.{wholeCount, past, wholePosition, Lies, Known};
+use crate::Among;
 use crate::Linspacei32;
 use discrete::Index;
 use numeric::Count;
@@ -324,20 +325,35 @@ impl Linspacei32 {
         }
     }
 
+    // The index of v by the search, and the number of entries, which is worked out once for both.
+    pub fn index_among(self, v: i32, method: RoundingMethod) -> Among
+        ensures { λ r. ⌜ tellAmong r ≡ stepIndexAmong whole (self .inner .0) (self .inner .1) (self .step) v method ⌝ }
+    {
+        if !self.admitted() {
+            return Among::Refused(Refusal::WholeNotAdmitted);
+        }
+        if !ranged1d::whole_admitted(v) {
+            return Among::Refused(Refusal::WholeNotAdmitted);
+        }
+        let s = self.steps();
+        match counted(s) {
+            Count::Refused(r) => Among::Refused(r),
+            Count::Of(n) => match find(s, n as u32, v, method) {
+                Index::Refused(r) => Among::Refused(r),
+                Index::Nothing => Among::Nothing,
+                Index::At(k) => Among::At(k, n),
+            },
+        }
+    }
+
     // The index of v by the search.
     pub fn index_of(self, v: i32, method: RoundingMethod) -> Index
         ensures { λ r. ⌜ tellIndex r ≡ stepIndexOf whole (self .inner .0) (self .inner .1) (self .step) v method ⌝ }
     {
-        if !self.admitted() {
-            return Index::Refused(Refusal::WholeNotAdmitted);
-        }
-        if !ranged1d::whole_admitted(v) {
-            return Index::Refused(Refusal::WholeNotAdmitted);
-        }
-        let s = self.steps();
-        match counted(s) {
-            Count::Refused(r) => Index::Refused(r),
-            Count::Of(n) => find(s, n as u32, v, method),
+        match self.index_among(v, method) {
+            Among::Refused(r) => Index::Refused(r),
+            Among::Nothing => Index::Nothing,
+            Among::At(k, _) => Index::At(k),
         }
     }
 

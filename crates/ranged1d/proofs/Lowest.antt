@@ -10,7 +10,7 @@ use native.Mathlib.Omega.{arith}
 use borrow.Author.Tests.{not-true}
 use lib.Dec.{T, ltb, ltb→lt}
 use mir.Facts.{and-yes}
-use Rattle.ranged1d.specs.Answer.{Answer, given, refused, Reason, _when_, lowest, rank, rising, andThen, noneOf}
+use Rattle.ranged1d.specs.Answer.{Answer, given, none, refused, Reason, _when_, lowest, rank, rising, andThen, noneOf}
 use Rattle.ranged1d.proofs.Bools.{both-true}
 use Rattle.ranged1d.proofs.Answers.{not-both, one-refusal}
 
@@ -74,6 +74,11 @@ module _ {A : Type 0} where
   pub last-same : (rs : List Reason) (n : ℕ) (t u : Bool) (x : Answer A) → (noneOf rs ≡ true → t ≡ u) → lowest (rs ++ (n when t ∷ [])) x ≡ lowest (rs ++ (n when u ∷ [])) x
   last-same rs n t u x h = next-same rs n t u [] x h
 
+  -- reasons that do not apply decide nothing
+  pub passed-over : (rs more : List Reason) (a : Answer A) → NoneOf rs → lowest (rs ++ more) a ≡ lowest more a
+  passed-over [] more a t = refl
+  passed-over (r ∷ rs) more a t = rw (t .0) (passed-over rs more a (t .1))
+
   -- there is an answer, or a refusal
   pub either : (x : A) (rs : List Reason) → (lowest rs (given x) ≡ given x) ⊎ ((n : ℕ) × (lowest rs (given x) ≡ refused n))
   either x [] = inl refl
@@ -100,5 +105,20 @@ module _ {A B : Type 0} where
   lowest-then (r ∷ rs) a f = go (r .applies) (lowest-then rs a f)
     where
       go : (t : Bool) → andThen (lowest rs a) f ≡ lowest rs (andThen a f) → andThen (cond t (refused (r .number)) (lowest rs a)) f ≡ cond t (refused (r .number)) (lowest rs (andThen a f))
+      go true e = refl
+      go false e = e
+
+  -- an answer, unless what is asked before it is refused
+  abbrev pub unlessRefused : Answer A → Answer B → Answer B
+  unlessRefused (given x) b = b
+  unlessRefused none b = b
+  unlessRefused (refused n) b = refused n
+
+  -- reasons before an answer that is itself no refusal stand before another answer just so
+  pub lowest-unless : (rs : List Reason) (a : Answer A) (b : Answer B) → unlessRefused a b ≡ b → unlessRefused (lowest rs a) b ≡ lowest rs b
+  lowest-unless [] a b h = h
+  lowest-unless (r ∷ rs) a b h = go (r .applies) (lowest-unless rs a b h)
+    where
+      go : (t : Bool) → unlessRefused (lowest rs a) b ≡ lowest rs b → unlessRefused (cond t (refused (r .number)) (lowest rs a)) b ≡ cond t (refused (r .number)) (lowest rs b)
       go true e = refl
       go false e = e

@@ -1,7 +1,7 @@
 -- 01 "Why a call stops": the number of each refusal. Assumes nothing.
 use Prim.Native.Nat.{ℕ}
 use Rattle.ranged1d.specs.declared.Refusal.{Refusal}
-use Rattle.ranged1d.specs.declared.Refusal.the-variants.{WholeNotAdmitted, LimitNotAdmitted, NoStep, NoSegments, TooFar, StepAgainstAxis, ListTooLong, NotMonotone, NanTarget, AboveI32, NotPrintable, TooManyDecimals, OutTooShort, NotARuler, UnknownTwist, TwistLost, RealAxisNotMarked, NotOnAxis, BelowI32, TooManyDigits, NotADecimal, BadWeek, BadMinute, TooSmall}
+use Rattle.ranged1d.specs.declared.Refusal.the-variants.{WholeNotAdmitted, LimitNotAdmitted, NoStep, NoSegments, TooFar, StepAgainstAxis, ListTooLong, NotMonotone, NanTarget, AboveI32, NotPrintable, TooManyDecimals, OutTooShort, NotARuler, UnknownTwist, TwistLost, RealAxisNotMarked, NotOnAxis, BelowI32, TooManyDigits, NotADecimal, BadWeek, BadMinute, TooSmall, NoChartEntry, CountFull, CountEmpty}
 
 abbrev pub numberOf : Refusal → ℕ
 -- a whole end, value, step or list entry that is not admitted
@@ -52,3 +52,9 @@ numberOf BadWeek = 26
 numberOf BadMinute = 27
 -- 02 (n): a number of a scientific label that is smaller than the table's first power
 numberOf TooSmall = 28
+-- 02 (h): a pin at no entry of its chart, or a list that is too long for one
+numberOf NoChartEntry = 20
+-- 02 (h): a pin more where the count can hold no more
+numberOf CountFull = 21
+-- 02 (h): a pin less where none is counted
+numberOf CountEmpty = 22

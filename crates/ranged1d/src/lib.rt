@@ -37,6 +37,9 @@ pub enum Refusal {
     BadWeek,
     BadMinute,
     TooSmall,
+    NoChartEntry,
+    CountFull,
+    CountEmpty,
 }
 
 // How many entries or marks were written to a lent list.
@@ -74,6 +77,9 @@ impl Refusal {
             Refusal::BadWeek => 26,
             Refusal::BadMinute => 27,
             Refusal::TooSmall => 28,
+            Refusal::NoChartEntry => 20,
+            Refusal::CountFull => 21,
+            Refusal::CountEmpty => 22,
         }
     }
 }

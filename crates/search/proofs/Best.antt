@@ -16,7 +16,7 @@ module _ {A : Type 0} (passes : A → Bool) (better : A → A → Bool) (d : A) 
     pub there : getD l (f .0) d ≡ f .1
     pub passed : passes (f .1) ≡ true
 
-  abbrev Sound : List A → Answer (ℕ × A) → Type 0
+  abbrev pub Sound : List A → Answer (ℕ × A) → Type 0
   Sound l (given f) = Found l f
   Sound l none = l ≡ l
   Sound l (refused n) = ⊥
@@ -27,7 +27,7 @@ module _ {A : Type 0} (passes : A → Bool) (better : A → A → Bool) (d : A) 
   next : (x : A) (xs : List A) (f : ℕ × A) → Found xs f → Found (x ∷ xs) (suc (f .0), f .1)
   next x xs f s = record { inside = omega (arith, s .inside); there = s .there; passed = s .passed }
 
-  best-sound : (l : List A) → Sound l (best passes better l)
+  pub best-sound : (l : List A) → Sound l (best passes better l)
   best-sound [] = refl
   best-sound (x ∷ xs) = go (passes x) refl (best passes better xs) (best-sound xs)
     where

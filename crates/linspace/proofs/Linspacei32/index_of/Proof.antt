@@ -1,123 +1,42 @@
 -- `linspace::Linspacei32::index_of` meets its contract. Assumes nothing.
-use mathlib.Core.Path.{_≡_, refl, sym, ap, subst, _∙_}
-use mathlib.Core.Bool.{true}
-use mathlib.Core.List.{List}
-use native.Mathlib.Omega.{arith}
-use borrow.Author.Tests.{not-true, not-false}
+use mathlib.Core.Path.{_≡_, sym, ap, _∙_}
 use borrow.Author.Needs.{needs}
-use lib.IntN.{ℤ}
 use mir.Facts.{toZ-ofZ}
-use Rattle.ranged1d.specs.Admitted.{wholeAdmitted}
-use Rattle.ranged1d.proofs.Whole.{same-yes}
-use Rattle.discrete.specs.Index.{tellIndex}
-use Rattle.numeric.specs.Whole.{tellCount}
-use Rattle.numeric.specs.declared.whole.Count.{Count}
-use Rattle.numeric.specs.Marks.{listOf}
-use Rattle.numeric.specs.Calls.{element}
-use Rattle.search.specs.Search.{wholes}
-use Rattle.search.specs.Search as rule
-use Rattle.linspace.specs.List.{whole, stepped, axisAdmitted}
-use Rattle.linspace.specs.Calls.{stepIndexOf}
-use Rattle.linspace.specs.WholeSteps.{Known}
-use Rattle.linspace.proofs.Rules.{counts, onceListed, index-refused, index-value-refused, index-is}
-use Rattle.linspace.proofs.WholeList.{list-is}
-use Rattle.linspace.proofs.WholeRules.{known-of}
+use Rattle.linspace.specs.List.{whole}
+use Rattle.linspace.specs.Calls.{tellAmong, stepIndexOf}
+use Rattle.linspace.specs.declared.Among.{Among}
+use Rattle.linspace.proofs.Rules.{indexAlone, index-alone}
 use Rattle.linspace.proofs.Linspacei32.index_of.Statement.{statement}
 use Rattle.linspace.proofs.Linspacei32.index_of.Tie as tie
 
-v-told : (c : tie.After-whole-admitted) → c .whole-admitted .result ≡ wholeAdmitted (c .before .before .before .args .v)
-v-told c = rw (toZ-ofZ (c .before .before .before .fits .v)) at (c .whole-admitted .ensures)
+-- the index that was found among the entries
+found : (c : tie.After-index-among) {r : Among} → c .index-among .result ≡ r
+    → let s = c .before .args in indexAlone (tellAmong r) ≡ stepIndexOf whole (s .self .inner .0) (s .self .inner .1) (s .self .step) (s .v) (s .method)
+found c e =
+    let s = c .before .args in
+    ap indexAlone (sym (ap tellAmong e) ∙ rw (toZ-ofZ (c .before .fits .v)) at (c .index-among .ensures))
+    ∙ index-alone whole (s .self .inner .0) (s .self .inner .1) (s .self .step) _
 
-module _ (c : tie.After-steps) where
-  abbrev start : tie.Start
-  start = c .before .before .before .before .before
-
-  abbrev a : ℤ
-  a = start .args .self .inner .0
-
-  abbrev b : ℤ
-  b = start .args .self .inner .1
-
-  abbrev d : ℤ
-  d = start .args .self .step
-
-  axis : axisAdmitted whole a b d ≡ true
-  axis = sym (c .before .before .before .before .admitted .ensures) ∙ not-false _ (c .before .before .before .if1 .left)
-
-  wanted : wholeAdmitted (start .args .v) ≡ true
-  wanted = sym (v-told (c .before .before)) ∙ not-false _ (c .before .if2 .left)
-
-counts-are : (c : tie.After-counted) {r : Count} → c .counted .result ≡ r → let s = c .before in counts whole (a s) (b s) (d s) ≡ tellCount r
-counts-are c e = sym (rw (c .before .steps .ensures .0, c .before .steps .ensures .1, c .before .steps .ensures .2) at (c .counted .ensures)) ∙ ap tellCount e
-
-answers : (c : tie.After-counted) {r : Count} → c .counted .result ≡ r
-    → let s = c .before in onceListed (tellCount r) (rule.search wholes (start s .args .v) (start s .args .method) (stepped whole (a s) (b s) (d s))) ≡ stepIndexOf whole (a s) (b s) (d s) (start s .args .v) (start s .args .method)
-answers c e =
-    let s = c .before in
-    index-is whole (a s) (b s) (d s) (axis s) (counts-are c e) (start s .args .v) (start s .args .method) (wanted s) (same-yes (start s .args .v) (start s .args .v) refl)
-
-known : (c : tie.After-n) → let s = c .before .before .before in Known (a s) (b s) (d s) (c .n .given .0 .0)
-known c = let s = c .before .before .before in known-of (a s) (b s) (d s) (axis s) (counts-are (c .before .before) (c .n .given .1))
-
-admitted-requires : tie.Need-admitted-requires
-admitted-requires c κs = search needs
-
-returns : tie.Need-returns
-returns c = let s = c .before .before .args in index-refused whole (s .self .inner .0) (s .self .inner .1) (s .self .step) (sym (c .before .admitted .ensures) ∙ not-true _ (c .if1 .taken)) (s .v) (s .method)
-
-whole-admitted-requires : tie.Need-whole-admitted-requires
-whole-admitted-requires c κs = search needs
-
-returns-2 : tie.Need-returns-2
-returns-2 c =
-    let e = c .before .before in
-    let s = e .before .before .args in
-    index-value-refused whole (s .self .inner .0) (s .self .inner .1) (s .self .step) (sym (e .before .admitted .ensures) ∙ not-false _ (e .if1 .left)) (s .v) (s .method) (sym (v-told (c .before)) ∙ not-true _ (c .if2 .taken))
-
-steps-requires : tie.Need-steps-requires
-steps-requires c κs = search needs
-
-counted-requires : tie.Need-counted-requires
-counted-requires c κs = rw (c .steps .ensures .0, c .steps .ensures .1, c .steps .ensures .2) (axis c)
+index-among-requires : tie.Need-index-among-requires
+index-among-requires c κs = search needs
 
 enum-known-r : tie.Need-enum-known-r
 enum-known-r c = search needs
 
-enum-known-n : tie.Need-enum-known-n
-enum-known-n c = search needs
+enum-told : tie.Need-enum-told
+enum-told c = search needs
 
-cast-find : tie.Need-cast-find
-cast-find c = omega (arith, known (c .before) .few)
+enum-known-k : tie.Need-enum-known-k
+enum-known-k c = search needs
 
-find-requires : tie.Need-find-requires
-find-requires c κs =
-    let s = c .before .before .before .before in
-    rw (s .steps .ensures .0, s .steps .ensures .1, s .steps .ensures .2, toZ-ofZ (start s .fits .v)) (known (c .before), wanted s)
+returns : tie.Need-returns
+returns c = found (c .before .before .before) (c .before .r .given .1)
+
+returns-2 : tie.Need-returns-2
+returns-2 c = found (c .before .before) (c .enum-told .given .1)
 
 returns-3 : tie.Need-returns-3
-returns-3 c = answers (c .before .before .before) (c .before .r .given .1)
-
-returns-4 : tie.Need-returns-4
-returns-4 c =
-    let at = c .before .before in
-    let s = at .before .before .before in
-    subst (λ (t : ℤ). tellIndex (c .find .result) ≡ rule.search wholes t (start s .args .method) (listOf (element (a s) (d s)) (at .n .given .0 .0))) (toZ-ofZ (start s .fits .v)) (rw (s .steps .ensures .0, s .steps .ensures .2) at (c .find .ensures))
-    ∙ ap (λ (l : List ℤ). rule.search wholes (start s .args .v) (start s .args .method) l) (sym (list-is (known at)))
-    ∙ answers (at .before .before) (at .n .given .1)
+returns-3 c = found (c .before .before .before) (c .before .k .given .1)
 
 pub index-of-spec : {M : Type 1} → statement M
-index-of-spec =
-    tie.close
-    (tie.spec
-    admitted-requires
-    returns
-    whole-admitted-requires
-    returns-2
-    steps-requires
-    counted-requires
-    enum-known-r
-    enum-known-n
-    cast-find
-    find-requires
-    returns-3
-    returns-4)
+index-of-spec = tie.close (tie.spec index-among-requires enum-known-r enum-told enum-known-k returns returns-2 returns-3)

@@ -1,0 +1,3 @@
+pub mod Rules
+pub mod Histories
+pub mod Worked

@@ -1,0 +1,4 @@
+pub mod Chart
+pub mod Histories
+pub mod Steps
+pub mod Worked
