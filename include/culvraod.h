@@ -16,7 +16,8 @@
  *     any other pointer.
  *   - On 0 a list is written from its first entry up to the count given back.
  *     All entries from there on keep their contents. (A chart is no such list:
- *     its calls say what they write.)
+ *     its calls say what they write.) culv_ruler_shift gives no count back: it
+ *     leaves a ruler as long as the one that it was lent.
  *   - No call allocates or keeps a pointer after it has returned.
  *
  * Numbers:
@@ -763,6 +764,19 @@ int32_t culv_ruler_upgrade(const uint8_t *bytes, size_t len, uint8_t *out,
  */
 int32_t culv_ruler_downgrade(const uint8_t *bytes, size_t len, uint8_t *out,
                              size_t out_len, size_t *written);
+
+/*
+ * Moves a ruler of any kind along the film, where it lies: the bytes become
+ * those that its writer gives for p + c and q + c, with the same a, b, m, kind
+ * and twist. They are as many as before. Only p, q and the places of the marks
+ * change, each by c; if a is b, the places stay, since p is no part of them.
+ *
+ * 0: all bytes are those of the moved ruler.
+ * Refused:
+ *    2: the bytes are a ruler, and p + c or q + c is not admitted;
+ *   14: the bytes are no ruler.
+ */
+int32_t culv_ruler_shift(uint8_t *bytes, size_t len, int32_t c);
 
 /*
  * Reads a ruler of any kind: bytes that one of the four writers gives for the

@@ -143,7 +143,12 @@ static void rulers_by_millions(void)
     demand(start == len - 6 && part == 6, "another part");
     TOLD("ruler_pair, the last of them", culv_ruler_pair(&none, 0, ruler, len, 500000, &which, &start, &part), 0);
     demand(which == 1 && start == len - 20 && part == 20, "another part");
+    TOLD("ruler_shift, 1000001 marks", culv_ruler_shift(ruler, len, 5), 0);
+    TOLD("ruler_read, 1000001 marks moved", culv_ruler_read(ruler, len, &a, &b, &p, &q, &m, &step, &marks), 0);
+    demand(p == -995 && q == 1005, "other limits");
+    TOLD("ruler_shift, too far", culv_ruler_shift(ruler, len, 998996), 2);
     ruler[len - 1] ^= 1;
+    TOLD("ruler_shift, the last byte damaged", culv_ruler_shift(ruler, len, -5), 14);
     TOLD("ruler_read, the last byte damaged", culv_ruler_read(ruler, len, &a, &b, &p, &q, &m, &step, &marks), 14);
     give_back(ruler, len, 1);
 }

@@ -255,6 +255,41 @@ static void ruler_downgrade(void)
     move_by(culv_ruler_downgrade, false);
 }
 
+/* The bytes are first put back as they were drawn, since a call may be made twice. */
+static int32_t shift_drawn(uint8_t *bytes, const uint8_t *drawn, size_t len, int32_t c)
+{
+    memcpy(bytes, drawn, len);
+    return culv_ruler_shift(bytes, len, c);
+}
+
+/* Moves a ruler along the film, as a rule to where its first limit is at an edge or between, or by anything. */
+static void ruler_shift(void)
+{
+    static uint8_t drawn[LONGEST_RULER + 64], wanted[LONGEST_RULER];
+    size_t len;
+    uint8_t *bytes = (uint8_t *)draw_ruler("bytes", &len);
+    bool is_ruler = model_is_ruler(bytes, len), moves = false;
+    int32_t c = any_whole();
+    if (is_ruler) {
+        struct draft draft = draft_of(bytes);
+        c = below(4) ? (int32_t)((int64_t)any_pixel() - draft.p) : c;
+        int64_t p = (int64_t)draft.p + c, q = (int64_t)draft.q + c;
+        draft.p = (int32_t)p;
+        draft.q = (int32_t)q;
+        moves = p == draft.p && q == draft.q && draft_refused(draft) == 0;
+        if (moves)
+            demand(model_ruler(draft, wanted) == len, "another length than before");
+    }
+    note_whole("c", c);
+    memcpy(drawn, bytes, len);
+    int32_t code = CALLED(shift_drawn(bytes, drawn, len, c));
+    if (code == ANSWERED) {
+        may_write(bytes, len);
+        demand(moves && memcmp(bytes, wanted, len) == 0, "other bytes than the rule's");
+    }
+    settle(code, !is_ruler ? 14 : moves ? ANSWERED : 2);
+}
+
 /* ---- Labels ---- */
 
 typedef int32_t printer(double, uint32_t, uint32_t, uint8_t *, size_t, size_t *);
@@ -311,7 +346,8 @@ static void label_scientific(void)
 const struct call OTHER_CALLS[OTHER_COUNT] = {
     CALL(search_whole), CALL(search_real), CALL(ruler_write), CALL(ruler_write_inside),
     CALL(ruler_write_twisted), CALL(ruler_write_inside_twisted), CALL(ruler_read), CALL(ruler_read_kind),
-    CALL(ruler_label), CALL(ruler_pair), CALL(ruler_upgrade), CALL(ruler_downgrade), CALL(label), CALL(label_scientific),
+    CALL(ruler_label), CALL(ruler_pair), CALL(ruler_upgrade), CALL(ruler_downgrade), CALL(ruler_shift), CALL(label),
+    CALL(label_scientific),
     CALL(decimal_print), CALL(decimal_read),
     CALL(week_running), CALL(week_clock),
 };

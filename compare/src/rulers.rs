@@ -1,10 +1,10 @@
 //! Rulers: built here from plotters' marks and places, and compared byte for byte.
 
-use culvraod::ruler::{culv_ruler_downgrade, culv_ruler_read, culv_ruler_upgrade};
-use culvraod::ruler::{culv_ruler_write, culv_ruler_write_inside};
+use culvraod::ruler::{culv_ruler_downgrade, culv_ruler_read, culv_ruler_shift};
+use culvraod::ruler::{culv_ruler_upgrade, culv_ruler_write, culv_ruler_write_inside};
 use culvraod::ruler::{culv_ruler_write_inside_twisted, culv_ruler_write_twisted};
-use culvraod::ruler::{downgrade, label_of, pair_record, read, upgrade, write, write_inside};
-use culvraod::ruler::{write_inside_twisted, write_twisted, Ruler, Twist, Written};
+use culvraod::ruler::{downgrade, label_of, pair_record, read, shift, upgrade, write};
+use culvraod::ruler::{write_inside, write_inside_twisted, write_twisted, Ruler, Twist, Written};
 use culvraod::{Limit, RangedCoordi32, Refusal};
 use plotters::coord::ranged1d::Ranged;
 use std::fmt::{self, Display};
@@ -13,10 +13,11 @@ use std::hint::black_box;
 use crate::program::{drawn, Draft};
 use crate::random::Random;
 use crate::tally::{ensure, Tally};
-use crate::timing::written;
+use crate::timing::{report_two, written};
 
 /// Of each kind; half as many of each twist.
 const DRAWN: usize = 5_000_000;
+const SHIFTED: usize = 2_000_000;
 const DAMAGED: usize = 5_000;
 
 /// Which marks a ruler has, plotters' own or those of them that lie on the axis; and its twist.
@@ -102,6 +103,13 @@ impl Draft {
         let limits = [number(1_000_000), number(1_000_000)];
         let m = random.below(16) as u32;
         Draft { ends, limits, m }
+    }
+
+    /// With both limits moved, if each is still an i32.
+    fn moved(self, c: i32) -> Option<Draft> {
+        let [p, q] = self.limits.map(|limit| limit.checked_add(c));
+        let limits = [p?, q?];
+        Some(Draft { limits, ..self })
     }
 
     fn axis(self) -> RangedCoordi32 {
@@ -341,14 +349,17 @@ fn compare_damaged(kind: Kind) -> bool {
         for copy in damaged(&bytes_of(kind, draft, step, &marks), &mut random) {
             let found = read(&copy);
             let moves = [upgrade(&copy, &mut []), downgrade(&copy, &mut [])];
+            let mut kept = copy.clone();
+            let shifted = shift(&mut kept, 0);
             let agrees = match is_ruler(&copy) {
-                true => found.is_ok(),
+                true => found.is_ok() && shifted.is_ok(),
                 false => {
                     found == Err(Refusal::NotARuler)
                         && label_of(&copy, 0).is_empty()
                         && moves == [Err(Refusal::NotARuler); 2]
+                        && shifted == Err(Refusal::NotARuler)
                 }
-            };
+            } && kept == copy;
             let what = || format!("{found:?} for {copy:?}");
             tally.count(draft.size(), draft, ensure(agrees, what));
         }
@@ -363,6 +374,67 @@ fn compare_drawn(kind: Kind) -> bool {
     for _ in 0..DRAWN / (kind.head() - 24) {
         let draft = Draft::random(&mut random);
         tally.count(draft.size(), draft, check(kind, draft, &mut out));
+    }
+    tally.close()
+}
+
+/// By how much a film is moved: to an edge of what is admitted, or a pixel past it, by a few pixels,
+/// by many, or by anything.
+fn drawn_move(random: &mut Random, draft: Draft) -> i32 {
+    let [p, q] = draft.limits;
+    match random.below(8) {
+        0 => 1_000_000 - p.max(q) + random.below(2) as i32,
+        1 => -1_000_000 - p.min(q) - random.below(2) as i32,
+        2 => random.below(u64::from(u32::MAX) + 1) as u32 as i32,
+        3 => drawn(random, 2_000_000) as i32,
+        _ => random.below(2_001) as i32 - 1_000,
+    }
+}
+
+/// A ruler shifted, beside the bytes for the moved limits, from plotters' places and by our writer;
+/// and back.
+fn check_shift(kind: Kind, draft: Draft, c: i32, out: &mut [u8]) -> Result<(), String> {
+    let Ok((step, marks)) = draft.plotters(kind) else {
+        return Ok(());
+    };
+    let ruler = bytes_of(kind, draft, step, &marks);
+    let shifted = &mut out[..ruler.len()];
+    shifted.copy_from_slice(&ruler);
+    let told = shift(shifted, c);
+    let after = draft.moved(c).map(|moved| (moved, moved.plotters(kind)));
+    let Some((moved, Ok((step, marks)))) = after else {
+        ensure(told == Err(Refusal::LimitNotAdmitted), || {
+            format!("{told:?}, moved by {c} to where a limit is not admitted")
+        })?;
+        return ensure(shifted == ruler, || "a refusal wrote".into());
+    };
+    ensure(told == Ok(()), || format!("{told:?}, moved by {c}"))?;
+    let wanted = bytes_of(kind, moved, step, &marks);
+    ensure(shifted == wanted, || {
+        format!("moved by {c} to {shifted:?}")
+    })?;
+    let mut anew = vec![0; wanted.len()];
+    let written = kind.write(moved, &mut anew);
+    ensure(written.is_ok() && anew == wanted, || {
+        format!("{written:?}, written anew")
+    })?;
+    let back = shift(shifted, -c);
+    ensure(back == Ok(()) && shifted == ruler, || {
+        format!("{back:?}, moved by {c} and back")
+    })
+}
+
+fn compare_shifted(kind: Kind) -> bool {
+    let mut tally = Tally::new(&format!("rulers of {kind}: shift, beside writing anew"));
+    let mut random = Random::new();
+    let mut out = [0; 400];
+    for _ in 0..SHIFTED / (kind.head() - 24) {
+        let mut draft = Draft::random(&mut random);
+        if random.below(8) == 0 {
+            draft.ends[1] = draft.ends[0];
+        }
+        let c = drawn_move(&mut random, draft);
+        tally.count(draft.size(), draft, check_shift(kind, draft, c, &mut out));
     }
     tally.close()
 }
@@ -445,9 +517,11 @@ fn write_at(writer: TwistedWriter, draft: Draft, twist: u32, out: &mut [u8]) -> 
 
 pub fn compare() -> bool {
     let drawn = Kind::all().map(compare_drawn);
+    let shifted = Kind::all().map(compare_shifted);
     let damaged = Kind::all().map(compare_damaged);
     let others = [compare_pairs(), compare_unknown()];
     drawn
+        .chain(shifted)
         .chain(damaged)
         .chain(others)
         .fold(true, |all, agrees| all && agrees)
@@ -533,6 +607,54 @@ pub fn bench() {
     rate("moving a ruler of kind 5 back", &mut |_| {
         move_million(culv_ruler_downgrade, &new, &mut old)
     });
+    bench_shift();
+}
+
+/// Writes the ruler of kind 1 from -1,000 to 1,000 on the film, and tells how many bytes it has.
+fn write_short((a, b, m): (i32, i32, u32), out: &mut [u8]) -> usize {
+    let (a, b, m) = black_box((a, b, m));
+    let (code, told) = written(out, |out, (bytes, marks): &mut (usize, usize)| {
+        let (to, len) = (out.as_mut_ptr(), out.len());
+        // SAFETY: `out` is bytes of that length, and the results are one number each.
+        unsafe { culv_ruler_write(a, b, -1_000, 1_000, m, to, len, bytes, marks) }
+    });
+    assert_eq!(code, 0);
+    told.0
+}
+
+/// Shifts rulers with few marks and many, to and fro, beside writing them anew.
+fn bench_shift() {
+    for axis in [
+        (-15, -3, 4),
+        (0, 10, 10),
+        (-50, 49, 11),
+        (-500, 499, 100),
+        (-500, 499, 1_000),
+        (-500_000, 499_999, MARKS as u32),
+    ] {
+        let (a, b, m) = axis;
+        let mut out = vec![0; 25 + 20 * (m as usize + 1)];
+        let size = write_short(axis, &mut out);
+        let mut ruler = out[..size].to_vec();
+        let mut c = 5;
+        report_two(
+            &format!("ruler of {a}..{b} m {m}"),
+            ("shift", |n| {
+                for _ in 0..n {
+                    let (bytes, len) = (black_box(ruler.as_mut_ptr()), ruler.len());
+                    // SAFETY: `ruler` is bytes of that length.
+                    let code = unsafe { culv_ruler_shift(bytes, len, black_box(c)) };
+                    assert_eq!(code, 0);
+                    c = -c;
+                }
+            }),
+            ("write", |n| {
+                for _ in 0..n {
+                    write_short(axis, &mut out);
+                }
+            }),
+        );
+    }
 }
 
 fn move_million(

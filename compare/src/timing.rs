@@ -58,6 +58,18 @@ pub fn report(title: &str, mut ours: impl FnMut(u64), mut plotters: impl FnMut(u
     println!("{title}: ours {ours:.1} ns, plotters {plotters:.1} ns, ratio {ratio:.2}");
 }
 
+/// Prints the times of two calls of ours, by their names.
+pub fn report_two(
+    title: &str,
+    (one, mut first): (&str, impl FnMut(u64)),
+    (other, mut second): (&str, impl FnMut(u64)),
+) {
+    let calls = [enough(&mut first), enough(&mut second)];
+    let [first, second] = in_turns(calls, [&mut first, &mut second]);
+    let ratio = first / second;
+    println!("{title}: {one} {first:.1} ns, {other} {second:.1} ns, ratio {ratio:.2}");
+}
+
 /// Calls a C function that writes to a lent list, and gives what it returned and what it told beside
 /// the list. The compiler may not leave the call out, nor put one of its own around it.
 #[inline(always)]

@@ -48,6 +48,7 @@
 //!
 //! Lists and bytes to be written are lent by the caller. They are written from their beginning, as
 //! far as the answer says; the rest of them, and all of them on a refusal, stays as it was.
+//! [`ruler::shift`] alone changes what it reads.
 //!
 //! # Refusals
 //!
@@ -57,7 +58,7 @@
 //! | number | refusal | when |
 //! |---|---|---|
 //! | 1 | [`WholeNotAdmitted`](Refusal::WholeNotAdmitted) | a whole end, value, step or entry is beyond ±1,000,000,000, or an index end above 1,000,000,000 |
-//! | 2 | [`LimitNotAdmitted`](Refusal::LimitNotAdmitted) | a limit or pixel is beyond ±1,000,000 |
+//! | 2 | [`LimitNotAdmitted`](Refusal::LimitNotAdmitted) | a limit or pixel is beyond ±1,000,000, or a limit would be, once it is moved |
 //! | 3 | [`NoStep`](Refusal::NoStep) | the mark limit is 0 and the ends differ, or it is 1 and they are more than 1,000,000,000 apart; on an axis by a step, it is 0 and there are entries |
 //! | 4 | [`NoSegments`](Refusal::NoSegments) | there is no entry to begin a segment, or a whole axis has more than 16,777,216 values |
 //! | 5 | [`TooFar`](Refusal::TooFar) | more than 1,000,000,000 pixels would be added to the first limit, or taken from it |

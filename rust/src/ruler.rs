@@ -77,6 +77,9 @@ extern "C" {
         written: *mut usize,
     ) -> i32;
 
+    /// The C function behind [`shift`].
+    pub fn culv_ruler_shift(bytes: *mut u8, len: usize, c: i32) -> i32;
+
     /// What [`read`] tells, without kind and twist.
     pub fn culv_ruler_read(
         bytes: *const u8,
@@ -326,6 +329,18 @@ pub fn downgrade(bytes: &[u8], out: &mut [u8]) -> Result<usize, Refusal> {
     moved_by("culv_ruler_downgrade", culv_ruler_downgrade, bytes, out)
 }
 
+/// Moves a ruler of any kind along the film by `c`, where it lies: the bytes become those that its
+/// writer gives for both limits moved. Nothing is worked out anew, so that it takes less time than
+/// to write it.
+///
+/// Refused as [`Refusal::NotARuler`] for other bytes, and as [`Refusal::LimitNotAdmitted`] for a
+/// ruler with a limit that would not be admitted.
+pub fn shift(bytes: &mut [u8], c: i32) -> Result<(), Refusal> {
+    // SAFETY: `bytes` is bytes of that length.
+    let code = unsafe { culv_ruler_shift(bytes.as_mut_ptr(), bytes.len(), c) };
+    answered("culv_ruler_shift", code, ())
+}
+
 /// Reads a ruler of any kind, or refuses bytes that are none as [`Refusal::NotARuler`].
 pub fn read(bytes: &[u8]) -> Result<Ruler, Refusal> {
     let (mut axis, mut limit) = (RangedCoordi32(0, 0), Limit(0, 0));
@@ -454,6 +469,35 @@ mod tests {
         let told = write_inside_twisted(axis, limit, 4, Twist::Z, &mut new);
         assert_eq!(told.map(|told| told.bytes), Ok(86));
         assert_eq!(downgrade(&new, &mut again), Err(Refusal::TwistLost));
+    }
+
+    #[test]
+    fn rulers_move_along_the_film() {
+        let axis = RangedCoordi32(-15, -3);
+        let (mut ruler, mut moved) = ([0; 106], [0; 106]);
+        write_twisted(axis, Limit(0, 120), 4, Twist::Z, &mut ruler).unwrap();
+        write_twisted(axis, Limit(-7, 113), 4, Twist::Z, &mut moved).unwrap();
+        let before = ruler;
+        assert_eq!(shift(&mut ruler, -7), Ok(()));
+        assert_eq!(ruler, moved);
+        assert_eq!(shift(&mut ruler, 7), Ok(()));
+        assert_eq!(ruler, before);
+        for far in [1_000_000, i32::MAX, i32::MIN] {
+            assert_eq!(shift(&mut ruler, far), Err(Refusal::LimitNotAdmitted));
+        }
+        assert_eq!(shift(&mut ruler[..105], 0), Err(Refusal::NotARuler));
+        assert_eq!(ruler, before);
+    }
+
+    #[test]
+    fn equal_ends_keep_their_place() {
+        let axis = RangedCoordi32(7, 7);
+        let (mut ruler, mut moved) = ([0; 45], [0; 45]);
+        write(axis, Limit(100, 300), 0, &mut ruler).unwrap();
+        write(axis, Limit(105, 305), 0, &mut moved).unwrap();
+        assert_eq!(shift(&mut ruler, 5), Ok(()));
+        assert_eq!(ruler, moved);
+        assert_eq!(ruler[30..34], 100_i32.to_le_bytes());
     }
 
     #[test]

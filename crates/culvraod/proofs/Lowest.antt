@@ -48,6 +48,7 @@ lowest-first = record {
   ruler-twisted = λ c t a b limit m old. tt;
   ruler-upgrade = λ l old. tt;
   ruler-downgrade = λ l old. tt;
+  ruler-shift = λ c l. tt;
   print = λ n h e old. tt;
   print-scientific = λ n h e old. tt;
   decimal-print = λ x f old. tt;

@@ -28,6 +28,7 @@ use Rattle.segmented.specs.Segments as segments
 use Rattle.numeric.specs.declared.Choice.{Choice}
 use Rattle.ruler.specs.declared.Form.{Form}
 use Rattle.ruler.specs.Rule.{noRuler, writeReasonsBy, twistedReasons, upgradeReasons, downgradeReasons}
+use Rattle.ruler.specs.Shifting.{shiftReasons}
 use Rattle.float.specs.Calls.{printReasons, scientificReasons}
 use Rattle.fixed.specs.Fixed.{fixedReasons, fixedReadReasons}
 
@@ -74,6 +75,7 @@ pub record LowestFirst : Type 1 where
   pub ruler-twisted : (c : Choice) (t : ℕ) (a b : ℤ) (limit : Limit) (m : ℕ) (old : List ℕ) → Rising (twistedReasons c t a b limit m old)
   pub ruler-upgrade : (l old : List ℕ) → Rising (upgradeReasons l old)
   pub ruler-downgrade : (l old : List ℕ) → Rising (downgradeReasons l old)
+  pub ruler-shift : (c : ℤ) (l : List ℕ) → Rising (shiftReasons c l)
   pub print : (n : Float) (h e : ℕ) (old : List ℕ) → Rising (printReasons n h e old)
   pub print-scientific : (n : Float) (h e : ℕ) (old : List ℕ) → Rising (scientificReasons n h e old)
   pub decimal-print : (x : ℤ) (f : ℕ) (old : List ℕ) → Rising (fixedReasons x f old)

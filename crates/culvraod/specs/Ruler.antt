@@ -1,5 +1,6 @@
 -- The C calls on rulers: what each returns, and what lies behind its pointers afterwards, in their order. Assumes nothing.
 use Prim.Native.Nat.{ℕ, _-_}
+use mathlib.Core.List.{List}
 use lib.IntN.{ℤ, pos}
 use Rattle.ranged1d.specs.Answer.{Answer}
 use Rattle.ruler.specs.declared.Ruler.{Ruler}
@@ -20,6 +21,10 @@ abbrev pub readKindC : Answer Ruler → Ruler → ℕ → ℕ → ℤ × ℤ × 
 readKindC x old kind twist =
     let r = outAfter (λ y. y) x old in
     (code x, r .a, r .b, r .p, r .q, r .m, r .step, r .marks, outAfter (λ y. y .kind) x kind, outAfter (λ y. y .twist) x twist)
+
+-- a call that has no answer but what the lent memory holds: the code, and that memory
+abbrev pub heldC : {A B : Type 0} → Answer A × List B → ℤ × List B
+heldC x = (code (x .0), x .1)
 
 -- a look-up: always answered, with the part's start and its length
 abbrev pub partC : Part → ℤ × ℕ × ℕ

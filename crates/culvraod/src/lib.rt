@@ -25,7 +25,8 @@ ghost use Rattle.culvraod.specs.Search.{methodOf, byMethod};
 ghost use Rattle.fixed.specs.Fixed.{tellPrinted, tellNumber, fixedPrint, fixedRead};
 ghost use Rattle.week.specs.Week.{tellMinute, runningMinute, clockMinute};
 ghost use Rattle.ruler.specs.Rule.{tellWrote, tellMoved, rulerWrite, rulerWriteInside, twistedWrite, rulerUpgrade, rulerDowngrade, rulerOf, rulerRead, recordIn, labelIn, sideOf};
-ghost use Rattle.culvraod.specs.Ruler.{readC, readKindC, partC, pairC};
+ghost use Rattle.ruler.specs.Shifting.{rulerShift};
+ghost use Rattle.culvraod.specs.Ruler.{readC, readKindC, heldC, partC, pairC};
 ghost use Rattle.culvraod.specs.Boundary.{code, single, double};
 ghost use Rattle.culvraod.specs.Numeric.{marksC, keyPointsC};
 use chart::Charted;
@@ -52,6 +53,7 @@ use ranged1d::Listed;
 use ranged1d::Refusal;
 use ruler::Moved;
 use ruler::Reading;
+use ruler::Shifted;
 use ruler::Wrote;
 use search::RoundingMethod;
 use week::Minute;
@@ -478,6 +480,17 @@ pub extern "C" fn culv_ruler_downgrade(bytes: &[u8], out: &mut [u8], written: &m
     ensures { λ r. ⌜ (r, now (out .exit), now (written .exit)) ≡ listC (rulerDowngrade (now (bytes .entry)) (now (out .entry))) (now (written .entry)) ⌝ }
 {
     give_moved(ruler::downgrade(bytes, out), written)
+}
+
+// Moves the film limits of the ruler in the bytes by c, where it lies.
+#[no_mangle]
+pub extern "C" fn culv_ruler_shift(bytes: &mut [u8], c: i32) -> i32
+    ensures { λ r. ⌜ (r, now (bytes .exit)) ≡ heldC (rulerShift c (now (bytes .entry))) ⌝ }
+{
+    match ruler::shift(bytes, c) {
+        Shifted::Done => 0,
+        Shifted::Refused(r) => refused(r),
+    }
 }
 
 // The numbers of the ruler in the bytes, its kind, and its twist: 0 where the kind has none.

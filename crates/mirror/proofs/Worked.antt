@@ -5,18 +5,19 @@ use mathlib.Core.Bool.{Bool, true, false, true≢false}
 use mathlib.Core.List.{List, [], _∷_, _++_, map, reverse}
 use Prim.Native.Nat.{ℕ, _<_}
 use native.Mathlib.Omega.{arith}
-use lib.IntN.{ℤ, pos, negsuc, negℤ}
+use lib.IntN.{ℤ, pos, negsuc, negℤ, _+ℤ_}
 use lib.ListN.{length, getD}
 use lib.Signed.{_<ℤ_}
 use lib.Ieee.{Float, nan, inf, fin, neg, sub, div, mul, add, ofInt, ofBits, eq, lt}
 use Rattle.ranged1d.specs.Answer.{Answer, given, none, refused, BothLong}
-use Rattle.ranged1d.specs.Admitted.{limitOf}
+use Rattle.ranged1d.specs.Admitted.{limitAdmitted, limitOf}
 use Rattle.ranged1d.specs.declared.Limit.{Limit}
 use Rattle.ranged1d.proofs.Answers.{not-both, not-none}
 use Rattle.ranged1d.proofs.Whole.{yes-lt}
 use Rattle.rounding.specs.Within.{wholeOf, within}
 use Rattle.real.specs.Place.{rising, falling, along, spot, wholePlace}
 use Rattle.real.specs.Mirror as film
+use Rattle.real.specs.Shifting.{shiftedLimit}
 use Rattle.decimal.specs.Print.{digits}
 use Rattle.numeric.specs.declared.Choice.{Choice}
 use Rattle.numeric.specs.declared.Choice.the-variants.{Cut, Inside}
@@ -36,7 +37,7 @@ use Rattle.linspace.specs.List.{whole, real, entries, stepped, against}
 use Rattle.linspace.specs.Calls.{stepValues}
 use Rattle.ruler.specs.Place.{placeOf}
 use Rattle.ruler.specs.Bytes.{kindFor, twistBytes, Record, axis, mark, axisBody, markBody, laid, joined}
-use Rattle.ruler.specs.Rule.{one, three, recordsBy, bytesBy, writeBy}
+use Rattle.ruler.specs.Rule.{one, three, recordsBy, bytesBy, writeBy, rulerPlanBy}
 use Rattle.ruler.specs.Mirror as ruler
 use Rattle.ruler.proofs.Mirror.{one-record-longer}
 use Rattle.ruler.specs.Mirror.{accepted, verdict}
@@ -223,3 +224,22 @@ not-own-mirror (axis f a b limit m s ∷ rs) e g =
 pub not-same-twist : SameTwist → ⊥
 unfolding writeBy bytesBy laid axisBody markBody digits stepAt firstOf chosen noStepFor stepFor insideFor placeOf wholePlace spot eq ofInt
 not-same-twist h = let (rs, e, g) = h six (pos 0) (pos 0) (limitOf (pos 0) (pos 0)) 0 (zeros 46) (zeros 46) refl refl tt in not-own-mirror rs e g
+
+-- ---- wrong, 02 (i): a mark's place moves with the limits on every axis. On 0..0 it is half of the film's length, in which p has no part: 0 on 0..0, and on
+-- 1..1 too.
+abbrev EveryPlaceMoves : Type 0
+EveryPlaceMoves = (a b v x c : ℤ) (limit : Limit) → wholePlace a b v limit ≡ given x → wholePlace a b v (shiftedLimit c limit) ≡ given (x +ℤ c)
+
+pub not-every-place-moves : EveryPlaceMoves → ⊥
+unfolding wholePlace spot eq ofInt
+not-every-place-moves h =
+    let e : _≡_ {A = Answer ℤ} (given (pos 0)) (given (pos 1)) = h (pos 0) (pos 0) (pos 0) (pos 0) (pos 1) (limitOf (pos 0) (pos 0)) refl in
+    let z : _≡_ {A = ℕ} 0 1 = cc in omega (arith, z)
+
+-- ---- wrong, 02 (i): limits that are not admitted after the move. 0..1000000 moved by 1 is refused with 2, whatever is lent.
+abbrev AnyMove : Type 0
+AnyMove = (f : Form) (a b c : ℤ) (limit : Limit) (m : ℕ) → limitAdmitted limit ≡ true → rulerPlanBy f a b (shiftedLimit c limit) m ≡ rulerPlanBy f a b limit m
+
+pub not-any-move : AnyMove → ⊥
+unfolding rulerPlanBy stepAt firstOf chosen noStepFor stepFor
+not-any-move h = not-both (sym (h one (pos 0) (pos 0) (pos 1) (limitOf (pos 0) (pos 1_000_000)) 0 refl))

@@ -10,4 +10,5 @@ pub mod Nan
 pub mod Error
 pub mod Relied
 pub mod Stray
+pub mod Shifting
 pub mod Worked

@@ -4,3 +4,4 @@ pub mod Reading
 pub mod Mirror
 pub mod Exact
 pub mod Stray
+pub mod Shifting

@@ -1,5 +1,7 @@
 pub mod Numbers
 pub mod Lists
+pub mod Words
+pub mod Counted
 pub mod Records
 pub mod Drawn
 pub mod Index
@@ -12,3 +14,5 @@ pub mod OnFilm
 pub mod Worked
 pub mod Moving
 pub mod Moves
+pub mod Shifting
+pub mod MovedFilm

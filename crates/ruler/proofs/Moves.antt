@@ -84,7 +84,7 @@ module _ (l : List ℕ) where
     bytes-are : {t : Twist} → formIn l .twist ≡ t → l ≡ drawnAs (formBy c t)
     bytes-are e = ruler-in l ruler .bytes ∙ ap drawnAs (with-form l e)
 
-    small : mIn l < 2 ^ 32
+    pub small : mIn l < 2 ^ 32
     small =
         let m = mIn l in
         let m-is : mIn l ≡ m % 256 + m / 256 % 256 * 256 + m / 65536 % 256 * 65536 + m / 16777216 % 256 * 16777216 = ap mIn (ruler-in l ruler .bytes) ∙ limit-bytes (formIn l) (aIn l) (bIn l) (limitIn l) m in

@@ -35,7 +35,7 @@ module _ (a b : ℤ) (limit : Limit) (m : ℕ) (h : hasRuler a b limit m ≡ tru
   pub served : noStep a b m ≡ false
   served = stopped-by-none .1 .1 .0
 
-  plan : (c : Choice) → planBy c a b m ≡ given (planWith c a b m)
+  pub plan : (c : Choice) → planBy c a b m ≡ given (planWith c a b m)
   plan c = plan-by c a b m ∙ rw (ends, served) refl
 
   pub every-placed : (c : Choice) (k : ℕ) → k < length (marksBy c a b m) → wholePlace a b (getD (marksBy c a b m) k (pos 0)) limit ≡ given (placeOf a b limit (getD (marksBy c a b m) k (pos 0)))

@@ -62,7 +62,7 @@ module _ (a b : ℤ) (limit : Limit) (f : ℕ → ℤ) where
   one-long : (k : ℕ) → length (one k) ≡ 20
   one-long k = mark-long (f k) _
 
-  run-suc : (n : ℕ) → run (suc n) ≡ run n ++ one n
+  pub run-suc : (n : ℕ) → run (suc n) ≡ run n ++ one n
   run-suc n =
       ap joined (map-append (markAt a b limit) (listOf f n) (f n ∷ []))
       ∙ joined-append (map (markAt a b limit) (listOf f n)) (markAt a b limit (f n) ∷ [])

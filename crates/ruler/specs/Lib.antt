@@ -5,3 +5,5 @@ pub mod Steps
 pub mod Mirror
 pub mod OnFilm
 pub mod Moves
+pub mod Shifting
+pub mod MovedFilm

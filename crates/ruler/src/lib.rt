@@ -1,18 +1,23 @@
 // Rulers as bytes: a record for the axis, then one for each mark; the reader, and the look-ups in what it takes.
 ghost use mathlib.Core.Path.{_≡_};
+ghost use mathlib.Core.Bool.{true};
 ghost use mathlib.Core.List.{[], _∷_, _++_, map};
 ghost use Prim.Native.Nat.{ℕ, _+_, _-_, _*_, _<_, _≤_};
+ghost use lib.IntN.{natAbs, _+ℤ_, _-ℤ_};
 ghost use lib.ListN.{length, take, drop, getD};
 ghost use mir.Syntax.{w32};
 ghost use mir.Val.{ofZ};
 ghost use Rattle.ranged1d.specs.Answer.{listWritten};
+ghost use Rattle.ranged1d.specs.Admitted.{pixelAdmitted, limitAdmitted};
+ghost use Rattle.real.specs.Shifting.{shiftedLimit};
 ghost use Rattle.numeric.specs.Marks.{listOf};
 ghost use Rattle.numeric.specs.Calls.{element, tellPlanned};
 ghost use Rattle.decimal.specs.Read.{sameBytes};
 ghost use Rattle.ruler.specs.Place.{placeOf};
-ghost use Rattle.ruler.specs.Bytes.{word, wordAt, kindFor, kindByte, twistNumber, headLong, formFor, axis, laid, joined};
+ghost use Rattle.ruler.specs.Bytes.{word, wordAt, kindFor, kindByte, twistNumber, twistBytes, headLong, formFor, axis, laid, joined};
 ghost use Rattle.ruler.specs.Rule.{tellWrote, tellMoved, tellReading, twistedWrite, over, back, rulerUpgrade, rulerDowngrade, rulerPlan, rulerPlanInside, rulerPlanBy, markAt, rulerWrite, rulerWriteInside, writeBy, rulerRead, indexOf, recordIn, labelIn, recordText, labelText, part, further, sideOf};
-ghost use Rattle.ruler.specs.Steps.{Reachable, Inside, firstOf, kindBy, noTwist, seenBy, seenOf};
+ghost use Rattle.ruler.specs.Shifting.{tellShifted, rulerShift};
+ghost use Rattle.ruler.specs.Steps.{four, Admitted, Reachable, Inside, firstOf, kindBy, noTwist, seenBy, seenOf, putWord, addedAt, addedToPlaces, addedToFilm};
 use numeric::Choice;
 use numeric::KeyPoints;
 use numeric::Place;
@@ -30,6 +35,12 @@ pub enum Wrote {
 // The number of bytes of a ruler that was moved over or back.
 pub enum Moved {
     Bytes(usize),
+    Refused(Refusal),
+}
+
+// A ruler that was moved along the film where it lies, which leaves nothing to tell.
+pub enum Shifted {
+    Done,
     Refused(Refusal),
 }
 
@@ -578,40 +589,163 @@ fn word_at(l: &[u8], at: usize) -> u32
     wide(l[at]) + wide(l[at + 1]) * 256 + wide(l[at + 2]) * 65536 + wide(l[at + 3]) * 16777216
 }
 
-// Whether l is a record: its kind, then its body.
-fn is_record(kind: u8, body: &[u8], l: &[u8]) -> bool
-    ensures { λ r. ⌜ r ≡ sameBytes (now (l .entry)) (kind ∷ now (body .entry)) ⌝ }
+// Four bytes as one number, the lowest first.
+fn packed(a: u8, b: u8, c: u8, d: u8) -> u32
+    ensures { λ r. ⌜ word r ≡ a ∷ b ∷ c ∷ d ∷ [] ⌝ }
 {
-    if l.len() == 0 {
-        return false;
+    wide(a) + wide(b) * 256 + wide(c) * 65536 + wide(d) * 16777216
+}
+
+// Whether the four bytes at a place are those of x. So many at a time are compared as fast as one.
+fn has_word(l: &[u8], at: usize, x: u32) -> bool
+    requires { ⌜ at + 4 ≤ length (now l) ⌝ }
+    ensures { λ r. ⌜ r ≡ sameBytes (four at (now (l .entry))) (word x) ⌝ }
+{
+    word_at(l, at) == x
+}
+
+// Whether l ends as the axis's record does: with its twist, or with nothing behind the numbers.
+fn is_twist(d: Draft, l: &[u8]) -> bool
+    requires { ⌜ length (now l) ≡ headLong (d .form) ⌝ }
+    ensures { λ r. ⌜ r ≡ sameBytes (drop 25 (now (l .entry))) (twistBytes (d .form .twist)) ⌝ }
+{
+    let form = d.form;
+    let twist = form.twist;
+    match twist {
+        Twist::Plain => true,
+        Twist::S => l[25] == 0,
+        Twist::Z => l[25] == 1,
     }
-    if l[0] != kind {
-        return false;
-    }
-    check::same(&l[1..], body)
 }
 
 // Whether l is the axis's record.
 fn is_head(d: Draft, p: KeyPoints, l: &[u8]) -> bool
+    requires { ⌜ length (now l) ≡ headLong (d .form) ⌝ }
     ensures { λ r. ⌜ r ≡ sameBytes (now (l .entry)) (laid (axis (d .form) (d .a) (d .b) (d .limit) (d .m) (p .step))) ⌝ }
 {
-    let body = axis_body(d, p);
-    let kind = kind_of(d);
-    let n = head_of(d) - 1;
-    is_record(kind, &body[0..n], l)
+    let limit = d.limit;
+    if l[0] != kind_of(d) {
+        return false;
+    }
+    if !has_word(l, 1, bits(d.a)) {
+        return false;
+    }
+    if !has_word(l, 5, bits(d.b)) {
+        return false;
+    }
+    if !has_word(l, 9, bits(limit.0)) {
+        return false;
+    }
+    if !has_word(l, 13, bits(limit.1)) {
+        return false;
+    }
+    if !has_word(l, 17, d.m) {
+        return false;
+    }
+    if !has_word(l, 21, bits(p.step)) {
+        return false;
+    }
+    is_twist(d, l)
+}
+
+// Whether n times w is k times d, or more by less than 0.998 of d.
+fn is_multiple(n: u32, w: u32, k: u32, d: u32) -> bool
+    ensures { λ r. ⌜ (r ≡ true → (k * d ≤ n * w) × (1000 * (n * w - k * d) < 998 * d)) ⌝ }
+{
+    let all = (n as u64) * (w as u64);
+    let most = d as u64;
+    let whole = (k as u64) * most;
+    if all < whole {
+        return false;
+    }
+    let rest = all - whole;
+    if most <= rest {
+        return false;
+    }
+    1000 * rest < 998 * most
+}
+
+// Whether x is the place of v, as far as whole numbers tell: so many pixels from p that the exact place leaves too little for one more (02 (e)).
+// No is no answer: a place by floats may be x all the same.
+fn is_counted(d: Draft, v: i32, x: i32) -> bool
+    requires { ⌜ Admitted d ⌝ }
+    ensures { λ r. ⌜ (r ≡ true → x ≡ placeOf (d .a) (d .b) (d .limit) v) ⌝ }
+{
+    let first = d.a;
+    let second = d.b;
+    let limit = d.limit;
+    let p = limit.0;
+    let q = limit.1;
+    if real::outside_limit(v, first, second) {
+        return false;
+    }
+    if real::outside_limit(x, p, q) {
+        return false;
+    }
+    let length = ranged1d::unsigned_abs(q - p);
+    let way = ranged1d::unsigned_abs(v - first);
+    let pixels = ranged1d::unsigned_abs(x - p);
+    is_multiple(length, way, pixels, ranged1d::unsigned_abs(second - first))
+}
+
+// The place of the mark v, which is worked out only where x cannot be told to be it.
+fn place_at(d: Draft, v: i32, x: i32) -> i32
+    requires { ⌜ Admitted d ⌝ }
+    ensures { λ r. ⌜ r ≡ placeOf (d .a) (d .b) (d .limit) v ⌝ }
+{
+    if is_counted(d, v, x) {
+        return x;
+    }
+    place_of(d.a, d.b, d.limit, v)
+}
+
+// Whether a mark's record ends with this label. Its last four bytes begin with one that was compared before.
+fn is_label(t: [u8; 11], l: &[u8]) -> bool
+    requires { ⌜ length (now l) ≡ 20 ⌝ }
+    ensures { λ r. ⌜ r ≡ sameBytes (drop 9 (now (l .entry))) t ⌝ }
+{
+    if !has_word(l, 9, packed(t[0], t[1], t[2], t[3])) {
+        return false;
+    }
+    if !has_word(l, 13, packed(t[4], t[5], t[6], t[7])) {
+        return false;
+    }
+    has_word(l, 16, packed(t[7], t[8], t[9], t[10]))
+}
+
+// Whether l is the record of the mark v.
+fn is_mark(d: Draft, v: i32, l: &[u8]) -> bool
+    requires { ⌜ Admitted d ⌝ }
+    requires { ⌜ length (now l) ≡ 20 ⌝ }
+    ensures { λ r. ⌜ r ≡ sameBytes (now (l .entry)) (laid (markAt (d .a) (d .b) (d .limit) v)) ⌝ }
+{
+    if l[0] != MARK {
+        return false;
+    }
+    if !has_word(l, 1, bits(v)) {
+        return false;
+    }
+    let x = ranged1d::signed(word_at(l, 5));
+    if !has_word(l, 5, bits(place_at(d, v, x))) {
+        return false;
+    }
+    let t = decimal::label(v);
+    let label = t.bytes;
+    is_label(label, l)
 }
 
 // Whether l is the records of n marks, one behind another.
 fn has_marks(d: Draft, p: KeyPoints, n: usize, l: &[u8]) -> bool
+    requires { ⌜ Admitted d ⌝ }
     requires { ⌜ length (now l) ≡ 20 * n ⌝ }
     requires { ⌜ ((k : ℕ) → k < n → Reachable p k) ⌝ }
     ensures { λ r. ⌜ r ≡ sameBytes (now (l .entry)) (joined (map (markAt (d .a) (d .b) (d .limit)) (listOf (element (p .first) (p .step)) n))) ⌝ }
 {
     let mut k = 0;
     while k < n {
-        let body = body_at(d, p, k);
+        let v = mark(p, k);
         let at = 20 * k;
-        if !is_record(MARK, &body, &l[at..at + 20]) {
+        if !is_mark(d, v, &l[at..at + 20]) {
             return false;
         }
         k += 1;
@@ -847,6 +981,87 @@ pub fn downgrade(bytes: &[u8], out: &mut [u8]) -> Moved
                     Moved::Refused(Refusal::TwistLost)
                 }
             }
+        }
+    }
+}
+
+// Whether x is admitted as a limit once it is c further on; in i64, since c may be any i32.
+fn admitted_on(x: i32, c: i32) -> bool
+    ensures { λ r. ⌜ r ≡ pixelAdmitted (x +ℤ c) ⌝ }
+{
+    let y = x as i64 + c as i64;
+    if y < -1000000 {
+        return false;
+    }
+    y <= 1000000
+}
+
+fn limits_admitted_on(limit: Limit, c: i32) -> bool
+    ensures { λ r. ⌜ r ≡ limitAdmitted (shiftedLimit c limit) ⌝ }
+{
+    if admitted_on(limit.0, c) {
+        return admitted_on(limit.1, c);
+    }
+    false
+}
+
+// The four bytes of x at a place, the lowest first.
+fn put_word(x: u32, at: usize, l: &mut [u8])
+    requires { ⌜ at + 4 ≤ length (now l) ⌝ }
+    ensures { λ _. ⌜ now (l .exit) ≡ putWord at x (now (l .entry)) ⌝ }
+{
+    l[at] = (x % 256) as u8;
+    l[at + 1] = (x / 256 % 256) as u8;
+    l[at + 2] = (x / 65536 % 256) as u8;
+    l[at + 3] = (x / 16777216 % 256) as u8;
+}
+
+// The number at a place, n further on. By their 32 bits whole numbers of either sign are added as others are.
+fn add_at(n: u32, at: usize, l: &mut [u8])
+    requires { ⌜ at + 4 ≤ length (now l) ⌝ }
+    ensures { λ _. ⌜ now (l .exit) ≡ addedAt n at (now (l .entry)) ⌝ }
+{
+    put_word(std::num::wrapping_add_u32(word_at(l, at), n), at, l);
+}
+
+// The places in the records of so many marks, behind head bytes, n further on.
+fn add_to_places(n: u32, head: usize, count: usize, l: &mut [u8])
+    requires { ⌜ head + 20 * count ≤ length (now l) ⌝ }
+    ensures { λ _. ⌜ now (l .exit) ≡ addedToPlaces n head count (now (l .entry)) ⌝ }
+{
+    let mut k = 0;
+    while k < count {
+        add_at(n, head + 20 * k + 5, l);
+        k += 1;
+    }
+}
+
+// The limits in the bytes of a ruler with so many marks, and its places, n further on; but equal ends have a place in which p has no part.
+fn add_to_film(d: Draft, count: usize, n: u32, l: &mut [u8])
+    requires { ⌜ headLong (d .form) + 20 * count ≤ length (now l) ⌝ }
+    ensures { λ _. ⌜ now (l .exit) ≡ addedToFilm d count n (now (l .entry)) ⌝ }
+{
+    add_at(n, 9, l);
+    add_at(n, 13, l);
+    if d.a == d.b {
+        return;
+    }
+    add_to_places(n, head_of(d), count, l);
+}
+
+// Moves the limits of a ruler by c, and its places with them, where it lies: no place is worked out anew.
+pub fn shift(bytes: &mut [u8], c: i32) -> Shifted
+    ensures { λ r. ⌜ (tellShifted r, now (bytes .exit)) ≡ rulerShift c (now (bytes .entry)) ⌝ }
+{
+    match examine(bytes) {
+        Seen::Nothing => Shifted::Refused(Refusal::NotARuler),
+        Seen::Ruler(d, p) => {
+            let limit = d.limit;
+            if !limits_admitted_on(limit, c) {
+                return Shifted::Refused(Refusal::LimitNotAdmitted);
+            }
+            add_to_film(d, p.count as usize, bits(c), bytes);
+            Shifted::Done
         }
     }
 }

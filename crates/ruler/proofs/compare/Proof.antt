@@ -15,6 +15,7 @@ use Rattle.decimal.proofs.Texts.{same-equal, same-yes}
 use Rattle.ranged1d.proofs.Pieces.{rest-is}
 use Rattle.ruler.specs.Bytes.{headLong}
 use Rattle.ruler.proofs.Records.{head, marksOf}
+use Rattle.ruler.proofs.Places.{ends, film}
 use Rattle.ruler.proofs.Drawn.{is-drawn, ruler-long, ruler-head, ruler-rest, ruler-whole}
 use Rattle.ruler.proofs.Reader.{bytesOf, planFor, seen-none, seen-same, seen-other}
 use borrow.Author.Needs.{needs}
@@ -113,7 +114,10 @@ part-has-marks-end c = search needs
 has-marks-requires : tie.Need-has-marks-requires
 has-marks-requires c κs =
     let q = c .before .before .before .before .before .before .before .before in
-    (rw (rest-is (c .before .before .before .before .before .head-of .result) (l q), length-drop) (omega arith), is-drawn _ _ _ _ _ (plan-is q) .reachable)
+    let known = is-drawn _ _ _ _ _ (plan-is q) in (
+      (ends _ _ _ _ (known .has), film _ _ _ _ (known .has)),
+      (rw (rest-is (c .before .before .before .before .before .head-of .result) (l q), length-drop) (omega arith), known .reachable),
+    )
 
 returns-3 : tie.Need-returns-3
 unfolding others
