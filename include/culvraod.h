@@ -5,8 +5,9 @@
  * Every call returns an int32_t:
  *    0   answered: the answer stands where the pointers point;
  *   -1   none: there is no such value (only calls that say so);
- *   1..  refused: of the numbers that apply the first of 26, 27, 1, 2, 18, 3 to
- *        9, 20 to 22, 10, 19, 11, 12, 28, 17, 24, 25, 13 to 16, in this order.
+ *   1..  refused: of the numbers that apply the first of 23, 26, 27, 1, 2, 18, 3
+ *        to 9, 20 to 22, 10, 19, 11, 12, 28, 17, 24, 25, 13 to 16, in this
+ *        order; of a film, behind 23, that of its first border that is refused.
  *
  * Memory:
  *   - A list is a pointer and its length in entries. The pointer is valid even
@@ -64,6 +65,7 @@ enum {
     CULV_NO_CHART_ENTRY = 20,     /* the pin is at no entry, or the list is too long for a chart */
     CULV_COUNT_FULL = 21,         /* there are 65535 pins at the entry already */
     CULV_COUNT_EMPTY = 22,        /* there is no pin at the entry */
+    CULV_BORDER_COUNT = 23,       /* a film without borders, or with more than 16 */
     CULV_TOO_MANY_DIGITS = 24,    /* more than 6 digits are to be decimals */
     CULV_NOT_A_DECIMAL = 25,      /* the text is printed of no admitted number */
     CULV_BAD_WEEK = 26,           /* the windows are no running week */
@@ -907,6 +909,39 @@ int32_t culv_decimal_print(int32_t x, uint32_t f, uint8_t *out, size_t len,
  */
 int32_t culv_decimal_read(const uint8_t *text, size_t len, uint32_t f,
                           int32_t *x);
+/* ---- Several borders on one film ---- */
+
+/* The most borders of a film. */
+#define CULV_BORDERS_MAX 16
+
+/*
+ * The rulers of the borders of one film, all of kind 6, one behind another in
+ * border order, under one mark limit m for the film. borders has five numbers
+ * for each border, a, b, p, q and twist as culv_ruler_write_inside_twisted takes
+ * them, so that len is five times the number of borders n.
+ *
+ * Each border may use m / n marks, and the first m % n of them one more: it gets
+ * the very ruler that culv_ruler_write_inside_twisted gives it alone with that
+ * share as its mark limit, whatever the other borders are. All together have at
+ * most m + n marks. A ruler's first 26 bytes tell where it ends: its kind, axis,
+ * limits, mark limit and twist give its number of marks, which take 20 bytes
+ * each.
+ *
+ * 0: *bytes is the number of bytes written, *marks the number of marks of all
+ *    rulers together.
+ * Refused:
+ *   23: n is 0 or above 16, or len is no multiple of five;
+ *   else the first border that is refused decides, and nothing is written:
+ *    1: a or b is not admitted;
+ *    2: p or q is not admitted;
+ *    3: no step serves for the border's share;
+ *   13: the bytes that the rulers before it leave of out are too short for it;
+ *   15: its twist is neither 0 nor 1.
+ */
+int32_t culv_film_write(const int32_t *borders, size_t len, uint32_t m,
+                        uint8_t *out, size_t out_len, size_t *bytes,
+                        size_t *marks);
+
 /* ---- The running week ---- */
 
 /*

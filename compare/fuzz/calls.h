@@ -15,11 +15,12 @@ extern const struct call WHOLE_STEP_CALLS[];
 extern const struct call REAL_STEP_CALLS[];
 extern const struct call OTHER_CALLS[];
 extern const struct call CHART_CALLS[];
-enum { AXIS_COUNT = 18, STEP_COUNT = 13, OTHER_COUNT = 19, CHART_COUNT = 3 };
+enum { AXIS_COUNT = 18, STEP_COUNT = 13, OTHER_COUNT = 20, CHART_COUNT = 3 };
 
 /* Trials that stand in files of their own. */
 void decimal_print(void);
 void decimal_read(void);
+void film_write(void);
 void week_running(void);
 void week_clock(void);
 

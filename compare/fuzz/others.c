@@ -349,5 +349,5 @@ const struct call OTHER_CALLS[OTHER_COUNT] = {
     CALL(ruler_label), CALL(ruler_pair), CALL(ruler_upgrade), CALL(ruler_downgrade), CALL(ruler_shift), CALL(label),
     CALL(label_scientific),
     CALL(decimal_print), CALL(decimal_read),
-    CALL(week_running), CALL(week_clock),
+    CALL(film_write), CALL(week_running), CALL(week_clock),
 };

@@ -29,6 +29,8 @@ mod beside;
 #[cfg(feature = "library")]
 mod charts;
 #[cfg(feature = "library")]
+mod film;
+#[cfg(feature = "library")]
 mod fixed;
 #[cfg(feature = "library")]
 mod lends;
@@ -65,6 +67,7 @@ const FAMILIES: &[Family] = &[
     family!(readings),
     family!(real_marks),
     family!(rulers),
+    family!(film),
     family!(search),
     family!(linspace),
     family!(labels),

@@ -22,7 +22,7 @@ const DAMAGED: usize = 5_000;
 
 /// Which marks a ruler has, plotters' own or those of them that lie on the axis; and its twist.
 #[derive(Clone, Copy, PartialEq)]
-struct Kind {
+pub struct Kind {
     inside: bool,
     twist: Option<Twist>,
 }
@@ -31,13 +31,13 @@ const CUT: Kind = Kind {
     inside: false,
     twist: None,
 };
-const INSIDE: Kind = Kind {
+pub const INSIDE: Kind = Kind {
     inside: true,
     twist: None,
 };
 
 impl Kind {
-    fn with(self, twist: Twist) -> Kind {
+    pub fn with(self, twist: Twist) -> Kind {
         let twist = Some(twist);
         Kind { twist, ..self }
     }
@@ -97,7 +97,7 @@ impl Display for Draft {
 }
 
 impl Draft {
-    fn random(random: &mut Random) -> Draft {
+    pub fn random(random: &mut Random) -> Draft {
         let mut number = |most| drawn(random, most) as i32;
         let ends = [number(1_000_000_000), number(1_000_000_000)];
         let limits = [number(1_000_000), number(1_000_000)];
@@ -127,7 +127,7 @@ impl Draft {
     }
 
     /// The step, and the marks of a kind with their places, both of plotters; or the refusal.
-    fn plotters(self, kind: Kind) -> Result<(i32, Vec<(i32, i32)>), i32> {
+    pub fn plotters(self, kind: Kind) -> Result<(i32, Vec<(i32, i32)>), i32> {
         let [a, b] = self.ends;
         let rule = self.rule()?;
         let axis = plotters::coord::RangedCoordi32::from(a..b);
@@ -143,7 +143,7 @@ impl Draft {
     }
 }
 
-fn bytes_of(kind: Kind, draft: Draft, step: i32, marks: &[(i32, i32)]) -> Vec<u8> {
+pub fn bytes_of(kind: Kind, draft: Draft, step: i32, marks: &[(i32, i32)]) -> Vec<u8> {
     let Draft { ends, limits, m } = draft;
     let mut bytes = vec![kind.byte()];
     let numbers = ends.iter().chain(&limits);

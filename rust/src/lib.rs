@@ -15,8 +15,8 @@
 //! | [`Chart`] | the pins at the entries of an axis by a step |
 //! | [`FloatPrettyPrinter`] | the form of a label |
 //!
-//! Rulers are in [`ruler`], searches of any list in [`search`], whole numbers with decimals in
-//! [`fixed`], the running week in [`week`].
+//! Rulers are in [`ruler`], several borders on one film in [`film`], searches of any list in
+//! [`search`], whole numbers with decimals in [`fixed`], the running week in [`week`].
 //!
 //! ```
 //! use culvraod::{ruler, Limit, RangedCoordi32, Refusal};
@@ -79,6 +79,7 @@
 //! | 20 | [`NoChartEntry`](Refusal::NoChartEntry) | a pin is at no entry of its chart, or a chart's list has more than 1,024 entries |
 //! | 21 | [`CountFull`](Refusal::CountFull) | a pin is set where 65,535 are counted |
 //! | 22 | [`CountEmpty`](Refusal::CountEmpty) | a pin is pulled where none is counted |
+//! | 23 | [`BorderCount`](Refusal::BorderCount) | a film has no border, or more than 16 |
 //! | 24 | [`TooManyDigits`](Refusal::TooManyDigits) | more than 6 digits of a whole number are to be decimals |
 //! | 25 | [`NotADecimal`](Refusal::NotADecimal) | a text is printed of no admitted number with so many decimals |
 //! | 26 | [`BadWeek`](Refusal::BadWeek) | windows are empty, touch, descend, end beyond minute 10,080, or are more than 32 |
@@ -96,6 +97,7 @@
 
 pub mod chart;
 pub mod counts;
+pub mod film;
 pub mod fixed;
 pub mod label;
 mod limit;

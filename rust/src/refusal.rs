@@ -18,7 +18,7 @@ macro_rules! refusals {
         use Refusal::*;
 
         /// Every refusal, in the order of their numbers.
-        const ALL: [Refusal; 27] = [$($name),*];
+        const ALL: [Refusal; 28] = [$($name),*];
 
         impl Refusal {
             fn text(self) -> &'static str {
@@ -31,8 +31,9 @@ macro_rules! refusals {
 }
 
 refusals! {
-    /// Why a call stopped. Of several reasons it is the first in the order 26, 27, 1, 2, 18, 3 to 9,
-    /// 20 to 22, 10, 19, 11, 12, 28, 17, 24, 25, 13 to 16.
+    /// Why a call stopped. Of several reasons it is the first in the order 23, 26, 27, 1, 2, 18, 3 to
+    /// 9, 20 to 22, 10, 19, 11, 12, 28, 17, 24, 25, 13 to 16; of a film, behind 23, that of its first
+    /// border that is refused.
     ///
     /// The [crate's page](crate#refusals) has a table of the numbers and of when each is met.
     ///
@@ -66,6 +67,7 @@ refusals! {
     20 NoChartEntry "the pin is at no entry, or the list is too long for a chart";
     21 CountFull "there are 65,535 pins at the entry already";
     22 CountEmpty "there is no pin at the entry";
+    23 BorderCount "the film has no border, or more than 16";
     24 TooManyDigits "more than 6 digits are to be decimals";
     25 NotADecimal "the text is printed of no admitted number with so many decimals";
     26 BadWeek "the windows are no running week";
@@ -146,7 +148,7 @@ mod tests {
 
     #[test]
     fn numbers_are_in_order() {
-        let numbers = (1..=22).chain(24..=28);
+        let numbers = 1..=28;
         assert!(ALL.iter().map(|refusal| refusal.number()).eq(numbers));
         assert_eq!(Refusal::from_number(13), Some(OutTooShort));
         assert_eq!(answered("call", 0, 7), Ok(7));

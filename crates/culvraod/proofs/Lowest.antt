@@ -46,6 +46,7 @@ lowest-first = record {
   ruler-plan = λ a b limit m. tt;
   ruler-write = λ f a b limit m old. tt;
   ruler-twisted = λ c t a b limit m old. tt;
+  film-write = λ l t a b limit m old. tt;
   ruler-upgrade = λ l old. tt;
   ruler-downgrade = λ l old. tt;
   ruler-shift = λ c l. tt;

@@ -3,11 +3,11 @@
 -- the lowest that does. `lowest-first` of proofs/Lowest proves it. Assumes nothing.
 use Prim.Native.Nat.{ℕ}
 use mathlib.Core.Bool.{Bool}
-use mathlib.Core.List.{List}
+use mathlib.Core.List.{List, _∷_}
 use lib.Dec.{T}
 use lib.IntN.{ℤ}
 use lib.Ieee.{Float}
-use Rattle.ranged1d.specs.Answer.{Reason, rising}
+use Rattle.ranged1d.specs.Answer.{Reason, _when_, rising}
 use Rattle.ranged1d.specs.declared.Limit.{Limit}
 use Rattle.keypoints.specs.Marks.{realKeyPointsReasons}
 use Rattle.real.specs.Place.{realPlaceReasons, wholePlaceReasons}
@@ -26,9 +26,11 @@ use Rattle.segmented.specs.Values.{Segment}
 use Rattle.segmented.specs.Segments.{Axis, Finder}
 use Rattle.segmented.specs.Segments as segments
 use Rattle.numeric.specs.declared.Choice.{Choice}
+use Rattle.numeric.specs.declared.Choice.the-variants.{Inside}
 use Rattle.ruler.specs.declared.Form.{Form}
 use Rattle.ruler.specs.Rule.{noRuler, writeReasonsBy, twistedReasons, upgradeReasons, downgradeReasons}
 use Rattle.ruler.specs.Shifting.{shiftReasons}
+use Rattle.film.specs.Film.{noFilm}
 use Rattle.float.specs.Calls.{printReasons, scientificReasons}
 use Rattle.fixed.specs.Fixed.{fixedReasons, fixedReadReasons}
 
@@ -73,6 +75,7 @@ pub record LowestFirst : Type 1 where
   pub ruler-plan : (a b : ℤ) (limit : Limit) (m : ℕ) → Rising (noRuler a b limit m)
   pub ruler-write : (f : Form) (a b : ℤ) (limit : Limit) (m : ℕ) (old : List ℕ) → Rising (writeReasonsBy f a b limit m old)
   pub ruler-twisted : (c : Choice) (t : ℕ) (a b : ℤ) (limit : Limit) (m : ℕ) (old : List ℕ) → Rising (twistedReasons c t a b limit m old)
+  pub film-write : (l : List ℤ) (t : ℕ) (a b : ℤ) (limit : Limit) (m : ℕ) (old : List ℕ) → Rising (23 when noFilm l ∷ twistedReasons Inside t a b limit m old)
   pub ruler-upgrade : (l old : List ℕ) → Rising (upgradeReasons l old)
   pub ruler-downgrade : (l old : List ℕ) → Rising (downgradeReasons l old)
   pub ruler-shift : (c : ℤ) (l : List ℕ) → Rising (shiftReasons c l)

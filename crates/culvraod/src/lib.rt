@@ -25,6 +25,7 @@ ghost use Rattle.culvraod.specs.Search.{methodOf, byMethod};
 ghost use Rattle.fixed.specs.Fixed.{tellPrinted, tellNumber, fixedPrint, fixedRead};
 ghost use Rattle.week.specs.Week.{tellMinute, runningMinute, clockMinute};
 ghost use Rattle.ruler.specs.Rule.{tellWrote, tellMoved, rulerWrite, rulerWriteInside, twistedWrite, rulerUpgrade, rulerDowngrade, rulerOf, rulerRead, recordIn, labelIn, sideOf};
+ghost use Rattle.film.specs.Film.{filmWrite};
 ghost use Rattle.ruler.specs.Shifting.{rulerShift};
 ghost use Rattle.culvraod.specs.Ruler.{readC, readKindC, heldC, partC, pairC};
 ghost use Rattle.culvraod.specs.Boundary.{code, single, double};
@@ -466,6 +467,19 @@ pub extern "C" fn culv_ruler_write_inside_twisted(
         bytes,
         marks,
     )
+}
+
+#[no_mangle]
+pub extern "C" fn culv_film_write(
+    borders: &[i32],
+    m: u32,
+    out: &mut [u8],
+    bytes: &mut usize,
+    marks: &mut usize,
+) -> i32
+    ensures { λ r. ⌜ (r, now (out .exit), now (bytes .exit), now (marks .exit)) ≡ keyPointsC (filmWrite (now (borders .entry)) m (now (out .entry))) (now (bytes .entry)) (now (marks .entry)) ⌝ }
+{
+    give_wrote(film::write(borders, m, out), bytes, marks)
 }
 
 #[no_mangle]

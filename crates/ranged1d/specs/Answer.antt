@@ -31,7 +31,7 @@ lowest (r ∷ rs) a = cond (r .applies) (refused (r .number)) (lowest rs a)
 
 -- The numbers of all refusals, the lowest first: 01's as they rise, and each of 02's at the place that 02 gives it among them.
 abbrev pub order : List ℕ
-order = 26 ∷ 27 ∷ 1 ∷ 2 ∷ 18 ∷ 3 ∷ 4 ∷ 5 ∷ 6 ∷ 7 ∷ 8 ∷ 9 ∷ 20 ∷ 21 ∷ 22 ∷ 10 ∷ 19 ∷ 11 ∷ 12 ∷ 28 ∷ 17 ∷ 24 ∷ 25 ∷ 13 ∷ 14 ∷ 15 ∷ 16 ∷ []
+order = 23 ∷ 26 ∷ 27 ∷ 1 ∷ 2 ∷ 18 ∷ 3 ∷ 4 ∷ 5 ∷ 6 ∷ 7 ∷ 8 ∷ 9 ∷ 20 ∷ 21 ∷ 22 ∷ 10 ∷ 19 ∷ 11 ∷ 12 ∷ 28 ∷ 17 ∷ 24 ∷ 25 ∷ 13 ∷ 14 ∷ 15 ∷ 16 ∷ []
 
 -- The place of a number in that order, counted from 1; 0 for a number that is not there.
 abbrev pub placeFrom : ℕ → List ℕ → ℕ → ℕ

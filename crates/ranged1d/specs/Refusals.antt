@@ -1,7 +1,7 @@
 -- 01 "Why a call stops": the number of each refusal. Assumes nothing.
 use Prim.Native.Nat.{ℕ}
 use Rattle.ranged1d.specs.declared.Refusal.{Refusal}
-use Rattle.ranged1d.specs.declared.Refusal.the-variants.{WholeNotAdmitted, LimitNotAdmitted, NoStep, NoSegments, TooFar, StepAgainstAxis, ListTooLong, NotMonotone, NanTarget, AboveI32, NotPrintable, TooManyDecimals, OutTooShort, NotARuler, UnknownTwist, TwistLost, RealAxisNotMarked, NotOnAxis, BelowI32, TooManyDigits, NotADecimal, BadWeek, BadMinute, TooSmall, NoChartEntry, CountFull, CountEmpty}
+use Rattle.ranged1d.specs.declared.Refusal.the-variants.{WholeNotAdmitted, LimitNotAdmitted, NoStep, NoSegments, TooFar, StepAgainstAxis, ListTooLong, NotMonotone, NanTarget, AboveI32, NotPrintable, TooManyDecimals, OutTooShort, NotARuler, UnknownTwist, TwistLost, RealAxisNotMarked, NotOnAxis, BelowI32, TooManyDigits, NotADecimal, BadWeek, BadMinute, TooSmall, NoChartEntry, CountFull, CountEmpty, BorderCount}
 
 abbrev pub numberOf : Refusal → ℕ
 -- a whole end, value, step or list entry that is not admitted
@@ -58,3 +58,5 @@ numberOf NoChartEntry = 20
 numberOf CountFull = 21
 -- 02 (h): a pin less where none is counted
 numberOf CountEmpty = 22
+-- 02 (j): a film without borders, or with more than 16
+numberOf BorderCount = 23

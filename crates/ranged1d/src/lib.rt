@@ -40,6 +40,7 @@ pub enum Refusal {
     NoChartEntry,
     CountFull,
     CountEmpty,
+    BorderCount,
 }
 
 // How many entries or marks were written to a lent list.
@@ -80,6 +81,7 @@ impl Refusal {
             Refusal::NoChartEntry => 20,
             Refusal::CountFull => 21,
             Refusal::CountEmpty => 22,
+            Refusal::BorderCount => 23,
         }
     }
 }

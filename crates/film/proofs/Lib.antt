@@ -1,0 +1,9 @@
+pub mod Borders
+pub mod Settled
+pub mod Shares
+pub mod Walk
+pub mod Puts
+pub mod Calls
+pub mod Theorems
+pub mod Mirror
+pub mod Worked
