@@ -1,7 +1,7 @@
 -- Two floats of one sign compared, by the fractions that they equal. Assumes nothing.
 use Rattle.std.proofs.Common.{◌≡◌, ℕ, ◌*◌, ◌<◌, ◌≤◌, Bool, true, false, ltb, ℤ, sym, refl, ◌∙◌, subst, true≢false, lt_of_not-le, mul-one, not-le_of_lt, ltb-false, ltb-true}
 use mathlib.Core.Bool.{false≢true}
-use lib.Ieee.{Float, fin, up, down, lt}
+use lib.Ieee.{Float, fin, up, down, lt, inf, nan}
 use lib.Ieee.Fits.{down_pos}
 use lib.Ieee.Exact.{HasValue}
 use lib.Ieee.Order.{transfer}
@@ -34,6 +34,12 @@ compared true t (fin false m e) (fin false n g) a b c d pb pd v w h = absurd (fa
 compared false t (fin true m e) (fin true n g) a b c d pb pd v w h = absurd (true≢false v.0)
 compared false t (fin false m e) (fin false n g) a b c d pb pd v w h =
     crossed t (m * up e) (down e) (n * up g) (down g) a b c d (down_pos e) (down_pos g) pb pd v.1 w.1 (says (m * up e * down g) (n * up g * down e) t h)
+compared s t nan y a b c d pb pd v w h = elim v [ ]
+compared s t (inf _) y a b c d pb pd v w h = elim v [ ]
+compared s t (fin false m e) nan a b c d pb pd v w h = elim w [ ]
+compared s t (fin false m e) (inf _) a b c d pb pd v w h = elim w [ ]
+compared s t (fin true m e) nan a b c d pb pd v w h = elim w [ ]
+compared s t (fin true m e) (inf _) a b c d pb pd v w h = elim w [ ]
 compared true t (fin true m e) (fin true n g) a b c d pb pd v w h =
     crossed t (n * up g) (down g) (m * up e) (down e) c d a b (down_pos g) (down_pos e) pd pb w.1 v.1 (says (n * up g * down e) (m * up e * down g) t h)
 

@@ -100,6 +100,8 @@ stays_large w (fin s m e) t h = stays_whole binary64 w s m e (big_whole binary64
 -- ---- below 2 ^ 52: x against its floor
 pub whole_small : (w : Way) (x : Float) → Small x → nat_abs (whole_of w x) ≤ 2 ^ 52
 unfolding whole_of
+whole_small w nan b = elim b [ ]
+whole_small w (inf _) b = elim b [ ]
 whole_small w (fin s m e) b =
     rw (signed_abs s (sized w s (m * up e) (down e))) (sized_le w s (m * up e) (down e) 4503599627370496 (down_pos e) (omega arith))
 
@@ -157,9 +159,13 @@ written true m e h = sym (of_signed binary64 true (upper (m * up e) (down e)) (g
     go (suc k) i g = zero-lt-suc k
 
 pub floor-cut : (x : Float) → Small x → lt (of_int binary64 (whole_of floors x)) x ≡ true → integral binary64 floors x ≡ of_int binary64 (whole_of floors x)
+floor-cut nan b h = elim b [ ]
+floor-cut (inf _) b h = elim b [ ]
 floor-cut (fin s m e) b h = let g = met_fin s true m e b h in goes binary64 floors s m e (some s m e g) ∙ written s m e g
 
 pub stays_floor : (w : Way) (x : Float) → Small x → lt (of_int binary64 (whole_of floors x)) x ≡ false → integral binary64 w x ≡ x
+stays_floor w nan b h = elim b [ ]
+stays_floor w (inf _) b h = elim b [ ]
 stays_floor w (fin s m e) b h =
     let k = sized floors s (m * up e) (down e) in
     stays_whole binary64 w s m e (ap (λ (z : ℕ). z % down e) (sym (met_fin s false m e b h)) ∙ mul-mod_left k (down e))
@@ -175,6 +181,8 @@ half_val k h =
 add_half : (y : Float) (k : ℕ) → k < 2 ^ 52 → HasValue y false k 1 → HasValue (add binary64 y half) false (2 * k + 1) 2
 unfolding add sum
 add_half (fin true m e) k h v = absurd (true≢false v.0)
+add_half nan k h v = elim v [ ]
+add_half (inf _) k h v = elim v [ ]
 add_half (fin false m e) k h v =
     let n : m * up e ≡ k * down e = sym (mul-one (m * up e)) ∙ v.1 in
     let p : 0 < down e * 2 = omega (arith, down_pos e) in
@@ -200,6 +208,8 @@ unfolding whole_of
 fraction (fin true m e) b g h =
     let z : m * up e ≡ 0 = not_below m e g in
     absurd (some true m e (met_fin true true m e b h) (none_mod (m * up e) (down e) (down_pos e) z))
+fraction nan b g h = elim b [ ]
+fraction (inf _) b g h = elim b [ ]
 fraction (fin false m e) b g h =
     let n = m * up e in
     let d = down e in
@@ -257,6 +267,8 @@ round_step x t b g l h =
 -- ---- within a bound
 pub within_small : (w : Way) (b : ℕ) (x : Float) → Small x → within w b x ≡ kept b (whole_of w x)
 unfolding within
+within_small w b nan h = elim h [ ]
+within_small w b (inf _) h = elim h [ ]
 within_small w b (fin s m e) h = refl
 
 pub within_nan : (w : Way) (b : ℕ) (x : Float) → ne x x ≡ true → within w b x ≡ Number (pos 0)

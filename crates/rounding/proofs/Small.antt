@@ -26,6 +26,8 @@ module _ (P : Float → Type 0) (f : Format) (s : Bool) (finite : (m : ℕ) (e :
 
 pub small_neg : (C : ℕ) (x : Float) → AtMost C x → AtMost C (neg x)
 unfolding neg
+small_neg C nan w = elim w [ ]
+small_neg C (inf _) w = elim w [ ]
 small_neg C (fin s m e) w = w
 
 -- its sign is kept
@@ -51,6 +53,15 @@ under C (inf true) (fin u n d) s v t = absurd (true≢false s)
 under C (inf false) (fin u n d) s v t = absurd t
 under C (fin true m e) (fin u n d) s v t = absurd (true≢false s)
 under C (fin false m e) (fin true n d) s v t = absurd (true≢false v.0)
+under C nan y s v t = elim s [ ]
+under C (inf false) nan s v t = elim v [ ]
+under C (inf false) (inf _) s v t = elim v [ ]
+under C (inf true) nan s v t = elim v [ ]
+under C (inf true) (inf _) s v t = elim v [ ]
+under C (fin false m e) nan s v t = elim v [ ]
+under C (fin false m e) (inf _) s v t = elim v [ ]
+under C (fin true m e) nan s v t = elim v [ ]
+under C (fin true m e) (inf _) s v t = elim v [ ]
 under C (fin false m e) (fin false n d) s v t =
     let l : m * up e * down d ≤ n * up d * down e = or_le (m * up e * down d) (n * up d * down e) _ t in
     let q : n * up d * down e ≡ C * down e * down d = ap (λ (z : ℕ). z * down e) (sym (mul-one (n * up d)) ∙ v.1) ∙ mul_right_comm C (down d) (down e) in
@@ -73,6 +84,10 @@ module _ (f : Format) (C : ℕ) (exact : HasValue (round f false C 1) false C 1)
   -- ---- the operations
   pub add_small : (A B : ℕ) (x y : Float) → A + B ≤ C → AtMost A x → AtMost B y → AtMost C (add f x y)
   unfolding add
+  add_small A B nan y h v w = elim v [ ]
+  add_small A B (inf _) y h v w = elim v [ ]
+  add_small A B (fin s m e) nan h v w = elim w [ ]
+  add_small A B (fin s m e) (inf _) h v w = elim w [ ]
   add_small A B (fin s m e) (fin t n d) h v w =
       let c = down e * down d in
       let a : m * up e * down d ≤ A * c = le_trans (mul-le-mul_right (down d) v) (le_of_eq (mul_assoc A (down e) (down d))) in
@@ -82,6 +97,10 @@ module _ (f : Format) (C : ℕ) (exact : HasValue (round f false C 1) false C 1)
 
   pub mul_small : (A B : ℕ) (x y : Float) → A * B ≤ C → AtMost A x → AtMost B y → AtMost C (mul f x y)
   unfolding mul
+  mul_small A B nan y h v w = elim v [ ]
+  mul_small A B (inf _) y h v w = elim v [ ]
+  mul_small A B (fin s m e) nan h v w = elim w [ ]
+  mul_small A B (fin s m e) (inf _) h v w = elim w [ ]
   mul_small A B (fin s m e) (fin t n d) h v w =
       let c = down e * down d in
       let l : m * up e * (n * up d) ≤ A * down e * (B * down d) = mul-le-mul v w in

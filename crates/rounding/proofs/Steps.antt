@@ -173,6 +173,10 @@ pub anchored : (s : Bool) (x : Float) → Small x → lt x zero_f ≡ s → Anch
 anchored true (fin true m e) b h = anchored_fin true m e b
 anchored true (fin false m e) b h = absurd (not_negative m e h)
 anchored false (fin true m e) b h = anchored_zero m e (not_below m e h)
+anchored false nan b h = elim b [ ]
+anchored false (inf _) b h = elim b [ ]
+anchored true nan b h = elim b [ ]
+anchored true (inf _) b h = elim b [ ]
 anchored false (fin false m e) b h = anchored_fin false m e b
 
 -- ---- and after it
@@ -185,6 +189,8 @@ unfolding sub of_int neg
 less_one z h = whole_sum binary64 z (negsuc 0) h (omega arith)
 
 pub floor-less : (x t : Float) → Anchored x t → lt x t ≡ true → sub binary64 t one_f ≡ of_int binary64 (whole_of floors x)
+floor-less nan t a h = elim a [ ]
+floor-less (inf _) t a h = elim a [ ]
 floor-less (fin s m e) t a h =
     let q = a.0 in
     let n = m * up e in
@@ -200,6 +206,8 @@ floor-less (fin s m e) t a h =
         one_more q ∙ sym (at-floor true m e (suc q) (sized_is floors true (m * up e) (down e) (suc q) (down_pos e) (omega (arith, suc-mul q (down e)), omega (arith, suc-mul q (down e)))))
 
 pub floor-same : (x t : Float) → Anchored x t → lt x t ≡ false → t ≡ of_int binary64 (whole_of floors x)
+floor-same nan t a h = elim a [ ]
+floor-same (inf _) t a h = elim a [ ]
 floor-same (fin s m e) t a h =
     a.3 ∙ ap (of_int binary64) (sym (at-floor s m e a.0 (go s (m * up e) (down e) a.0 (down_pos e) a.2 (after s false m e a.0 (omega (arith, a.1)) (rw a.3 at h)))))
   where

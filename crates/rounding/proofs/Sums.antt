@@ -5,7 +5,7 @@ use Prim.Native.Nat.{Ordering}
 use Prim.Native.Nat.{compare}
 use native.Mathlib.Nat.{lt-div-mul-add, eq_of_mul-eq-mul_right}
 use lib.Pow.{pow-lt}
-use lib.Ieee.{Float, fin, Format, binary32, binary64, prec, emax, low, up, down, size, units, round, sum, add, of_int}
+use lib.Ieee.{Float, fin, Format, binary32, binary64, prec, emax, low, up, down, size, units, round, sum, add, of_int, inf, nan}
 use lib.Ieee.Digits.{size-lt, size-le}
 use lib.Ieee.Fits.{nearest-le, round_is, round-fits, two}
 use lib.Ieee.Exact.{HasValue, units_val}
@@ -65,6 +65,8 @@ room binary64 = lit< tt
 
 -- from units to ones
 pub ones : (x : Float) (s : Bool) (q c : ℕ) → 0 < c → HasValue x s (q * c) c → HasValue x s q 1
+ones nan s q c p v = elim v [ ]
+ones (inf _) s q c p v = elim v [ ]
 ones (fin u m e) s q c p v = (v.0, mul-one (m * up e) ∙ eq_of_mul-eq-mul_right c p (m * up e) (q * down e) (v.1 ∙ mul_right_comm q c (down e)))
 
 module _ (f : Format) (n d : ℕ) (pd : 0 < d) (lo : 2 ^ (prec f - 1) * d ≤ n) (hi : n < 2 ^ prec f * d) where

@@ -30,6 +30,8 @@ signed_times false a u v d g = omega (arith, ap (λ (z : ℕ). z * d) g)
 signed_times true a u v d g = omega (arith, ap (λ (z : ℕ). z * d) g)
 
 pub valued_of : (x : Float) (s : Bool) (a c u v : ℕ) → HasValue x s a c → Signed s a u v → Valued x u v c
+valued_of nan s a c u v p g = elim p [ ]
+valued_of (inf _) s a c u v p g = elim p [ ]
 valued_of (fin t m e) s a c u v p g = rw (p.0, p.1) (signed_times s a u v (down e) g)
 
 taken : (x u v d : ℕ) → 0 < d → x + v * d ≡ u * d → (x ≡ (u - v) * d) × (u - v + v ≡ u)
@@ -40,6 +42,8 @@ taken x u v d D h =
 
 pub of_valued : (x : Float) (u v c : ℕ) → Valued x u v c → (s : Bool) × (a : ℕ) × HasValue x s a c × Signed s a u v
 of_valued (fin false m e) u v c p = let k = taken (m * up e * c) u v (down e) (down_pos e) p in (false, u - v, (refl, k.0), k.1)
+of_valued nan u v c p = elim p [ ]
+of_valued (inf _) u v c p = elim p [ ]
 of_valued (fin true m e) u v c p = let k = taken (m * up e * c) v u (down e) (down_pos e) p in (true, v - u, (refl, k.0), k.1)
 
 -- the same value over another denominator
@@ -110,6 +114,8 @@ of_holds x z p =
     (s, subst (λ (i : ℕ). HasValue x s i 1) k.0 h, subst (λ (i : ℕ). Signed s i (over z) (under z)) k.0 g)
 
 pub one_held : (x : Float) (a b : ℤ) → Holds x a → Holds x b → a ≡ b
+one_held nan a b p q = elim p [ ]
+one_held (inf _) a b p q = elim p [ ]
 one_held (fin s m e) a b p q =
     let l = go s (m * up e * 1) (over a) (under a) (over b) (under b) (down e) (down_pos e) p q in
     both_ways a b (parts_le a b (omega arith)) (parts_le b a (omega arith))
@@ -248,4 +254,8 @@ unfolding within whole_of
 cut_at false (fin false m e) b u v c cp l p = let k = cut (m * up e) (down e) c u v (down_pos e) p cp in (m * up e / down e, refl, k.0, k.1)
 cut_at false (fin true m e) b u v c cp l p = absurd (omega (arith, p, mul-lt-mul_of_pos_right l (down_pos e)))
 cut_at true (fin true m e) b u v c cp l p = let k = cut (m * up e) (down e) c u v (down_pos e) p cp in (m * up e / down e, refl, k.0, k.1)
+cut_at false nan b u v c cp l p = elim p [ ]
+cut_at false (inf _) b u v c cp l p = elim p [ ]
+cut_at true nan b u v c cp l p = elim p [ ]
+cut_at true (inf _) b u v c cp l p = elim p [ ]
 cut_at true (fin false m e) b u v c cp l p = absurd (omega (arith, p, mul-lt-mul_of_pos_right l (down_pos e)))

@@ -62,6 +62,8 @@ number (fin s m e) h = tt
 
 valued_number : (y : Float) (s : Bool) (k : ℕ) → HasValue y s k 1 → T (not (is_nan y))
 unfolding is_nan
+valued_number nan s k v = elim v [ ]
+valued_number (inf _) s k v = elim v [ ]
 valued_number (fin u m e) s k v = tt
 
 pub integral-number : (f : Format) (w : Way) (x : Float) → fits f x ≡ true → T (not (is_nan x)) → T (not (is_nan (integral f w x)))
@@ -77,6 +79,8 @@ stays_nan f w x h = let e = differs_from_itself x (subst T (sym h) tt) in ap (in
 -- ---- a float of a whole value is that whole number by every way
 pub within_of : (w : Way) (b : ℕ) (y : Float) (s : Bool) (k : ℕ) → HasValue y s k 1 → within w b y ≡ kept b (signed s k)
 unfolding within whole_of
+within_of w b nan s k v = elim v [ ]
+within_of w b (inf _) s k v = elim v [ ]
 within_of w b (fin u m e) s k v =
     let d = down e in
     ap (λ (n : ℕ). kept b (signed u (sized w u n d))) (sym (mul-one (m * up e)) ∙ v.1)

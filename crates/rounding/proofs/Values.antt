@@ -1,7 +1,7 @@
 -- An operation on two floats whose values are known as fractions is the rounded fraction of the result. Assumes nothing.
 use Rattle.std.proofs.Common.{◌≡◌, ℕ, ◌+◌, ◌-◌, ◌*◌, ◌<◌, ◌≤◌, Bool, true, false, not, ◌&&◌, ltb, refl, ap, ◌∙◌, mul-le-mul_right, zero-lt-suc, mul_assoc, mul_comm, pos_of_ne-zero, lt_of_mul-lt-mul_right, mul-lt-mul_of_pos_right, mul-pos, zero-mul, mul-one, mul_right_comm, le_of_mul-le-mul_right, arith, ltb-false, ltb-true, le-ltb, lt-ltb, ne_eqb}
 use native.Mathlib.Nat.{mul-mul-mul_comm, mul-sub, eq_of_mul-eq-mul_right}
-use lib.Ieee.{Float, fin, Format, up, down, unlike, round, sum, add, neg, mul, div}
+use lib.Ieee.{Float, fin, Format, up, down, unlike, round, sum, add, neg, mul, div, inf, nan}
 use lib.Ieee.Fits.{up_pos, down_pos}
 use lib.Ieee.Exact.{HasValue}
 use lib.Ieee.Scale.{round_same}
@@ -13,6 +13,10 @@ cross_mul x y k l a b c d p q = mul-mul-mul_comm x y c d ∙ rw (p, q) (mul-mul-
 pub mul-value : (f : Format) (x y : Float) (s t : Bool) (a b c d : ℕ) → 0 < c → 0 < d → HasValue x s a c → HasValue y t b d
     → mul f x y ≡ round f (unlike s t) (a * b) (c * d)
 unfolding mul
+mul-value f nan y s t a b c d C D p q = elim p [ ]
+mul-value f (inf _) y s t a b c d C D p q = elim p [ ]
+mul-value f (fin u m e) nan s t a b c d C D p q = elim q [ ]
+mul-value f (fin u m e) (inf _) s t a b c d C D p q = elim q [ ]
 mul-value f (fin u m e) (fin v n g) s t a b c d C D p q =
     rw (p.0, q.0)
     (round_same f (unlike s t) (m * up e * (n * up g)) (down e * down g) (a * b) (c * d) (mul-pos (down_pos e) (down_pos g)) (mul-pos C D)
@@ -33,6 +37,10 @@ some-digits k u d b l B L h z =
 pub div_value : (f : Format) (x y : Float) (s t : Bool) (a b c d : ℕ) → 0 < c → 0 < b → HasValue x s a c → HasValue y t b d
     → div f x y ≡ round f (unlike s t) (a * d) (b * c)
 unfolding div
+div_value f nan y s t a b c d C B p q = elim p [ ]
+div_value f (inf _) y s t a b c d C B p q = elim p [ ]
+div_value f (fin u m e) nan s t a b c d C B p q = elim q [ ]
+div_value f (fin u m e) (inf _) s t a b c d C B p q = elim q [ ]
 div_value f (fin u m e) (fin v n g) s t a b c d C B p q =
     let some = some-digits n (up g) d b (down g) B (down_pos g) q.1 in
     rw (ne_eqb n 0 some, p.0, q.0)
@@ -72,6 +80,10 @@ over_both x e g a c h = mul_right_comm x g c ∙ ap (λ (z : ℕ). z * g) h ∙ 
 
 pub add-value : (f : Format) (x y : Float) (s t : Bool) (a b c : ℕ) → 0 < c → HasValue x s a c → HasValue y t b c → add f x y ≡ sum f s a t b c
 unfolding add
+add-value f nan y s t a b c C p q = elim p [ ]
+add-value f (inf _) y s t a b c C p q = elim p [ ]
+add-value f (fin u m e) nan s t a b c C p q = elim q [ ]
+add-value f (fin u m e) (inf _) s t a b c C p q = elim q [ ]
 add-value f (fin u m e) (fin v n g) s t a b c C p q =
     rw (p.0, q.0)
     (sum_same f s t (m * up e * down g) (n * up g * down e) (down e * down g) a b c (mul-pos (down_pos e) (down_pos g)) C
@@ -80,10 +92,14 @@ add-value f (fin u m e) (fin v n g) s t a b c C p q =
 
 pub neg_value : (x : Float) (s : Bool) (a c : ℕ) → HasValue x s a c → HasValue (neg x) (not s) a c
 unfolding neg
+neg_value nan s a c p = elim p [ ]
+neg_value (inf _) s a c p = elim p [ ]
 neg_value (fin u m e) s a c p = (ap not p.0, p.1)
 
 -- the same value as another fraction
 pub rescale : (x : Float) (s : Bool) (a c b d : ℕ) → 0 < c → a * d ≡ b * c → HasValue x s a c → HasValue x s b d
+rescale nan s a c b d C h v = elim v [ ]
+rescale (inf _) s a c b d C h v = elim v [ ]
 rescale (fin t m e) s a c b d C h v =
     let v' : m * up e * c ≡ a * down e = v.1 in
     (v.0, eq_of_mul-eq-mul_right c C (m * up e * d) (b * down e) (mul_right_comm (m * up e) d c ∙ ap (λ (z : ℕ). z * d) v' ∙ mul_right_comm a (down e) d ∙ ap (λ (z : ℕ). z * down e) h ∙ mul_right_comm b c (down e)))

@@ -1,0 +1,14 @@
+use mathlib.Core.Path.{◌≡◌, refl, sym, ap, ◌∙◌}
+use Prim.Native.Nat.{ℕ, ◌+◌, ◌-◌, ◌*◌, ◌≤◌}
+use native.Mathlib.Omega.{arith}
+use lib.ListN.{length, drop}
+use Rattle.decimal.specs.Read.{value_of}
+use Rattle.decimal.proofs.Texts.{Room, room_bound, room_start, room_step, value_step, value-end}
+use borrow.Author.Rules.{rules}
+use Rattle.decimal.proofs.value.Given as goal
+
+abbrev pub invariant-loop-i : goal.invariant-loop-i
+invariant-loop-i l = (l.i ≤ length l.s) × (value_of 0 (drop l.at l.s) ≡ value_of l.n (drop l.i l.s)) × Room (11 - l.i) l.n
+
+abbrev pub decreases-loop-i : goal.decreases-loop-i
+decreases-loop-i l = length l.s - l.i
