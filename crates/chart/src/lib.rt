@@ -1,5 +1,7 @@
 // Pins on a fault chart: 1,024 counts that the caller lends, one for each entry of a stepped whole axis. Setting or pulling a pin takes the
 // axis's closed form and one store, however long the list is.
+#![tactic(auto)]
+
 ghost use Rattle.std.specs.Prelude.{◌≡◌, ◌++◌, ◌≤◌, ltb, length, drop};
 ghost use Rattle.chart.specs.Chart.{tell_charted, chart_size, empty_chart, chart_clear, chart_pin, chart_set, chart_pull};
 ghost use Rattle.chart.specs.Steps.{tell_entry, chart_entry, tell_new_count, recount_of};

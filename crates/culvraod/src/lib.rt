@@ -1,4 +1,6 @@
 // The C interface: every call under its C name. include/culvraod.h documents them.
+#![tactic(auto)]
+
 mod segments;
 
 ghost use Rattle.std.specs.Prelude.{◌≡◌, pos};

@@ -1,5 +1,7 @@
 // Powers of ten as doubles, in place of the logarithm and the power in types/numeric.rs: a table of those from 10^-307 to 10^308, and the
 // decade of a number, which is the greatest of them that is not above it.
+#![tactic(auto)]
+
 ghost use Rattle.std.specs.Prelude.{◌≡◌};
 ghost use Rattle.decades.specs.Decade.{decade_of};
 ghost use Rattle.decades.specs.Steps.{Holds};

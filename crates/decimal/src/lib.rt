@@ -1,4 +1,6 @@
 // Whole numbers in base ten, as labels have them, and their reader.
+#![tactic(auto)]
+
 ghost use Rattle.std.specs.Prelude.{◌≡◌, ◌-◌, ◌^◌, ◌≤◌, ◌<◌, cond, length, drop, replicate, pos, neg_ℤ};
 ghost use Rattle.decimal.specs.Print.{blank, natural, signed_digits, decimal, filled_to, text_of, long_text_of};
 ghost use Rattle.decimal.specs.Read.{value_of, same_bytes, read_i32, read_u32, tell_whole, tell_natural};

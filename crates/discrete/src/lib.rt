@@ -1,4 +1,6 @@
 // What every discrete axis shares, after discrete.rs: the index that a pixel is read as.
+#![tactic(auto)]
+
 ghost use Rattle.std.specs.Prelude.{◌≡◌, ◌≤◌, nat_abs};
 ghost use Rattle.discrete.specs.Index.{index_for, tell_index, pixel_index};
 

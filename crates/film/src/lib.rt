@@ -1,4 +1,6 @@
 // Several borders on one film: rulers of kind 6, one behind another, under one mark limit.
+#![tactic(auto)]
+
 ghost use Rattle.std.specs.Prelude.{◌≡◌, ◌++◌, ◌+◌, ◌*◌, ◌<◌, ◌≤◌, length, drop};
 ghost use Rattle.ruler.specs.Rule.{tell_wrote};
 ghost use Rattle.film.specs.Film.{twist_handed, borders_of, share, ruler_for, film_bytes, film_write};

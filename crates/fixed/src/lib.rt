@@ -1,4 +1,6 @@
 // Whole numbers whose last f digits are taken as decimals, f from 0 to 6: their text, and its reader.
+#![tactic(auto)]
+
 ghost use Rattle.std.specs.Prelude.{◌≡◌, ◌+◌, ◌-◌, ◌*◌, ◌/◌, ◌^◌, ◌≤◌, [], ◌∷◌, ◌++◌, eqb, nat_abs, length, get_or, take, drop};
 ghost use Rattle.ranged1d.specs.Answer.{list_written};
 ghost use Rattle.decimal.specs.Read.{value_of, same_bytes};

@@ -1,5 +1,7 @@
 // The key points of a real axis, after the float form of `gen_key_points_comp` in types/numeric.rs, with the decade of the length from a
 // table.
+#![tactic(auto)]
+
 ghost use Rattle.std.specs.Prelude.{◌≡◌, ◌++◌, ltb, ◌≤◌, length, drop};
 ghost use Rattle.ranged1d.specs.Listed.{tell_listed};
 ghost use Rattle.keypoints.specs.Scale.{is_small, unless_next, rest_of, first_mark, last_mark, points_by, start_of, chosen, most_rounds};

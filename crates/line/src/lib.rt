@@ -1,4 +1,6 @@
 // The ruler program's lines.
+#![tactic(auto)]
+
 ghost use Rattle.std.specs.Prelude.{◌≡◌, [], ◌∷◌, ◌++◌, ◌+◌, ◌≤◌, length, drop};
 ghost use Rattle.decimal.specs.Print.{decimal};
 ghost use Rattle.line.specs.Mark.{put_mark};

@@ -1,4 +1,6 @@
 // Stepped axes, after combinators/linspace.rs: the list of an axis by a step, and what is found, placed, read and marked on it.
+#![tactic(auto)]
+
 mod lanes;
 mod reals;
 mod track;

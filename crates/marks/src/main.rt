@@ -1,4 +1,6 @@
 // Prints the marks of a few axes, each beside its mirror.
+#![tactic(auto)]
+
 use libc::STDOUT_FILENO;
 use numeric::{KeyPoints, Planned, Point, RangedCoordi32};
 

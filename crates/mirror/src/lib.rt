@@ -1,1 +1,2 @@
 // The mirror theorem has no code: it is stated over the rules that the calls promise, in specs/Mirror.
+#![tactic(auto)]

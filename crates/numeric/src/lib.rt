@@ -1,4 +1,6 @@
 // Axes of numbers, after types/numeric.rs: the key points of the integer coordinates.
+#![tactic(auto)]
+
 ghost use Rattle.std.specs.Prelude.{◌≡◌, true, [], ◌∷◌, ◌++◌, ℕ, ◌+◌, ◌*◌, ◌<◌, ◌≤◌, ℤ, pos, nat_abs, ◌*ℤ◌, length, drop};
 ghost use Rattle.std.specs.Int.Signed.{le_z};
 ghost use Rattle.ranged1d.specs.Answer.{given, ◌when◌, lowest};

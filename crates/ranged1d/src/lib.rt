@@ -1,4 +1,6 @@
 // What every axis shares, after ranged1d/mod.rs: the limits on the film, why a call is refused, and which numbers are admitted.
+#![tactic(auto)]
+
 ghost use Rattle.std.specs.Prelude.{◌≡◌, nat_abs};
 ghost use Rattle.std.specs.Int.{w32};
 ghost use Rattle.std.proofs.Common.{to_z};

@@ -1,4 +1,6 @@
 // A real axis, after types/numeric.rs: the place of a value on the film, the value that is read at a pixel, and the axis's marks.
+#![tactic(auto)]
+
 ghost use Rattle.std.specs.Prelude.{◌≡◌, true, ◌+◌, pos};
 ghost use Rattle.std.specs.Float.Ieee as Ieee;
 ghost use Rattle.std.specs.Float.{binary64};

@@ -1,5 +1,7 @@
 // Floor, ceil and round of floats, as Rust's methods of these names give them, and as whole numbers
 // within a bound.
+#![tactic(auto)]
+
 ghost use Rattle.std.specs.Prelude.{◌≡◌, true, false, pos};
 ghost use Rattle.std.specs.Float.Ieee as Ieee;
 ghost use Rattle.std.specs.Float.{binary64, fin};

@@ -1,5 +1,7 @@
 // The ruler program: for every line of standard input that asks for a ruler it writes the step, the needle and place of each mark and
 // the number of marks, or why there is no ruler. Marks are not kept, so that their number needs no memory.
+#![tactic(auto)]
+
 mod input;
 mod output;
 

@@ -1,4 +1,6 @@
 // Rulers as bytes: a record for the axis, then one for each mark; the reader, and the look-ups in what it takes.
+#![tactic(auto)]
+
 ghost use Rattle.std.specs.Prelude.{◌≡◌, ℕ, ◌+◌, ◌-◌, ◌*◌, ◌<◌, ◌≤◌, true, [], ◌∷◌, ◌++◌, map, length, take, drop, ◌+ℤ◌, ◌-ℤ◌, slice_index};
 ghost use Rattle.std.specs.Int.{w32};
 ghost use Rattle.std.proofs.Common.{of_z};

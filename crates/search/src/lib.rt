@@ -1,4 +1,6 @@
 // The four searches, after the rounding methods of combinators/linspace.rs.
+#![tactic(auto)]
+
 ghost use Rattle.std.specs.Prelude.{◌≡◌, ◌&&◌};
 ghost use Rattle.discrete.specs.Index.{tell_index};
 ghost use Rattle.search.specs.Lists.{is_exact};

@@ -1,5 +1,7 @@
 // Segmented axes, after `SegmentedCoord` of discrete.rs: each entry of the axis below begins a segment, and one value more stands behind
 // the last.
+#![tactic(auto)]
+
 mod below;
 mod reals;
 mod steps;

@@ -1,5 +1,7 @@
 // Replays plotters' answers: each line of standard input is a call, its arguments and what plotters gave (compare/vectors writes the
 // list). Prints for each call how many lines matched, and then how many lines did not.
+#![tactic(auto)]
+
 ghost use Rattle.std.specs.Prelude.{◌≡◌, ◌≤◌, length};
 
 mod bits;

@@ -1,5 +1,7 @@
 // The running week: which of the minutes 0 to 10,079 lie in windows, and how many before a minute do. Windows are lent as numbers in a
 // row, two for each: its first minute, and its end, which is no longer part of it.
+#![tactic(auto)]
+
 ghost use Rattle.std.specs.Prelude.{◌≡◌, ◌+◌, ◌≤◌, ◌<◌};
 ghost use Rattle.week.specs.Week.{tell_minute, running_minute, clock_minute};
 ghost use Rattle.week.specs.Steps.{fits_from, carried_to, looked_at, surveyed};

@@ -43,5 +43,5 @@ returns c =
     let test = v.before in
     let s = test.args.s.now in
     c.checked-2.ensures
-    ∙ ap (keep_printed s) (c.before.before.whole-of2.ensures ∙ ap (λ (n : ℕ). keep_i32 (pos n)) v.value2.ensures ∙ ap keep_i32 (sym (value-plain s test.if-s-eq45.false)))
+    ∙ ap (keep_printed s) (c.before.before.whole_of-2.ensures ∙ ap (λ (n : ℕ). keep_i32 (pos n)) v.value-2.ensures ∙ ap keep_i32 (sym (value-plain s test.if-s-eq45.false)))
     ∙ i32_by_steps s
