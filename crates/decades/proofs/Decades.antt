@@ -132,6 +132,7 @@ decade_inside x = last-inside (reached x) 615
 -- ---- 02 (d): the decade is the greatest power not above x, where there is one
 pub last_found : (p : ℕ → Bool) (k n : ℕ) → k < n → p k ≡ true → (p (last_of p n) ≡ true) × (last_of p n < n) × (k ≤ last_of p n)
 unfolding last_of
+last_found p k zero h e = elim h [ ]
 last_found p k (suc n) h e = go (p n) refl (λ l. last_found p k n l e)
   where
     go : (b : Bool) → p n ≡ b → (k < n → (p (last_of p n) ≡ true) × (last_of p n < n) × (k ≤ last_of p n))

@@ -9,7 +9,7 @@ use borrow.Author.Tests.{leb-true, ltb-true, eqb-true, ltb-false}
 use lib.Dec.{ltb, eqb}
 use lib.Pow.{pow_pos}
 use Rattle.ranged1d.proofs.Bools.{both_true}
-use Rattle.decades.specs.Nearest.{scaled, value, up_to, is_nearest, far, Nearest}
+use Rattle.decades.specs.Nearest.{scaled, value, up_to, is_nearest, Nearest}
 
 -- ---- one step up, within a field and into the next
 within-field : (x t : ℕ) → scaled x t < scaled x (t + 1)
