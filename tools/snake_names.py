@@ -149,7 +149,9 @@ def main():
         return
     for f in files():
         old = read(f)
-        new = "\n".join(turned(l, want, False) for l in old.split("\n"))
+        # A function of src/ keeps its name, also where a lemma had the same.
+        here = {o: n for o, n in want.items() if f.endswith(".antt") or o not in LEMMAS}
+        new = "\n".join(turned(l, here, False) for l in old.split("\n"))
         if new != old:
             write(f, new)
     quoted = lambda text: re.sub(r"`[^`\n]*`", lambda m: TOKEN.sub(lambda t: want.get(t.group(0), t.group(0)), m.group(0)), text)

@@ -18,28 +18,28 @@ const COUNTS: usize = 1024;
 const FULL: u16 = 65535;
 
 // What became of a call on a chart.
-#[derive(Drop)]
+#[derive(Clone, Copy)]
 pub enum Charted {
     Done,
     Refused(Refusal),
 }
 
 // What is done with a pin.
-#[derive(Drop)]
+#[derive(Clone, Copy)]
 pub enum Deed {
     Setting,
     Pulling,
 }
 
 // The entry where a pin counts.
-#[derive(Drop)]
+#[derive(Clone, Copy)]
 enum Entry {
     At(usize),
     Refused(Refusal),
 }
 
 // A count after a deed.
-#[derive(Drop)]
+#[derive(Clone, Copy)]
 enum NewCount {
     Of(u16),
     Refused(Refusal),

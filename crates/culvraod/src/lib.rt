@@ -47,7 +47,7 @@ use search::RoundingMethod;
 use week::Minute;
 
 // A search as C chooses it.
-#[derive(Drop)]
+#[derive(Clone, Copy)]
 enum Method {
     Of(RoundingMethod),
     Unknown,

@@ -26,13 +26,13 @@ use segmented::{
 };
 
 // A value of segments as C writes it.
-#[derive(Drop)]
+#[derive(Clone, Copy)]
 enum WholeCase {
     Of(SegmentValuei32),
     Unknown,
 }
 
-#[derive(Drop)]
+#[derive(Clone, Copy)]
 enum RealCase {
     Of(SegmentValuef64),
     Unknown,

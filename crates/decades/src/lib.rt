@@ -63,7 +63,7 @@ const POWERS: [f64; 616] = [
 const MIDDLE: [f64; 10] = [1e-3, 1e-2, 1e-1, 1e0, 1e1, 1e2, 1e3, 1e4, 1e5, 1e6];
 
 // Which entry of the table is the decade of a number, and the entry itself.
-#[derive(Drop)]
+#[derive(Clone, Copy)]
 pub struct Power {
     pub index: usize,
     pub value: f64,

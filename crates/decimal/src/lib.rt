@@ -7,26 +7,26 @@ ghost use Rattle.decimal.specs.Read.{value_of, same_bytes, read_i32, read_u32, t
 ghost use Rattle.decimal.specs.Steps.{keep_i32, keep_printed};
 
 // A number's text, with blanks on its left, and how many those are.
-#[derive(Drop)]
+#[derive(Clone, Copy)]
 pub struct Text {
     pub bytes: [u8; 11],
     pub blanks: usize,
 }
 
 // The same of a number of up to 64 bits.
-#[derive(Drop)]
+#[derive(Clone, Copy)]
 pub struct LongText {
     pub bytes: [u8; 21],
     pub blanks: usize,
 }
 
-#[derive(Drop)]
+#[derive(Clone, Copy)]
 pub enum Whole {
     Number(i32),
     Nothing,
 }
 
-#[derive(Drop)]
+#[derive(Clone, Copy)]
 pub enum Natural {
     Number(u32),
     Nothing,

@@ -6,7 +6,7 @@ ghost use Rattle.discrete.specs.Index.{index_for, tell_index, pixel_index};
 
 use ranged1d::{Limit, Refusal};
 
-#[derive(Drop)]
+#[derive(Clone, Copy)]
 pub enum Index {
     At(u64),
     Nothing,

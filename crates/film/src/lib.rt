@@ -11,7 +11,7 @@ use ranged1d::{Limit, Refusal};
 use ruler::Wrote;
 
 // A border: its axis, its limits on the film, and the number of its twist.
-#[derive(Drop)]
+#[derive(Clone, Copy)]
 pub struct Border {
     pub a: i32,
     pub b: i32,

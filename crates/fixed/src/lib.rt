@@ -11,27 +11,27 @@ use decimal::LongText;
 use ranged1d::Refusal;
 
 // How many bytes were written, or why nothing was.
-#[derive(Drop)]
+#[derive(Clone, Copy)]
 pub enum Printed {
     Written(usize),
     Refused(Refusal),
 }
 
-#[derive(Drop)]
+#[derive(Clone, Copy)]
 pub enum Number {
     Whole(i32),
     Refused(Refusal),
 }
 
 // A text at the start of its bytes. Twelve are enough: a sign, a point, and ten digits, or the seven of a number below one.
-#[derive(Drop)]
+#[derive(Clone, Copy)]
 struct Spelt {
     bytes: [u8; 12],
     long: usize,
 }
 
 // A point and decimals, and the number that is left without them.
-#[derive(Drop)]
+#[derive(Clone, Copy)]
 struct Fraction {
     bytes: [u8; 7],
     rest: u32,

@@ -18,28 +18,28 @@ use decimal::LongText;
 use ranged1d::Refusal;
 
 // How a label is written: with at least min_decimal decimals, of which at most max_decimal say anything of the number.
-#[derive(Drop)]
+#[derive(Clone, Copy)]
 pub struct FloatPrettyPrinter {
     pub min_decimal: u32,
     pub max_decimal: u32,
 }
 
 // How many bytes were written, or why nothing was.
-#[derive(Drop)]
+#[derive(Clone, Copy)]
 pub enum Label {
     Written(usize),
     Refused(Refusal),
 }
 
 // A shortened number, and how many decimals it has at most.
-#[derive(Drop)]
+#[derive(Clone, Copy)]
 struct Shortened {
     value: f64,
     levels: u32,
 }
 
 // What is written: a minus sign or none, the whole part, and `places` decimals, which are the digits of `decimals`.
-#[derive(Drop)]
+#[derive(Clone, Copy)]
 struct Parts {
     minus: bool,
     whole: u64,

@@ -28,14 +28,14 @@ const MOST_MARKS: usize = 2000;
 const ONE_MORE: usize = 2001;
 
 // The step between marks, and the granularity that they are held to.
-#[derive(Drop)]
+#[derive(Clone, Copy)]
 struct Scale {
     step: f64,
     grain: f64,
 }
 
 // The scale that was chosen, or that the rounds did not come to one.
-#[derive(Drop)]
+#[derive(Clone, Copy)]
 enum Chosen {
     Of(Scale),
     TooFine,
@@ -43,7 +43,7 @@ enum Chosen {
 
 // What the loop over the marks goes by: a mark is the base and a distance from there, which grows by the step until it passes the right
 // end.
-#[derive(Drop)]
+#[derive(Clone, Copy)]
 struct Run {
     step: f64,
     grain: f64,
@@ -155,7 +155,7 @@ fn choose(lo: f64, hi: f64, m: u64, s: f64, g: f64) -> Chosen
 }
 
 // Whether the mark at the distance x has not passed the right end.
-fn goes_on_lem(r: Run, x: f64) -> bool
+fn goes_on(r: Run, x: f64) -> bool
     ensures { result ≡ passes r x }
 {
     -EPSILON <= r.right - x - r.base
@@ -193,7 +193,7 @@ fn count_marks(r: Run, x: f64) -> usize
     let mut y = x;
     let mut k: usize = 0;
     while k < ONE_MORE {
-        if !goes_on_lem(r, y) {
+        if !goes_on(r, y) {
             return k;
         }
         y = shift(r, y) + r.step;

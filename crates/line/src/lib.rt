@@ -7,7 +7,7 @@ ghost use Rattle.line.specs.Mark.{put_mark};
 ghost use Rattle.line.specs.Line.{word, whole_field, whole_fields, parse_numbers, parse_line, tell_line};
 ghost use Rattle.line.specs.Steps.{tell_part, Inside, tell_four};
 
-#[derive(Drop)]
+#[derive(Clone, Copy)]
 pub struct Request {
     pub a: i32,
     pub b: i32,
@@ -16,7 +16,7 @@ pub struct Request {
     pub m: u32,
 }
 
-#[derive(Drop)]
+#[derive(Clone, Copy)]
 pub enum Line {
     Rule(Request),
     Bad,
@@ -37,7 +37,7 @@ fn word_length(s: &[u8]) -> usize
 }
 
 // A number, and where what follows its blank begins.
-#[derive(Drop)]
+#[derive(Clone, Copy)]
 pub enum Part {
     Whole(i32, usize),
     Nothing,
@@ -58,7 +58,7 @@ fn whole_field(s: &[u8]) -> Part
 }
 
 // Four numbers in fields, and where what follows them begins; or that there is no such thing, at the end of s.
-#[derive(Drop)]
+#[derive(Clone, Copy)]
 struct Four {
     values: [i32; 4],
     found: bool,

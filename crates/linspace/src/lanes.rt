@@ -6,7 +6,7 @@ ghost use Rattle.linspace.specs.RealSteps.{plus_step, after, sums_by, Kept, four
 use crate::track::{Steps, advance};
 
 // The next entry of each run.
-#[derive(Drop)]
+#[derive(Clone, Copy)]
 struct Four {
     x0: f64,
     x1: f64,

@@ -10,21 +10,21 @@ use numeric::{RangedCoordf64, RangedCoordi32};
 use ranged1d::Refusal;
 
 // A whole axis by a step.
-#[derive(Drop)]
+#[derive(Clone, Copy)]
 pub struct Linspacei32 {
     pub inner: RangedCoordi32,
     pub step: i32,
 }
 
 // A real axis by a step.
-#[derive(Drop)]
+#[derive(Clone, Copy)]
 pub struct Linspacef64 {
     pub inner: RangedCoordf64,
     pub step: f64,
 }
 
 // The index of an entry, and how many entries there are.
-#[derive(Drop)]
+#[derive(Clone, Copy)]
 pub enum Among {
     At(u64, u64),
     Nothing,

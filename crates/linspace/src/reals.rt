@@ -22,7 +22,7 @@ use ranged1d::{Limit, Listed, Refusal};
 use search::RoundingMethod;
 
 // How many sums a walk keeps, and how many steps they are apart.
-#[derive(Drop)]
+#[derive(Clone, Copy)]
 struct Likely {
     size: usize,
     by: usize,

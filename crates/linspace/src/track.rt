@@ -7,7 +7,7 @@ ghost use Rattle.linspace.specs.RealSteps.{plus_step, after, Parted, Reached, Be
 ghost use Rattle.linspace.specs.Walks.{Tracked, Stepped, head_of, Trails};
 
 // The ends and the step by themselves.
-#[derive(Drop)]
+#[derive(Clone, Copy)]
 pub(crate) struct Steps {
     pub(crate) a: f64,
     pub(crate) b: f64,
@@ -15,7 +15,7 @@ pub(crate) struct Steps {
 }
 
 // An entry, or the sum behind the last one, and its index.
-#[derive(Drop)]
+#[derive(Clone, Copy)]
 pub(crate) struct Spot {
     pub(crate) n: usize,
     pub(crate) x: f64,
@@ -23,7 +23,7 @@ pub(crate) struct Spot {
 
 // An entry and b by size, and what each goes on by: the list goes on while low < high, whether it rises or falls. b stands, since
 // -0.0 added to a number gives that number.
-#[derive(Drop)]
+#[derive(Clone, Copy)]
 struct Track {
     low: f64,
     high: f64,
@@ -33,7 +33,7 @@ struct Track {
 
 // A second sum, behind the first: the share of the entries that the first has passed, in 2^40ths of an entry, how many whole entries that is, and the
 // sum after so many steps.
-#[derive(Drop)]
+#[derive(Clone, Copy)]
 struct Trail {
     gone: u64,
     k: u64,
@@ -41,7 +41,7 @@ struct Trail {
 }
 
 // The number of entries, and the sum after k steps.
-#[derive(Drop)]
+#[derive(Clone, Copy)]
 pub(crate) struct Both {
     pub(crate) n: usize,
     pub(crate) k: u64,
@@ -49,7 +49,7 @@ pub(crate) struct Both {
 }
 
 // Where a target lies: how many entries come before it, the last of them, and the sum behind that.
-#[derive(Drop)]
+#[derive(Clone, Copy)]
 pub(crate) struct Sides {
     pub(crate) n: usize,
     pub(crate) left: f64,

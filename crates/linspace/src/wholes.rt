@@ -20,7 +20,7 @@ use ranged1d::{Limit, Listed, Refusal};
 use search::RoundingMethod;
 
 // The ends and the step by themselves.
-#[derive(Drop)]
+#[derive(Clone, Copy)]
 struct Steps {
     a: i32,
     b: i32,

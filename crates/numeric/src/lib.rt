@@ -15,48 +15,48 @@ pub use real::{ExactPlace, Place, RangedCoordf64, RealReading};
 pub use whole::{Count, Value};
 
 // An axis with two whole ends, in either order.
-#[derive(Drop)]
+#[derive(Clone, Copy)]
 pub struct RangedCoordi32(pub i32, pub i32);
 
 // An axis of indices.
-#[derive(Drop)]
+#[derive(Clone, Copy)]
 pub struct RangedCoordusize(pub usize, pub usize);
 
 // Which multiple is the last mark: the upper end cut toward zero, or the last that is not above it.
-#[derive(Drop)]
+#[derive(Clone, Copy)]
 pub enum Choice {
     Cut,
     Inside,
 }
 
 // Marks that are not written: the first, the step to the next, and how many there are.
-#[derive(Drop)]
+#[derive(Clone, Copy)]
 pub struct KeyPoints {
     pub first: i32,
     pub step: i32,
     pub count: u32,
 }
 
-#[derive(Drop)]
+#[derive(Clone, Copy)]
 pub enum Planned {
     Points(KeyPoints),
     Refused(Refusal),
 }
 
-#[derive(Drop)]
+#[derive(Clone, Copy)]
 pub enum Point {
     At(i32),
     Nothing,
 }
 
 // The step and the number of marks that were written.
-#[derive(Drop)]
+#[derive(Clone, Copy)]
 pub enum Marks {
     Written(i32, usize),
     Refused(Refusal),
 }
 
-#[derive(Drop)]
+#[derive(Clone, Copy)]
 pub enum IndexMarks {
     Written(usize, usize),
     Refused(Refusal),

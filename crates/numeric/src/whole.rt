@@ -16,13 +16,13 @@ use ranged1d::{Limit, Refusal};
 use real::{ExactPlace, Place};
 use rounding::Whole;
 
-#[derive(Drop)]
+#[derive(Clone, Copy)]
 pub enum Count {
     Of(u64),
     Refused(Refusal),
 }
 
-#[derive(Drop)]
+#[derive(Clone, Copy)]
 pub enum Value {
     At(i32),
     Nothing,

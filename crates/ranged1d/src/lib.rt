@@ -8,13 +8,13 @@ ghost use Rattle.ranged1d.specs.Refusals.{number_of};
 ghost use Rattle.ranged1d.specs.Admitted.{whole_admitted, index_admitted, pixel_admitted, limit_admitted, reading_admitted};
 
 // The limits p and q of an axis on the film: where its first and its second end are placed.
-#[derive(Drop)]
+#[derive(Clone, Copy)]
 pub struct Limit(pub i32, pub i32);
 
 // Why a call is refused. specs/Refusals has the number of each, and specs/Answer its place in the order. A later refusal is a new last
 // case here, a line in each of the two, an arm of `number` and two needs of its proof: no other function goes by these cases, and no
 // other proof does.
-#[derive(Drop)]
+#[derive(Clone, Copy)]
 pub enum Refusal {
     WholeNotAdmitted,
     LimitNotAdmitted,
@@ -47,7 +47,7 @@ pub enum Refusal {
 }
 
 // How many entries or marks were written to a lent list.
-#[derive(Drop)]
+#[derive(Clone, Copy)]
 pub enum Listed {
     Written(usize),
     Refused(Refusal),

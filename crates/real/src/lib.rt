@@ -16,23 +16,23 @@ use ranged1d::{Limit, Listed, Refusal};
 use rounding::Whole;
 
 // An axis with two real ends, in either order.
-#[derive(Drop)]
+#[derive(Clone, Copy)]
 pub struct RangedCoordf64(pub f64, pub f64);
 
-#[derive(Drop)]
+#[derive(Clone, Copy)]
 pub enum Place {
     At(i32),
     Refused(Refusal),
 }
 
 // Quotient and remainder of an exact place.
-#[derive(Drop)]
+#[derive(Clone, Copy)]
 pub enum ExactPlace {
     At(u32, u32),
     Refused(Refusal),
 }
 
-#[derive(Drop)]
+#[derive(Clone, Copy)]
 pub enum RealReading {
     At(f64),
     Nothing,

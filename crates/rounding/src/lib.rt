@@ -9,7 +9,7 @@ ghost use Rattle.rounding.specs.Integral.{ceil_of, floor_of, floors, round_of, r
 ghost use Rattle.rounding.specs.Within.{ceil_within, floor_within, kept, round_within, whole_of};
 
 // A whole number, or that it lies beyond the bound that was asked for.
-#[derive(Drop)]
+#[derive(Clone, Copy)]
 pub enum Whole {
     Number(i64),
     Beyond,

@@ -20,28 +20,28 @@ use numeric::{Choice, KeyPoints, Place, Planned, RangedCoordi32};
 use ranged1d::{Limit, Refusal};
 
 // The number of bytes and of marks.
-#[derive(Drop)]
+#[derive(Clone, Copy)]
 pub enum Wrote {
     Bytes(usize, usize),
     Refused(Refusal),
 }
 
 // The number of bytes of a ruler that was moved over or back.
-#[derive(Drop)]
+#[derive(Clone, Copy)]
 pub enum Moved {
     Bytes(usize),
     Refused(Refusal),
 }
 
 // A ruler that was moved along the film where it lies, which leaves nothing to tell.
-#[derive(Drop)]
+#[derive(Clone, Copy)]
 pub enum Shifted {
     Done,
     Refused(Refusal),
 }
 
 // A ruler that was read.
-#[derive(Drop)]
+#[derive(Clone, Copy)]
 pub struct Ruler {
     pub a: i32,
     pub b: i32,
@@ -54,21 +54,21 @@ pub struct Ruler {
     pub twist: u32,
 }
 
-#[derive(Drop)]
+#[derive(Clone, Copy)]
 pub enum Reading {
     Ruler(Ruler),
     Refused(Refusal),
 }
 
 // A part of lent bytes: where it starts and ends.
-#[derive(Drop)]
+#[derive(Clone, Copy)]
 pub struct Part {
     pub start: usize,
     pub end: usize,
 }
 
 // The thread's twist, which kinds 1 and 3 do not tell.
-#[derive(Drop)]
+#[derive(Clone, Copy)]
 pub enum Twist {
     Plain,
     S,
@@ -76,14 +76,14 @@ pub enum Twist {
 }
 
 // Which marks a ruler has, and its twist.
-#[derive(Drop)]
+#[derive(Clone, Copy)]
 pub struct Form {
     pub choice: Choice,
     pub twist: Twist,
 }
 
 // What a ruler is drawn for: the axis, its limits on the film, the mark limit, and its form.
-#[derive(Drop)]
+#[derive(Clone, Copy)]
 struct Draft {
     a: i32,
     b: i32,
@@ -93,7 +93,7 @@ struct Draft {
 }
 
 // Bytes that were examined: a ruler with its marks, or no ruler.
-#[derive(Drop)]
+#[derive(Clone, Copy)]
 enum Seen {
     Ruler(Draft, KeyPoints),
     Nothing,

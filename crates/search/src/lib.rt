@@ -15,7 +15,7 @@ pub use reals::{precedes, search_real, settle_real};
 pub use wholes::{search_whole, settle_whole};
 
 // How a target is looked for: as an entry, or, where it is none, by the least above it, the greatest below it, the nearest.
-#[derive(Drop)]
+#[derive(Clone, Copy)]
 pub enum RoundingMethod {
     Exact,
     Ceil,

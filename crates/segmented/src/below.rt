@@ -18,7 +18,7 @@ use ranged1d::{Limit, Refusal};
 use search::RoundingMethod;
 
 // How the axis below goes from one end to the other: by every value, or by the entries of a stepped list.
-#[derive(Drop)]
+#[derive(Clone, Copy)]
 pub(crate) enum Step {
     One,
     By(i32),

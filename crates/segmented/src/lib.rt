@@ -21,7 +21,7 @@ use numeric::{Count, Place, RangedCoordi32, Value};
 use ranged1d::{Limit, Listed, Refusal};
 
 // A value of a segmented axis of whole numbers: where an entry's segment begins, its middle, and what stands behind all.
-#[derive(Drop)]
+#[derive(Clone, Copy)]
 pub enum SegmentValuei32 {
     Exact(i32),
     CenterOf(i32),
@@ -29,21 +29,21 @@ pub enum SegmentValuei32 {
 }
 
 // The same of real numbers.
-#[derive(Drop)]
+#[derive(Clone, Copy)]
 pub enum SegmentValuef64 {
     Exact(f64),
     CenterOf(f64),
     Last,
 }
 
-#[derive(Drop)]
+#[derive(Clone, Copy)]
 pub enum Segmenti32 {
     At(SegmentValuei32),
     Nothing,
     Refused(Refusal),
 }
 
-#[derive(Drop)]
+#[derive(Clone, Copy)]
 pub enum Segmentf64 {
     At(SegmentValuef64),
     Nothing,
@@ -51,13 +51,13 @@ pub enum Segmentf64 {
 }
 
 // Segments over a whole axis, and over a stepped axis of whole or of real numbers.
-#[derive(Drop)]
+#[derive(Clone, Copy)]
 pub struct SegmentedCoordi32(pub RangedCoordi32);
 
-#[derive(Drop)]
+#[derive(Clone, Copy)]
 pub struct SegmentedLinspacei32(pub Linspacei32);
 
-#[derive(Drop)]
+#[derive(Clone, Copy)]
 pub struct SegmentedLinspacef64(pub Linspacef64);
 
 // Whether the number that a value carries is admitted.

@@ -8,7 +8,7 @@ ghost use Rattle.week.specs.Steps.{fits_from, carried_to, looked_at, surveyed};
 
 use ranged1d::Refusal;
 
-#[derive(Drop)]
+#[derive(Clone, Copy)]
 pub enum Minute {
     At(u32),
     Nothing,
