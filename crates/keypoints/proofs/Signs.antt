@@ -80,6 +80,8 @@ up-div (inf false) (fin true n d) u o = absurd (true≢false o.0)
 up-div (inf false) (fin false n d) u o = refl
 up-div (fin s m e) (inf t) u o = inr refl
 up-div (fin s m e) (fin true n d) u o = absurd (true≢false o.0)
+up-div (inf s) nan u o = elim o [ ]
+up-div (fin s m e) nan u o = elim o [ ]
 up-div (fin s m e) (fin false n d) u o =
     rw (ne_eqb n 0 (λ z. omega (arith, z, o.1)))
     (up_round (unlike s false) (m * up e * down d) (n * up d * down e) (mul-pos (mul-pos o.1 (up_pos d)) (down_pos e)) (scaled s u))
@@ -102,6 +104,8 @@ up-mul (fin true m e) (inf false) (inl q) o = absurd (true≢false q)
 up-mul (fin true m e) (inf false) (inr z) o = rw (eq-eqb m 0 (eq_zero m (up e) (up_pos e) z)) tt
 up-mul (fin false m e) (inf false) u o = chosen Up (eqb m 0) tt refl
 up-mul (fin s m e) (fin true n d) u o = absurd (true≢false o.0)
+up-mul (inf false) nan u o = elim o [ ]
+up-mul (fin s m e) nan u o = elim o [ ]
 up-mul (fin s m e) (fin false n d) u o = up_round (unlike s false) (m * up e * (n * up d)) (down e * down d) (mul-pos (down_pos e) (down_pos d)) (scaled s u)
   where
     scaled : (s : Bool) → (s ≡ false) ⊎ (m * up e ≡ 0) → (unlike s false ≡ false) ⊎ (m * up e * (n * up d) ≡ 0)
