@@ -61,6 +61,8 @@ steps_near w b x l = go (within w b x) (within_held w b x)
 -- an infinite t leads beyond, unless L is 0
 times_inf : (x : Float) (s : Bool) (k : ℕ) (u : Bool) → HasValue x s k 1 → 0 < k → (v : Bool) × (mul binary64 x (inf u) ≡ inf v)
 unfolding mul
+times_inf nan s k u h p = elim h [ ]
+times_inf (inf _) s k u h p = elim h [ ]
 times_inf (fin w m e) s k u h p = (unlike w u, rw (ne_eqb m 0 (λ z. no z)))
   where
     no : m ≡ 0 → ⊥

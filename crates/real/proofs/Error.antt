@@ -12,7 +12,7 @@ use lib.Dec.{lit<, lit≤}
 use lib.Pow.{pow_pos}
 use lib.IntN.{ℤ, pos, negsuc, nat_abs, ◌+ℤ◌, ◌-ℤ◌, +ℤ_idr}
 use lib.Signed.{le_z, lt_z}
-use lib.Ieee.{Float, inf, fin, binary64, add, sub, neg, mul, div, eq, of_int, of_bits}
+use lib.Ieee.{Float, inf, fin, binary64, add, sub, neg, mul, div, eq, of_int, of_bits, nan}
 use lib.Ieee.Exact.{HasValue}
 use Rattle.ranged1d.specs.Admitted.{limit_admitted}
 use Rattle.ranged1d.specs.Numbers.{low, high}
@@ -158,6 +158,8 @@ module _ (s : Bool) (l : ℤ) (t : Float) (w D : ℕ) (few : nat_abs l ≤ 2_000
 
 not_inf : (t : Float) (u v c : ℕ) (s : Bool) → Valued t u v c → eq t (inf s) ≡ false
 unfolding eq
+not_inf nan u v c s i = elim i [ ]
+not_inf (inf _) u v c s i = elim i [ ]
 not_inf (fin r m e) u v c s i = refl
 
 along-counted : (p q l : ℤ) (t : Float) (w D : ℕ) → q -ℤ p ≡ l → nat_abs l ≤ 2_000_000 → 0 < D → w ≤ D → Part binary64 t w D (2 ^ 1022)

@@ -85,6 +85,8 @@ eq_self (fin s m e) h = level-same s s (m * up e * down e) (m * up e * down e) r
 
 valued : (x : Float) (s : Bool) (k : ℕ) → HasValue x s k 1 → eq x x ≡ true
 unfolding is_nan
+valued nan s k v = elim v [ ]
+valued (inf _) s k v = elim v [ ]
 valued (fin u m e) s k v = eq_self (fin u m e) tt
 
 -- whole numbers that differ as floats differ
@@ -97,6 +99,10 @@ differ a b h n e = true≢false (sym (int_self a h) ∙ ap (λ (z : ℤ). eq (of
 -- floats that are equal: their values are, and the signs, except at 0
 one_value : (x y : Float) (s t : Bool) (m n c d : ℕ) → 0 < c → HasValue x s m c → HasValue y t n d → eq x y ≡ true → (m * d ≡ n * c) × (beq s t ≡ false → m ≡ 0)
 unfolding eq
+one_value nan y s t m n c d C hx hy h = elim hx [ ]
+one_value (inf _) y s t m n c d C hx hy h = elim hx [ ]
+one_value (fin u j e) nan s t m n c d C hx hy h = elim hy [ ]
+one_value (fin u j e) (inf _) s t m n c d C hx hy h = elim hy [ ]
 one_value (fin u j e) (fin w k g) s t m n c d C hx hy h =
     let A = j * up e * down g in
     let B = k * up g * down e in
@@ -129,6 +135,8 @@ pub equal-holds : (x y : Float) (z : ℤ) → Holds y z → eq x y ≡ true → 
 unfolding eq
 equal-holds nan y z q e = absurd (true≢false (sym e))
 equal-holds (inf s) (fin t n g) z q e = absurd (true≢false (sym e))
+equal-holds (inf s) nan z q e = elim q [ ]
+equal-holds (inf s) (inf _) z q e = elim q [ ]
 equal-holds (fin s m e) y z q h =
     let (t, hy, g) = of_holds y z q in
     let w = one_value (fin s m e) y s t (m * up e) (nat_abs z) (down e) 1 (down_pos e) (own s m e) hy h in

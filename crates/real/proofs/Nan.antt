@@ -54,6 +54,8 @@ plus-number (fin s m e) t n d h = sum_number s (m * up e * down d) t (n * up d *
 
 times_number : (x : Float) (s : Bool) (k : ℕ) (t : Bool) (n : ℕ) (d : ℤ) → HasValue x s k 1 → is_nan (mul binary64 x (fin t n d)) ≡ false
 unfolding mul
+times_number nan s k t n d v = elim v [ ]
+times_number (inf _) s k t n d v = elim v [ ]
 times_number (fin u m e) s k t n d v = round_number (unlike u t) (m * up e * (n * up d)) (down e * down d)
 
 product-number : (l : ℤ) → nat_abs l ≤ 2 ^ 53 → (t : Bool) (n : ℕ) (d : ℤ) → is_nan (product l (fin t n d)) ≡ false

@@ -2,13 +2,13 @@
 -- has no part in it. Assumes nothing.
 use mathlib.Core.Path.{◌≡◌, refl, sym, ap, ap₂, ◌∙◌}
 use mathlib.Core.Bool.{Bool, true, false, not, cond, ◌&&◌}
-use Prim.Native.Nat.{ℕ, zero, suc, ◌^◌, ◌≤◌}
+use Prim.Native.Nat.{zero, suc, ◌^◌, ◌≤◌}
 use native.Mathlib.Omega.{arith}
 use lib.IntN.{ℤ, pos, negsuc, nat_abs, ◌+ℤ◌, ◌-ℤ◌, +ℤ_comm, +ℤ_assoc}
 use lib.Signed.{quot_z}
 use lib.Ieee.{Float, inf, binary64, eq, of_int}
 use borrow.Author.Tests.{leb-true}
-use Rattle.ranged1d.specs.Answer.{Answer, given, refused, and_then}
+use Rattle.ranged1d.specs.Answer.{given, refused, and_then}
 use Rattle.ranged1d.specs.Admitted.{whole_admitted, limit_admitted}
 use Rattle.ranged1d.specs.Numbers.{same}
 use Rattle.ranged1d.specs.declared.Limit.{Limit}

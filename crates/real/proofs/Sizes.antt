@@ -4,7 +4,7 @@ use mathlib.Core.Bool.{Bool, true, false}
 use Prim.Native.Nat.{ℕ, suc, ◌*◌, ◌^◌, ◌≤◌, ◌<◌}
 use native.Mathlib.Omega.{arith}
 use lib.IntN.{ℤ, pos, negsuc, nat_abs}
-use lib.Ieee.{Format, prec, Float, fin, up, down, unlike, round, div, of_int}
+use lib.Ieee.{Format, prec, Float, fin, up, down, unlike, round, div, of_int, inf, nan}
 use lib.Ieee.Fits.{down_pos}
 use lib.Ieee.Exact.{HasValue}
 use lib.Ieee.Back.{round_whole}
@@ -37,6 +37,8 @@ module _ (f : Format) (C : ℕ) (held : C ≤ 2 ^ prec f) where
 -- ---- the whole number next to a small number
 pub small_told : (w : Way) (b C : ℕ) (x : Float) → C ≤ b → AtMost C x → Told (within w b x) C
 unfolding within whole_of
+small_told w b C nan h v = elim v [ ]
+small_told w b C (inf _) h v = elim v [ ]
 small_told w b C (fin s m e) h v =
     let k = sized w s (m * up e) (down e) in
     let l : nat_abs (signed s k) ≤ C = rw (signed_abs s k) (sized_le w s (m * up e) (down e) C (down_pos e) v) in

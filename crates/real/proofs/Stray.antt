@@ -8,7 +8,7 @@ use native.Mathlib.Omega.{arith}
 use lib.Dec.{lit<, lit≤}
 use lib.IntN.{ℤ, pos, negsuc, neg_ℤ, nat_abs, ◌+ℤ◌, ◌-ℤ◌, ◌*ℤ◌}
 use lib.Signed.{le_z, lt_z}
-use lib.Ieee.{Float, fin, binary64, up, down, add, sub, mul, div, of_int}
+use lib.Ieee.{Float, fin, binary64, up, down, add, sub, mul, div, of_int, inf, nan}
 use lib.Ieee.Fits.{down_pos}
 use lib.Ieee.Exact.{HasValue}
 use Rattle.ranged1d.specs.Answer.{given}
@@ -108,6 +108,8 @@ signed_parts false X U u v d g = omega (arith, g)
 signed_parts true X U u v d g = let n = neg-parts (pos X) in rw (n.0, n.1) (omega (arith, g))
 
 nearer_of : (r : Float) (z : ℤ) (N E u v U : ℕ) → Valued r u v U → Within N E U u v (over z) (under z) → Away ◌<◌ N r z E
+nearer_of nan z N E u v U i w = elim i [ ]
+nearer_of (inf _) z N E u v U i w = elim i [ ]
 nearer_of (fin s m e) z N E u v U i w =
     let d = down e in
     let X = signed s (m * up e) in
@@ -119,6 +121,8 @@ nearer_of (fin s m e) z N E u v U i w =
     (scaled N (under X) (over X) d v u (under z) (over z) E U (down_pos e) (omega (arith, p)) w.1)
 
 near_of : (r : Float) (z : ℤ) (N E : ℕ) → Away ◌<◌ N r z E → Away ◌≤◌ N r z (E + 1)
+near_of nan z N E w = elim w [ ]
+near_of (inf _) z N E w = elim w [ ]
 near_of (fin s m e) z N E w = omega (arith, w)
 
 -- ---- k pixels toward q
