@@ -37,13 +37,19 @@ round-one : (a b : ℕ) → 0 < b → a ≤ 1 * b → Small 1 (round binary64 fa
 round-one a b p h = (sign_round false a b, small.round_small binary64 1 (round_whole binary64 false 1 (omega arith)) false a b p h)
 
 pub wider : (C D : ℕ) (x : Float) → C ≤ D → AtMost C x → AtMost D x
+wider C D nan l w = elim w [ ]
+wider C D (inf _) l w = elim w [ ]
 wider C D (fin s m e) l w = le_trans w (mul-le-mul_right (down e) l)
 
 -- ---- the whole numbers next to x
 pub value-within : (y : Float) (s : Bool) (k C : ℕ) → HasValue y s k 1 → k ≤ C → AtMost C y
+value-within nan s k C v l = elim v [ ]
+value-within (inf _) s k C v l = elim v [ ]
 value-within (fin t n d) s k C v l = le_trans (le_of_eq (sym (mul-one (n * up d)) ∙ v.1)) (mul-le-mul_right (down d) l)
 
 way_keeps : (w : Way) (C : ℕ) (x : Float) → fits binary64 x ≡ true → AtMost C x → AtMost C (integral binary64 w x)
+way_keeps w C nan t a = elim a [ ]
+way_keeps w C (inf _) t a = elim a [ ]
 way_keeps w C (fin s m e) t a =
     value-within (integral binary64 w (fin s m e)) s (sized w s (m * up e) (down e)) C (integral-value binary64 w s m e t)
     (sized_le w s (m * up e) (down e) C (down_pos e) a)
@@ -71,6 +77,8 @@ near-floor true n d k f = ((λ h. absurd (true≢false h)), (λ h. f.0), omega (
 
 less-floor : (s : Bool) (m : ℕ) (e : ℤ) (y : Float) (k : ℕ) → HasValue y s k 1 → Is floors s (m * up e) (down e) k → Small 1 (sub binary64 (fin s m e) y)
 unfolding sub add neg
+less-floor s m e nan k v f = elim v [ ]
+less-floor s m e (inf _) k v f = elim v [ ]
 less-floor s m e (fin t n d) k v f =
     let w = near-floor s (m * up e) (down e) k f in
     let D = down d in
@@ -86,11 +94,15 @@ less-floor s m e (fin t n d) k v f =
     (le_trans (mul-le-mul_right D w.3) (le_of_eq x2))))
 
 pub part_small : (C : ℕ) (x : Float) → fits binary64 x ≡ true → AtMost C x → Small 1 (sub binary64 x (floor_of x))
+part_small C nan t w = elim w [ ]
+part_small C (inf _) t w = elim w [ ]
 part_small C (fin s m e) t w = less-floor s m e (floor_of (fin s m e)) (sized floors s (m * up e) (down e)) (integral-value binary64 floors s m e t) (sized_of floors s (m * up e) (down e) (down_pos e))
 
 -- ---- a tenth
 tenth : (x : Float) → AtMost 16 x → AtMost 2 (div binary64 x ten)
 unfolding div of_bits
+tenth nan w = elim w [ ]
+tenth (inf _) w = elim w [ ]
 tenth (fin s m e) w = small.round_small binary64 2 (round_whole binary64 false 2 (omega arith)) _ (m * up e * 1) (10 * down e) (omega (arith, down_pos e)) (omega (arith, w))
 
 -- ---- shortening: what is left behind the floor, ten times; and a level, which adds at most 2 to a floor
@@ -131,6 +143,8 @@ stays_near = stays (2 ^ 53) near room (omega arith)
 -- ---- what `take_apart` asks
 pub at_most_number : (C : ℕ) (x : Float) → AtMost C x → is_nan x ≡ false
 unfolding is_nan
+at_most_number C nan w = elim w [ ]
+at_most_number C (inf _) w = elim w [ ]
 at_most_number C (fin s m e) w = refl
 
 pub printable_at_most : (x : Float) → printable x ≡ true → AtMost (2 ^ 53) x

@@ -23,6 +23,8 @@ use Rattle.float.proofs.Bounds.{near, Small, sign_round, value-within, part_smal
 -- ---- the whole part
 pub whole-most : (C : ℕ) (x : Float) → AtMost C x → whole_part x ≤ C
 unfolding whole_of
+whole-most C nan w = elim w [ ]
+whole-most C (inf _) w = elim w [ ]
 whole-most C (fin s m e) w = sized_le floors false (m * up e) (down e) C (down_pos e) w
 
 pub whole_le : (x : Float) → AtMost near x → whole_part x ≤ near
@@ -31,6 +33,8 @@ whole_le = whole-most near
 -- the whole part of a label is that of the shortened number
 pub whole-exact : (x : Float) → AtMost near x → to_unsigned 64 (size_of x) ≡ whole_part x
 unfolding to_unsigned whole_of
+whole-exact nan w = elim w [ ]
+whole-exact (inf _) w = elim w [ ]
 whole-exact (fin s m e) w =
     let l : m * up e / down e ≤ near = sized_le floors false (m * up e) (down e) near (down_pos e) w in
     let r : min (m * up e / down e) (2 ^ 64 - 1) ≡ m * up e / down e = omega arith in
@@ -41,6 +45,8 @@ whole-exact (fin s m e) w =
 cast_whole : (y : Float) (k : ℕ) → HasValue y false k 1 → k < 2 ^ 64 → to_unsigned 64 y ≡ k
 unfolding to_unsigned
 cast_whole (fin true m e) k v l = absurd (true≢false v.0)
+cast_whole nan k v l = elim v [ ]
+cast_whole (inf _) k v l = elim v [ ]
 cast_whole (fin false m e) k v l =
     let q : m * up e / down e ≡ k = ap (λ (n : ℕ). n / down e) (sym (mul-one (m * up e)) ∙ v.1) ∙ sized-whole floors false k (down e) (down_pos e) in
     let r : min (m * up e / down e) (2 ^ 64 - 1) ≡ k = omega arith in
@@ -62,6 +68,8 @@ times N nan y l w v = absurd w.1
 times N (inf s) y l w v = absurd w.1
 times N (fin true m e) y l w v = absurd (true≢false w.0)
 times N (fin false m e) (fin true n d) l w v = absurd (true≢false v.0)
+times N (fin false m e) nan l w v = elim v [ ]
+times N (fin false m e) (inf _) l w v = elim v [ ]
 times N (fin false m e) (fin false n d) l w v =
     let y = fin false n d in (
       sign_round false (m * up e * (n * up d)) (down e * down d),

@@ -1,17 +1,16 @@
 -- Runs of stores, and how long a label is. Assumes nothing.
 use mathlib.Core.Path.{◌≡◌, refl, sym, ap, ◌∙◌}
-use mathlib.Core.List.{List, [], ◌∷◌, ◌++◌, append-nil}
+use mathlib.Core.List.{List, [], ◌∷◌, ◌++◌, append-nil, append_assoc}
 use mathlib.Core.Bool.{Bool, true, false, cond, ◌&&◌}
 use Prim.Native.Nat.{ℕ, suc, ◌+◌, ◌-◌, ◌^◌, ◌≤◌, ◌<◌, max}
 use native.Mathlib.Nat.{add-zero, zero-add, add-suc, suc-add, pos_of_ne-zero}
 use native.Mathlib.Numerals.{add-one}
 use native.Mathlib.Omega.{arith}
 use lib.Dec.{eqb}
-use lib.ListN.{length, set, take, drop, replicate, length-append, length-replicate, length-take, replicate-append-replicate, take-append-drop}
-use lib.Seq.{sets, sets-eq, take-length}
+use lib.ListN.{length, set, take, drop, replicate, length-append, length-replicate, replicate-append-replicate}
+use lib.Seq.{sets, sets-eq, drop-drop}
 use borrow.Author.Tests.{eqb-true, eqb-false}
 use borrow.Rule.Slice.PartMut.{put_mid}
-use Rattle.ranged1d.proofs.Pieces.{put_more}
 use Rattle.decimal.specs.declared.LongText.{LongText}
 use Rattle.decimal.specs.Print.{long_natural}
 use Rattle.decimal.proofs.Digits.{digits-most, Told}
@@ -36,11 +35,11 @@ zero_stored l i k =
     ∙ sets_sets l i (replicate k 48) (48 ∷ [])
     ∙ ap (λ (r : List ℕ). sets l i r) (replicate-append-replicate k 1 48)
 
--- a text, lent as z, copied to a part that reaches to the end
-pub copy_stored : (l r z y : List ℕ) (a : ℕ) → z ≡ r → a + length r ≤ length l → y ≡ take (length z) z ++ drop (length z) (take (length l - a) (drop a l)) → put_mid a (length l - a) l y ≡ sets l a r
-copy_stored l r z y a q h e =
-    put_more a (length r) (take a l) r l l y (length-take a l ∙ omega arith) (sym (take-append-drop a l)) (e ∙ rw (q, take-length r))
-    ∙ sym (sets-eq r l a h)
+-- a text copied to the k places from a on
+pub copy_stored : (l r y : List ℕ) (a k : ℕ) → k ≡ length r → a + k ≤ length l → y ≡ r → put_mid a (a + k - a) l y ≡ sets l a r
+copy_stored l r y a k e h q =
+    let n : a + k - a ≡ length r = omega arith in
+    rw (n, q) (ap (λ (t : List ℕ). take a l ++ (r ++ t)) (drop-drop (length r) a l) ∙ sym (append_assoc (take a l) r (drop (a + length r) l)) ∙ sym (sets-eq r l a (omega arith)))
 
 -- ---- how long a number is
 pub long_most : (w : ℕ) → length (long_natural w) ≤ 21

@@ -71,6 +71,9 @@ size-round true a b = ap size_of (round-neg binary64 false a b) ∙ size-neg (Ie
 
 size-div : (s : Bool) (m : ℕ) (e : ℤ) (y : Float) → T (positive y) → size_of (div binary64 (fin s m e) y) ≡ div binary64 (fin false m e) y
 unfolding div
+size-div s m e nan p = elim p [ ]
+size-div s m e (inf _) p = elim p [ ]
+size-div s m e (fin true n d) p = elim p [ ]
 size-div s m e (fin false n d) p =
     let z = ltb-true 0 n (is_true (ltb 0 n) p) in
     rw (ne_eqb n 0 (λ q. omega arith)) (size-round _ (m * up e * down d) (n * up d * down e))
@@ -102,10 +105,14 @@ sum_below m e h = go (ltb (m * up e * 1) (10 * down e)) refl
 
 below_ten : (q : Float) → AtMost 16 q → size_of q ≡ q → le ten (add binary64 q tiny) ≡ false → lt q ten ≡ true
 below_ten (fin true m e) w s h = absurd (true≢false (ap sign_of (sym s)))
+below_ten nan w s h = elim w [ ]
+below_ten (inf _) w s h = elim w [ ]
 below_ten (fin false m e) w s h = sum_below m e h
 
 small_below : (q : Float) → AtMost 2 q → lt (size_of q) ten ≡ true
 unfolding lt of_bits
+small_below nan w = elim w [ ]
+small_below (inf _) w = elim w [ ]
 small_below (fin s m e) w = lt-ltb (m * up e * 1) (10 * down e) (omega (arith, w, down_pos e))
 
 -- ---- the mantissa
@@ -119,6 +126,9 @@ module _ (s : Bool) (m : ℕ) (e : ℤ) (above : T (positive (fin false m e))) (
   -- by ten times the decade: at most two
   tenth : (y : Float) → T (positive y) → 8 * num (power k) * den y ≤ num y * den (power k) → AtMost 2 (div binary64 (fin s m e) y)
   unfolding div
+  tenth nan p h = elim p [ ]
+  tenth (inf _) p h = elim p [ ]
+  tenth (fin true n d) p h = elim p [ ]
   tenth (fin false n d) p h =
       let z = ltb-true 0 n (is_true (ltb 0 n) p) in
       let P = num (power k) in

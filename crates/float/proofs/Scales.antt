@@ -56,10 +56,22 @@ module _ (k : ℕ) (h : k < 616) where
 -- ---- order of numbers above zero
 not_lt : (x y : Float) → T (positive x) → T (positive y) → lt x y ≡ false → T (le y x)
 unfolding lt
+not_lt nan y p q h = elim p [ ]
+not_lt (inf _) y p q h = elim p [ ]
+not_lt (fin false m e) nan p q h = elim q [ ]
+not_lt (fin false m e) (inf _) p q h = elim q [ ]
+not_lt (fin false m e) (fin true n d) p q h = elim q [ ]
+not_lt (fin true m e) y p q h = elim p [ ]
 not_lt (fin false m e) (fin false n d) p q h = cross→le (fin false n d) (fin false m e) q p (ltb-false (m * up e * down d) (n * up d * down e) h)
 
 not_le : (y x : Float) → T (positive y) → T (positive x) → le y x ≡ false → num x * den y ≤ num y * den x
 unfolding le lt
+not_le nan _ q p h = elim q [ ]
+not_le (inf _) _ q p h = elim q [ ]
+not_le (fin false n d) nan q p h = elim p [ ]
+not_le (fin false n d) (inf _) q p h = elim p [ ]
+not_le (fin false n d) (fin true m e) q p h = elim p [ ]
+not_le (fin true n d) _ q p h = elim q [ ]
 not_le (fin false n d) (fin false m e) q p h = ltb-false (n * up d * down e) (m * up e * down d) (both_false (ltb (n * up d * down e) (m * up e * down d)) _ h).0
 
 -- ---- a number that a scientific label is asked for
@@ -128,6 +140,8 @@ module _ (m : ℕ) (e : ℤ) (some : T (positive (fin false m e))) (least : lt (
   quotient : (s : Bool) (y : Float) → T (above y) → T (le (power k) y) → AtMost 16 (div binary64 (fin s m e) y)
   unfolding div
   quotient s (inf t) a h = omega arith
+  quotient s nan a h = elim a [ ]
+  quotient s (fin true n d) a h = elim a [ ]
   quotient s (fin false n d) a h =
       let z = ltb-true 0 n (is_true (ltb 0 n) a) in
       rw (ne_eqb n 0 (λ q. omega arith))

@@ -61,6 +61,8 @@ size_is (fin false m e) = refl
 -- ---- the size is below 2 ^ 53
 pub admit_yes : (n : Float) → LessThan (2 ^ 53) n → true ≡ printable n
 unfolding printable
+admit_yes nan h = elim h [ ]
+admit_yes (inf _) h = elim h [ ]
 admit_yes (fin s m e) h = sym (lt-ltb (m * up e) (2 ^ 53 * down e) h)
 
 pub admit_no : (n : Float) → AtLeast (2 ^ 53) n → false ≡ printable n

@@ -237,7 +237,7 @@ fn put_text(out: &mut [u8], at: usize, t: LongText)
 {
     let bytes = t.bytes;
     let blanks = t.blanks;
-    bytes::copy(&bytes[blanks..], &mut out[at..]);
+    out[at..at + (21 - blanks)].copy_from_slice(&bytes[blanks..]);
 }
 
 // Writes n zeros from `at` on.
