@@ -1,6 +1,6 @@
 -- 02 (a): the marks on the axis beside those that end at hi cut toward zero: they are never more. Assumes nothing.
 use mathlib.Core.Path.{◌≡◌, refl, sym, ap, ◌∙◌}
-use Prim.Native.Nat.{ℕ, zero, suc, ◌+◌, ◌-◌, ◌*◌, ◌/◌, ◌≤◌, ◌<◌}
+use Prim.Native.Nat.{ℕ, zero, suc, ◌+◌, ◌-◌, ◌/◌, ◌≤◌, ◌<◌}
 use native.Mathlib.Nat.{div-mul-le_self, le-div_iff_mul-le, div-eq_of_lt, zero-div}
 use native.Mathlib.Omega.{arith}
 use lib.IntN.{ℤ, pos, negsuc, neg_ℤ, nat_abs, ◌+ℤ◌, ◌-ℤ◌, +ℤ_comm, +ℤ_assoc, +ℤ_idr, neg_ℤ-+ℤ, neg_ℤ-neg_ℤ, -ℤ-+ℤ_cancel}
@@ -8,8 +8,7 @@ use lib.ListN.{length}
 use Rattle.ranged1d.specs.Numbers.{raised}
 use Rattle.numeric.specs.declared.Choice.{Choice}
 use Rattle.numeric.specs.declared.Choice.TheVariants.{Cut, Inside}
-use Rattle.numeric.specs.declared.KeyPoints.{KeyPoints}
-use Rattle.ranged1d.specs.Answer.{Answer, given, lowest}
+use Rattle.ranged1d.specs.Answer.{given, lowest}
 use Rattle.ranged1d.specs.Admitted.{ends_admitted}
 use Rattle.numeric.specs.Marks.{low, high, ceil_div, first_index, last_index, last_inside, last_by, how_many, multiple, multiples, step_of, marks_for, inside_for, marks_by}
 use Rattle.numeric.specs.Calls.{plan_reasons, whole_plan, inside_plan, plan_with, plan_by}

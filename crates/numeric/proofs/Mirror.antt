@@ -17,7 +17,7 @@ use Rattle.ranged1d.specs.Admitted.{whole_admitted, ends_admitted}
 use Rattle.ranged1d.proofs.Lowest.{lowest_then, last-same}
 use Rattle.ranged1d.proofs.Whole.{admitted-neg, low-neg, high-neg, low-high, neg-far, less_not_above, yes_le, yes_lt, lt_yes, neg_below, below_all, neg_le, neg_lt, neg_times, quot_neg}
 use Rattle.numeric.specs.declared.Choice.TheVariants.{Inside}
-use Rattle.numeric.specs.Marks.{low, high, distance, step_at, chosen, ceil_div, first_index, last_index, multiple, multiples, no_step_for, step_for, marks_for, no_step, step_of, marks, marks_by, last_inside}
+use Rattle.numeric.specs.Marks.{low, high, distance, step_at, chosen, ceil_div, first_index, last_index, multiples, no_step_for, step_for, marks_for, no_step, step_of, marks, marks_by, last_inside}
 use Rattle.numeric.specs.Calls.{plan_reasons, key_points_reasons, whole_key_points}
 use Rattle.numeric.specs.Mirror.{mirrored, nearest, Divides, NextTowardZero, OneMore, step_only, Mirrored}
 use Rattle.numeric.proofs.Steps.{step_pos}

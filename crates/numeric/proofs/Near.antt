@@ -10,7 +10,6 @@ use native.Mathlib.Omega.{arith}
 use borrow.Author.Tests.{leb-true, leb-false, eq-eqb}
 use lib.Dec.{T, leb, ltb, eqb, leb→le, eqb→eq}
 use lib.IntN.{ℤ, pos, negsuc, neg_ℤ, nat_abs, sub_ℕ, ◌+ℤ◌, ◌-ℤ◌, ◌*ℤ◌, +ℤ_assoc}
-use lib.ListN.{length}
 use mir.Facts.{and_yes}
 use lib.Signed.{le_z}
 use Rattle.ranged1d.proofs.Whole.{low-high, turned-far, sub_cases, sub-size, neg-far, neg_times, times_far, minus_shift, from_start, back_to_start}
@@ -22,7 +21,7 @@ use Rattle.numeric.proofs.Plans.{one-near, GoodBy, planned_good_by}
 use Rattle.numeric.proofs.Inside.{count_by, fewer}
 use Rattle.numeric.proofs.NoStep.{differ, served_none}
 use Rattle.ranged1d.proofs.Table.{at}
-use Rattle.numeric.specs.Marks.{low, high, distance, step_at, power_of_ten, ceil_div, chosen, first_index, last_index, last_by, how_many, multiple, step_for}
+use Rattle.numeric.specs.Marks.{low, high, distance, step_at, power_of_ten, ceil_div, chosen, first_index, last_index, how_many, multiple, step_for}
 use Rattle.numeric.specs.Calls.{plan_with, plan_by, element}
 use Rattle.numeric.proofs.Steps.{steps, step_pos}
 use Rattle.numeric.proofs.Reflect.{many_pos, many_turned}

@@ -9,7 +9,7 @@ use native.Mathlib.Decide.{dec_le}
 use native.Mathlib.Omega.{arith}
 use borrow.Author.Tests.{leb-true, le-leb}
 use lib.Dec.{T, ltb}
-use lib.IntN.{ℤ, pos, nat_abs, ◌+ℤ◌, ◌-ℤ◌, +ℤ_invr}
+use lib.IntN.{ℤ, pos, nat_abs, ◌-ℤ◌, +ℤ_invr}
 use lib.ListN.{length}
 use lib.Signed.{le_z}
 use Rattle.ranged1d.specs.Answer.{Answer, given, none, refused, ◌when◌, lowest}

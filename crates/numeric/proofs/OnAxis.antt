@@ -1,6 +1,6 @@
 -- 02 (a): the marks on the axis are the multiples of the step from lo to hi. Assumes nothing.
-use mathlib.Core.Path.{◌≡◌, refl, sym, ap, ap₂, ◌∙◌, subst}
-use mathlib.Core.Bool.{Bool, true, false, cond, ◌&&◌}
+use mathlib.Core.Path.{◌≡◌, refl, sym, ap, ◌∙◌, subst}
+use mathlib.Core.Bool.{Bool, true, false, cond}
 use mathlib.Core.List.Memᴰ
 use mathlib.Core.List.{List, [], ◌∷◌, ◌++◌, append-nil, Memᴰ}
 use mathlib.Core.Logic.{◌⊎◌, inl, inr, ◌↔◌}
@@ -9,20 +9,19 @@ use native.Mathlib.Nat.{add-mul, one-mul, mul-le-mul_right}
 use native.Mathlib.Decide.{dec_le, dec_lt}
 use native.Mathlib.Omega.{arith}
 use borrow.Author.Tests.{leb-false}
-use lib.Dec.{T}
 use lib.IntN.{ℤ, pos, neg_ℤ, nat_abs, ◌+ℤ◌, ◌-ℤ◌, ◌*ℤ◌, +ℤ_assoc, +ℤ_idr, +ℤ_invr, neg_ℤ-neg_ℤ}
-use lib.ListN.{length, get_or}
+use lib.ListN.{get_or}
 use lib.Signed.{le_z, ◌≤ℤ◌}
-use Rattle.ranged1d.proofs.Whole.{not_lt, not_before, from_start, back_to_start, other_way, both_ways, neg_le, neg_times, yes_le, le_yes, same_yes}
-use Rattle.ranged1d.specs.Numbers.{raised, same}
+use Rattle.ranged1d.proofs.Whole.{not_lt, not_before, from_start, back_to_start, other_way, both_ways, neg_le, neg_times, yes_le, le_yes}
+use Rattle.ranged1d.specs.Numbers.{raised}
 use Rattle.numeric.specs.declared.Choice.TheVariants.{Inside}
-use Rattle.numeric.specs.Marks.{low, high, distance, chosen, first_index, last_index, last_inside, how_many, list_of, multiple, multiples, no_step_for, no_step, step_for, step_of, marks_for, inside_for, marks, marks_by}
+use Rattle.numeric.specs.Marks.{low, high, distance, chosen, first_index, last_index, last_inside, how_many, list_of, multiple, multiples, no_step_for, no_step, step_for, step_of, marks_for, inside_for}
 use Rattle.numeric.specs.OnAxis.{kept, IsMultiple, lies_on, OnAxis}
 use Rattle.numeric.proofs.Steps.{step_pos}
-use Rattle.numeric.proofs.Lists.{entry, length_of}
+use Rattle.numeric.proofs.Lists.{entry}
 use Rattle.numeric.proofs.Bounds.{multiple-element}
 use Rattle.numeric.proofs.Reflect.{last_of}
-use Rattle.numeric.proofs.Inside.{marks_by_lem, count_by, fewer}
+use Rattle.numeric.proofs.Inside.{count_by, fewer}
 use Rattle.numeric.proofs.Most.{at_most}
 use Rattle.numeric.proofs.Theorems.{first_not_below, first_least}
 

@@ -20,7 +20,7 @@ use Rattle.numeric.specs.declared.Choice.TheVariants.{Cut}
 use Rattle.numeric.specs.declared.KeyPoints.{KeyPoints}
 use Rattle.numeric.specs.Marks.{low, high, distance, chosen, step_at, first_index, last_by, how_many, list_of, multiple, no_step_for, step_for, step_of, marks, marks_by}
 use Rattle.numeric.specs.Calls.{plan_reasons, key_points_by, whole_key_points, whole_plan, plan_of, plan_with, plan_by, element, index_marks, index_key_points}
-use Rattle.numeric.proofs.Lists.{length_of, list_ext, map_list}
+use Rattle.numeric.proofs.Lists.{list_ext, map_list}
 use Rattle.numeric.proofs.Steps.{step_pos, step_top}
 use Rattle.numeric.proofs.Bounds.{multiple-element, marks-near, count-near}
 use Rattle.numeric.proofs.Inside.{marks_by_lem, count_by, plan_by_lem, fewer}
