@@ -1,5 +1,5 @@
 -- What private functions promise on the way: no part of the rules. Assumes nothing.
-use Rattle.std.specs.Prelude.{ℕ, zero, suc, ◌+◌, ◌-◌, ◌/◌, ◌^◌, cond, Bool, ◌&&◌, List, ◌∷◌, ◌++◌, ℤ, pos, neg_ℤ, length, replicate}
+use Rattle.std.specs.Prelude.{ℕ, zero, suc, ◌-◌, ◌/◌, ◌^◌, cond, Bool, ◌&&◌, List, ◌∷◌, ◌++◌, ℤ, pos, neg_ℤ, length, replicate}
 use Rattle.ranged1d.specs.Answer.{Answer, given, refused}
 use Rattle.ranged1d.specs.Admitted.{whole_admitted}
 use Rattle.decimal.specs.Read.{same_bytes}

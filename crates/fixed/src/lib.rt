@@ -81,8 +81,8 @@ fn join(front: LongText, tail: Fraction, n: usize) -> Spelt
     let blanks = front.blanks;
     let decimals = tail.bytes;
     let mut bytes = [0u8; 12];
-    let k = bytes::copy(&text[blanks..], &mut bytes);
-    bytes::copy(&decimals[0..n], &mut bytes[k..]);
+    let k = decimal::copy(&text[blanks..], &mut bytes);
+    decimal::copy(&decimals[0..n], &mut bytes[k..]);
     Spelt { bytes, long: k + n }
 }
 
@@ -106,7 +106,7 @@ fn put(t: Spelt, out: &mut [u8]) -> Printed
     if out.len() < n {
         return Printed::Refused(Refusal::OutTooShort);
     }
-    bytes::copy(&text[0..n], out);
+    decimal::copy(&text[0..n], out);
     Printed::Written(n)
 }
 
