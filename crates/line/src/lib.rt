@@ -131,7 +131,7 @@ fn put(text: &[u8], last: u8, out: &mut [u8]) -> usize
     requires { 1 + length text.now ≤ length out.old }
     ensures { (result ≡ 1 + length text.now) × (out.new ≡ (text.now ++ (last ∷ [])) ++ drop (1 + length text.now) out.old) }
 {
-    let n = bytes::copy(text, out);
+    let n = decimal::copy(text, out);
     out[n] = last;
     n + 1
 }
