@@ -1,5 +1,5 @@
 -- The searches of lent lists, return by return. Assumes nothing.
-use mathlib.Core.Path.{◌≡◌, refl, sym, ◌∙◌}
+use mathlib.Core.Path.{◌≡◌, refl, sym, subst, ◌∙◌}
 use mathlib.Core.Bool.{Bool, true, false, ◌&&◌, and-false}
 use mathlib.Core.List.{List, [], ◌∷◌}
 use Prim.Native.Nat.{ℕ, suc, ◌-◌, ◌<◌}
@@ -39,7 +39,7 @@ module _ {A : Type 0} (num : Numbers A) (o : Order A num.less num.equal) where
   pub searched_ascends : (l : List A) (r : Bool) → r ≡ rises_first num.less l → searchable num l ≡ true → ascends (toward r num.less) l ≡ true
   searched_ascends [] r e s = refl
   searched_ascends (x ∷ []) r e s = refl
-  searched_ascends (x ∷ (y ∷ ys)) r e s = rw e (sym (searchable_is num o (x ∷ (y ∷ ys)) (λ q. omega (arith, q))) ∙ s)
+  searched_ascends (x ∷ (y ∷ ys)) r e s = subst (λ (b : Bool). ascends (toward b num.less) (x ∷ (y ∷ ys)) ≡ true) (sym e) (sym (searchable_is num o (x ∷ (y ∷ ys)) (λ q. omega (arith, q))) ∙ s)
 
 -- ---- whole lists
 whole_selves : (l : List ℤ) → every (λ z. wholes.equal z z) l ≡ true

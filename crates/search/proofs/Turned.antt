@@ -31,6 +31,8 @@ pub data Both {A : Type 0} (R : A → A → Type 0) : Answer (ℕ × A) → Answ
 
 pub each_map : {A : Type 0} {R S : A → A → Type 0} → ((x y : A) → R x y → S x y) → (l l' : List A) → Each R l l' → Each S l l'
 each_map f [] [] end = end
+each_map {A = A} {R = R} {S = S} f [] (y ∷ ys) x'' = elim x'' [ ]
+each_map {A = A} {R = R} {S = S} f (x ∷ xs) [] x4 = elim x4 [ ]
 each_map f (x ∷ xs) (y ∷ ys) (more r e) = more (f x y r) (each_map f xs ys e)
 
 -- a list that is mapped entry for entry
@@ -40,6 +42,8 @@ each_mapped f r (x ∷ xs) = more (r x) (each_mapped f r xs)
 
 pub each-length : {A : Type 0} {R : A → A → Type 0} (l l' : List A) → Each R l l' → length l ≡ length l'
 each-length [] [] end = refl
+each-length {A = A} {R = R} [] (y ∷ ys) x'' = elim x'' [ ]
+each-length {A = A} {R = R} (x ∷ xs) [] x4 = elim x4 [ ]
 each-length (x ∷ xs) (y ∷ ys) (more r e) = ap suc (each-length xs ys e)
 
 module _ {A : Type 0} (R : A → A → Type 0) (p p' : A → Bool) (b b' : A → A → Bool)
@@ -53,10 +57,17 @@ module _ {A : Type 0} (R : A → A → Type 0) (p p' : A → Bool) (b b' : A →
       go false = givens r
   step x y none none r nones true = givens r
   step x y (given (k, z)) (given (k', w)) r (givens s) false = givens s
+  step x y (given (k, z)) none r x8 t = elim x8 [ ]
+  step x y (given (k, z)) (Rattle.ranged1d.specs.Answer.refused _) r x10 t = elim x10 [ ]
+  step x y none (given _) r x6 t = elim x6 [ ]
+  step x y none (Rattle.ranged1d.specs.Answer.refused _) r x7 t = elim x7 [ ]
+  step x y (Rattle.ranged1d.specs.Answer.refused _) _ r x6 t = elim x6 [ ]
   step x y none none r nones false = nones
 
   pub best-turned : (l l' : List A) → Each R l l' → Both R (best p b l) (best p' b' l')
   best-turned [] [] end = nones
+  best-turned [] (y ∷ ys) x'' = elim x'' [ ]
+  best-turned (x ∷ xs) [] x4 = elim x4 [ ]
   best-turned (x ∷ xs) (y ∷ ys) (more r e) =
       subst (λ (t : Bool). Both R (cond t (unless_better b x (best p b xs)) (further (best p b xs))) (cond (p' y) (unless_better b' y (best p' b' ys)) (further (best p' b' ys)))) (sym (pp x y r))
       (step x y (best p b xs) (best p' b' ys) r (best-turned xs ys e) (p' y))
@@ -80,6 +91,11 @@ module _ {A : Type 0} (num : Numbers A) (R : A → A → Type 0) (T : Turns num 
 
   index-turned : (f f' : Answer (ℕ × A)) → Both R f f' → index_of num t f ≡ index_of num t' f'
   index-turned (given (k, x)) (given (k', y)) (givens r) = refl
+  index-turned (given (k, x)) none x5 = elim x5 [ ]
+  index-turned (given (k, x)) (Rattle.ranged1d.specs.Answer.refused _) x7 = elim x7 [ ]
+  index-turned none (given _) x4 = elim x4 [ ]
+  index-turned none (Rattle.ranged1d.specs.Answer.refused _) x5 = elim x5 [ ]
+  index-turned (Rattle.ranged1d.specs.Answer.refused _) _ x4 = elim x4 [ ]
   index-turned none none nones = refl
 
   -- which of two neighbours is nearer: i below the target at x, j above it at y
@@ -98,6 +114,21 @@ module _ {A : Type 0} (num : Numbers A) (R : A → A → Type 0) (T : Turns num 
   between-turned (given (i, x)) (given (i', x')) (given (j, y)) (given (j', y')) (givens r) (givens s) = ap given (nearer-turned i j x x' y y' r s)
   between-turned (given (i, x)) (given (i', x')) none none (givens r) nones = refl
   between-turned none none (given (j, y)) (given (j', y')) nones (givens s) = refl
+  between-turned (given (i, x)) (given (i', x')) (given (j, y)) none _ x20 = elim x20 [ ]
+  between-turned (given (i, x)) (given (i', x')) (given (j, y)) (Rattle.ranged1d.specs.Answer.refused _) _ x22 = elim x22 [ ]
+  between-turned (given (i, x)) (given (i', x')) none (given _) _ x19 = elim x19 [ ]
+  between-turned (given (i, x)) (given (i', x')) none (Rattle.ranged1d.specs.Answer.refused _) _ x20 = elim x20 [ ]
+  between-turned (given (i, x)) (given (i', x')) (Rattle.ranged1d.specs.Answer.refused _) _ _ x18 = elim x18 [ ]
+  between-turned (given (i, x)) none g _ x9 _ = elim x9 [ ]
+  between-turned (given (i, x)) (Rattle.ranged1d.specs.Answer.refused _) g _ x11 _ = elim x11 [ ]
+  between-turned none (given _) g _ x6 _ = elim x6 [ ]
+  between-turned none none (given (j, y)) none _ x14 = elim x14 [ ]
+  between-turned none none (given (j, y)) (Rattle.ranged1d.specs.Answer.refused _) _ x16 = elim x16 [ ]
+  between-turned none none none (given _) _ x13 = elim x13 [ ]
+  between-turned none none none (Rattle.ranged1d.specs.Answer.refused _) _ x14 = elim x14 [ ]
+  between-turned none none (Rattle.ranged1d.specs.Answer.refused _) _ _ x12 = elim x12 [ ]
+  between-turned none (Rattle.ranged1d.specs.Answer.refused _) g _ x8 _ = elim x8 [ ]
+  between-turned (Rattle.ranged1d.specs.Answer.refused _) _ g _ x5 _ = elim x5 [ ]
   between-turned none none none none nones nones = refl
 
   pub search-turned : (method : RoundingMethod) → search num t (turned method) l ≡ search num t' method l'
@@ -115,15 +146,21 @@ exact_stays Round = refl
 -- ---- 8: a list can be searched where its mirror can
 pub every-turned : {A : Type 0} {R : A → A → Type 0} (p p' : A → Bool) → ((x x' : A) → R x x' → p x ≡ p' x') → (l l' : List A) → Each R l l' → every p l ≡ every p' l'
 every-turned p p' h [] [] end = refl
+every-turned {A = A} {R = R} p p' h [] (y ∷ ys) x'' = elim x'' [ ]
+every-turned {A = A} {R = R} p p' h (x ∷ xs) [] x4 = elim x4 [ ]
 every-turned p p' h (x ∷ xs) (y ∷ ys) (more r e) = rw (h x y r, every-turned p p' h xs ys e) refl
 
 module _ {A : Type 0} (num : Numbers A) (R : A → A → Type 0) (T : Turns num R) where
   goes_turned : (a b : A → A → Bool) → ((x x' y y' : A) → R x x' → R y y' → a x y ≡ b x' y') → (x x' : A) (l l' : List A) → R x x' → Each R l l' → goes_on a x l ≡ goes_on b x' l'
   goes_turned a b h x x' [] [] r end = refl
+  goes_turned a b h x x' [] (y' ∷ ys') r x7 = elim x7 [ ]
+  goes_turned a b h x x' (y ∷ ys) [] r x7 = elim x7 [ ]
   goes_turned a b h x x' (y ∷ ys) (y' ∷ ys') r (more s e) = rw (h x x' y y' r s, goes_turned a b h y y' ys ys' s e) refl
 
   ascends-turned : (a b : A → A → Bool) → ((x x' y y' : A) → R x x' → R y y' → a x y ≡ b x' y') → (l l' : List A) → Each R l l' → ascends a l ≡ ascends b l'
   ascends-turned a b h [] [] end = refl
+  ascends-turned a b h [] (x' ∷ xs') x3 = elim x3 [ ]
+  ascends-turned a b h (x ∷ xs) [] x4 = elim x4 [ ]
   ascends-turned a b h (x ∷ xs) (x' ∷ xs') (more r e) = goes_turned a b h x x' xs xs' r e
 
   pub searchable-turned : (l l' : List A) → Each R l l' → searchable num l ≡ searchable num l'

@@ -1,0 +1,12 @@
+use mathlib.Core.Path.{◌≡◌}
+use Prim.Native.Nat.{◌-◌, ◌≤◌}
+use lib.ListN.{length, drop}
+use lib.Ieee.{lt}
+use Rattle.search.specs.Lists.{toward, ascends}
+use Rattle.search.proofs.reals.ordered.Given as goal
+
+abbrev pub invariant-loop-k : goal.invariant-loop-k
+invariant-loop-k l = (l.k ≤ length l.list) × (ascends (toward l.rises lt) l.list ≡ ascends (toward l.rises lt) (drop l.k l.list))
+
+abbrev pub decreases-loop-k : goal.decreases-loop-k
+decreases-loop-k l = length l.list - l.k

@@ -1,0 +1,11 @@
+use Prim.Native.Nat.{◌-◌}
+use lib.Ieee.{lt, nan}
+use Rattle.search.specs.Lists.{toward}
+use Rattle.search.specs.Steps.{Encloses}
+use Rattle.search.proofs.reals.position.Given as goal
+
+abbrev pub invariant-loop-lo : goal.invariant-loop-lo
+invariant-loop-lo l = Encloses (toward l.rises lt) l.list nan l.t l.lo l.hi
+
+abbrev pub decreases-loop-lo : goal.decreases-loop-lo
+decreases-loop-lo l = l.hi - l.lo
