@@ -1,7 +1,7 @@
 // Whole numbers in base ten, as labels have them, and their reader.
 #![tactic(auto)]
 
-ghost use Rattle.std.specs.Prelude.{◌≡◌, ◌-◌, ◌^◌, ◌≤◌, ◌<◌, cond, ◌++◌, length, take, drop, replicate, pos, neg_ℤ};
+ghost use Rattle.std.specs.Prelude.{◌≡◌, ◌-◌, ◌^◌, ◌≤◌, ◌<◌, cond, length, drop, replicate, pos, neg_ℤ};
 ghost use Rattle.decimal.specs.Print.{blank, natural, signed_digits, decimal, filled_to, text_of, long_text_of};
 ghost use Rattle.decimal.specs.Read.{value_of, same_bytes, read_i32, read_u32, tell_whole, tell_natural};
 ghost use Rattle.decimal.specs.Steps.{keep_i32, keep_printed};
@@ -196,14 +196,4 @@ pub fn read_u32(s: &[u8]) -> Natural
         return Natural::Number(n);
     }
     Natural::Nothing
-}
-
-// A text at the start of out; how many bytes that is.
-pub fn copy(text: &[u8], out: &mut [u8]) -> usize
-    requires { length text.now ≤ length out.old }
-    ensures { (result ≡ length text.now) × (out.new ≡ take (length text.now) text.now ++ drop (length text.now) out.old) }
-{
-    let n = text.len();
-    out[0..n].copy_from_slice(text);
-    n
 }
