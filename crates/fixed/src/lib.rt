@@ -72,6 +72,16 @@ fn fraction_length(f: usize) -> usize
     f + 1
 }
 
+// A text at the start of out; how many bytes that is.
+fn copy(text: &[u8], out: &mut [u8]) -> usize
+    requires { length text.now ≤ length out.old }
+    ensures { (result ≡ length text.now) × (out.new ≡ take (length text.now) text.now ++ drop (length text.now) out.old) }
+{
+    let n = text.len();
+    out[0..n].copy_from_slice(text);
+    n
+}
+
 // The text in front without its blanks, and the first n bytes of the tail behind it.
 fn join(front: LongText, tail: Fraction, n: usize) -> Spelt
     requires { (front.blanks ≤ 21) × (length front.bytes ≡ 21) × (length tail.bytes ≡ 7) × (n ≤ 7) × (21 - front.blanks + n ≤ 12) }
@@ -81,8 +91,8 @@ fn join(front: LongText, tail: Fraction, n: usize) -> Spelt
     let blanks = front.blanks;
     let decimals = tail.bytes;
     let mut bytes = [0u8; 12];
-    let k = decimal::copy(&text[blanks..], &mut bytes);
-    decimal::copy(&decimals[0..n], &mut bytes[k..]);
+    let k = copy(&text[blanks..], &mut bytes);
+    copy(&decimals[0..n], &mut bytes[k..]);
     Spelt { bytes, long: k + n }
 }
 
@@ -106,7 +116,7 @@ fn put(t: Spelt, out: &mut [u8]) -> Printed
     if out.len() < n {
         return Printed::Refused(Refusal::OutTooShort);
     }
-    decimal::copy(&text[0..n], out);
+    copy(&text[0..n], out);
     Printed::Written(n)
 }
 

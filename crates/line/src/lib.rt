@@ -131,7 +131,8 @@ fn put(text: &[u8], last: u8, out: &mut [u8]) -> usize
     requires { 1 + length text.now ≤ length out.old }
     ensures { (result ≡ 1 + length text.now) × (out.new ≡ (text.now ++ (last ∷ [])) ++ drop (1 + length text.now) out.old) }
 {
-    let n = decimal::copy(text, out);
+    let n = text.len();
+    out[0..n].copy_from_slice(text);
     out[n] = last;
     n + 1
 }
