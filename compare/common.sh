@@ -80,7 +80,8 @@ make_tabled() {
 
 make_archive() {
     if [ -z "${CULVRAOD_LIB_DIR:-}" ]; then
-        rt staticlib culvraod
+        (cd crates/culvraod && rt lib)
+        copy crates/culvraod/out/libculvraod.a "$archive_dir/libculvraod.a"
     fi
     if [ ! -r "$archive_dir/libculvraod.a" ]; then
         echo "no libculvraod.a in $archive_dir" >&2
@@ -89,9 +90,15 @@ make_archive() {
     export CULVRAOD_LIB_DIR=$archive_dir
 }
 
+# The ruler program: a run proves and builds it first.
+build_rule() {
+    (cd crates/rule && rt run </dev/null >/dev/null)
+    install -D -m 755 crates/rule/out/rule target/bin/rule
+}
+
 # The ruler program, ours and that over plotters, and a million lines for both.
 make_program() {
-    rt check rule
+    build_rule
     "$built/cargo/$1/compare" lines >"$built/lines.txt"
 }
 
