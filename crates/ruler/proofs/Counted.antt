@@ -1,14 +1,13 @@
 -- A place that can be told in whole numbers: by the exact place of request (e). Assumes nothing.
-use Rattle.std.proofs.Common.{◌≡◌, ℕ, zero, suc, ◌+◌, ◌-◌, ◌*◌, ◌/◌, ◌%◌, ◌<◌, ◌≤◌, true, false, ◌⊎◌, ℤ, pos, negsuc, ◌+ℤ◌, ◌-ℤ◌, nat_abs, sym, refl, ap, ◌∙◌, inl, inr, true≢false, add-mul, one-mul, div-add-mod', arith, le-leb}
+use Rattle.std.proofs.Common.{◌≡◌, ℕ, zero, suc, ◌+◌, ◌-◌, ◌*◌, ◌<◌, ◌≤◌, true, false, ◌⊎◌, ℤ, pos, negsuc, ◌+ℤ◌, ◌-ℤ◌, nat_abs, sym, refl, ap, ◌∙◌, inl, inr, add-mul, one-mul, div-add-mod', arith, le-leb}
 use native.Mathlib.Nat.{div-eq_of_lt-le}
 use lib.IntN.{+ℤ_invr}
 use lib.Signed.{le_z}
-use Rattle.ranged1d.specs.Answer.{Answer, given}
-use Rattle.ranged1d.specs.Admitted.{ends_admitted, limit_admitted, whole_admitted}
+use Rattle.ranged1d.specs.Answer.{given}
+use Rattle.ranged1d.specs.Admitted.{ends_admitted, limit_admitted}
 use Rattle.ranged1d.specs.Numbers.{same}
 use Rattle.ranged1d.specs.declared.Limit.{Limit}
 use Rattle.ranged1d.proofs.Whole.{both_near, between-far, same_no, start_to}
-use Rattle.ranged1d.proofs.Parts.{over, under}
 use Rattle.real.specs.Place.{whole_place}
 use Rattle.real.specs.Reading.{outside}
 use Rattle.real.specs.Exact.{pixels, distance, quotient, remainder, whole_exact, toward, away, Relied}

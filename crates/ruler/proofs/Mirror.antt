@@ -1,5 +1,5 @@
 -- The bytes of a ruler and of its mirror, from the mirror of the marks and that of places. Assumes nothing.
-use Rattle.std.proofs.Common.{◌≡◌, ℕ, ◌+◌, ◌%◌, ◌<◌, ◌≤◌, Bool, true, false, cond, ◌&&◌, eqb, ltb, ◌⊎◌, List, [], ◌∷◌, ◌++◌, map, reverse, length, get_or, ℤ, pos, neg_ℤ, nat_abs, ◌<ℤ◌, sym, refl, ap, ◌∙◌, subst, ap₂, inl, inr, arith, length-append, ltb-false, le-ltb, ne_eqb, eqb-true}
+use Rattle.std.proofs.Common.{◌≡◌, ℕ, ◌+◌, ◌%◌, ◌<◌, ◌≤◌, Bool, true, false, ◌&&◌, eqb, ltb, ◌⊎◌, List, [], ◌∷◌, ◌++◌, map, reverse, length, get_or, ℤ, pos, neg_ℤ, nat_abs, ◌<ℤ◌, sym, refl, ap, ◌∙◌, subst, ap₂, inl, inr, arith, length-append, ltb-false, le-ltb, ne_eqb, eqb-true}
 use mathlib.Core.List.{reverse-cons, map-append}
 use native.Mathlib.Decide.{dec_le}
 use lib.IntN.{neg_ℤ-neg_ℤ}
@@ -14,7 +14,7 @@ use Rattle.ruler.specs.declared.Form.{Form}
 use Rattle.ruler.specs.declared.Twist.{Twist}
 use Rattle.ruler.specs.declared.Twist.TheVariants.{Plain, S, Z}
 use Rattle.numeric.specs.declared.Choice.TheVariants.{Cut, Inside}
-use Rattle.numeric.specs.Marks.{low, high, step_of, marks, marks_by}
+use Rattle.numeric.specs.Marks.{low, high, step_of, marks_by}
 use Rattle.numeric.specs.Mirror.{mirrored, nearest_zero, Divides}
 use Rattle.numeric.specs.Mirror as marks-are
 use Rattle.numeric.proofs.Mirror as marks
@@ -22,7 +22,7 @@ use Rattle.real.specs.Place.{whole_place}
 use Rattle.real.specs.Mirror as film
 use Rattle.real.proofs.Mirror as places
 use Rattle.real.proofs.Readings.{limit-neg}
-use Rattle.ruler.specs.Bytes.{twist_bytes, head_long, Record, axis, mark, laid, joined}
+use Rattle.ruler.specs.Bytes.{twist_bytes, Record, axis, mark, laid, joined}
 use Rattle.ruler.specs.Place.{place_in, place_of}
 use Rattle.ruler.specs.Rule.{no_ruler, write_reasons_by, mark_at, records_by, bytes_by, write_by, has_ruler, twisted, twisted_reasons, twisted_write}
 use Rattle.ruler.specs.Mirror.{Matches, other_twist, turned_form, negated, turned, verdict, MirrorOf, OneMore, Mirrored, other_number, TwistMirrored}

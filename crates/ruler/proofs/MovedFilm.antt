@@ -1,5 +1,5 @@
 -- 02 (i), as specs/MovedFilm states it: moving both limits by c changes p, q and the marks' places in the bytes of a ruler, and nothing else. Assumes nothing.
-use Rattle.std.proofs.Common.{◌≡◌, ℕ, zero, suc, ◌+◌, ◌-◌, ◌*◌, ◌^◌, ◌<◌, ◌≤◌, Bool, true, false, cond, not, ◌&&◌, T, ltb, ◌⊎◌, List, [], ◌∷◌, ◌++◌, map, length, get_or, take, drop, ℤ, pos, ◌+ℤ◌, neg_ℤ, nat_abs, sym, refl, ap, ◌∙◌, subst, ap₂, inl, inr, append_assoc, append-nil, le_refl, arith, length-append, length-drop, take-append-drop, drop_of_length-le, length-take, length-take-le, take_at, get_or-append-add, drop_at, w32, SFits, of_z}
+use Rattle.std.proofs.Common.{◌≡◌, ℕ, zero, suc, ◌+◌, ◌-◌, ◌*◌, ◌<◌, ◌≤◌, Bool, true, false, cond, ltb, List, [], ◌∷◌, ◌++◌, map, length, get_or, take, drop, ℤ, pos, ◌+ℤ◌, neg_ℤ, nat_abs, sym, refl, ap, ◌∙◌, subst, ap₂, append_assoc, append-nil, le_refl, arith, length-append, take-append-drop, drop_of_length-le, length-take-le, take_at, get_or-append-add, drop_at, w32, SFits, of_z}
 use native.Mathlib.Decide.{dec_lt}
 use lib.IntN.{+ℤ-neg_ℤ_cancel}
 use lib.ListN.{get_or-append}
@@ -10,7 +10,6 @@ use Rattle.ranged1d.specs.declared.Limit.{Limit}
 use Rattle.ranged1d.proofs.Answers.{given_is}
 use Rattle.ranged1d.proofs.Lowest.{given_tests}
 use Rattle.ranged1d.proofs.Whole.{both_near, fits32, same_yes, same_no}
-use Rattle.numeric.specs.declared.Choice.{Choice}
 use Rattle.numeric.specs.declared.KeyPoints.{KeyPoints}
 use Rattle.numeric.specs.Marks.{step_of, marks_by}
 use Rattle.numeric.specs.Calls.{plan_by, plan_with, element}

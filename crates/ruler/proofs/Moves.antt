@@ -1,6 +1,6 @@
 -- 02 (c): moving over and back gives what writing gives, and changes no byte. Assumes nothing.
-use Rattle.std.proofs.Common.{◌≡◌, ℕ, ◌+◌, ◌-◌, ◌*◌, ◌/◌, ◌%◌, ◌^◌, ◌<◌, ◌≤◌, Bool, true, false, not, ◌&&◌, T, List, [], ◌∷◌, ◌++◌, map, length, get_or, drop, ℤ, pos, sym, refl, ap, ◌∙◌, subst, ap₂, mod-lt, arith, lit<}
-use Rattle.ranged1d.specs.Answer.{Answer, given, list_written}
+use Rattle.std.proofs.Common.{◌≡◌, ℕ, ◌+◌, ◌-◌, ◌*◌, ◌/◌, ◌%◌, ◌^◌, ◌<◌, ◌≤◌, true, false, not, T, List, ◌++◌, map, length, drop, ℤ, pos, sym, refl, ap, ◌∙◌, subst, mod-lt, arith, lit<}
+use Rattle.ranged1d.specs.Answer.{given}
 use Rattle.ranged1d.specs.declared.Limit.{Limit}
 use Rattle.ranged1d.proofs.Bools.{both_true}
 use Rattle.numeric.specs.declared.Choice.{Choice}
@@ -11,9 +11,8 @@ use Rattle.ruler.specs.declared.Twist.{Twist}
 use Rattle.ruler.specs.declared.Twist.TheVariants.{Plain, S, Z}
 use Rattle.ruler.specs.declared.Form.{Form}
 use Rattle.ruler.specs.declared.Draft.{Draft}
-use Rattle.ruler.specs.Bytes.{kind_for, twist_bytes, head_long, axis, axis_body, laid, joined}
-use Rattle.ruler.specs.Rule.{mark_at, bytes_by, has_ruler, form_in, a_in, b_in, limit_in, m_in, is_ruler, plain, is_z, is_old, is_twisted, with_twist, over, back, upgraded, downgraded, ruler_upgrade, ruler_downgrade}
-use Rattle.ruler.specs.Steps.{draft_in}
+use Rattle.ruler.specs.Bytes.{kind_for, twist_bytes, axis, axis_body, laid, joined}
+use Rattle.ruler.specs.Rule.{mark_at, bytes_by, form_in, a_in, b_in, limit_in, m_in, is_ruler, plain, is_z, is_old, is_twisted, upgraded, downgraded, ruler_upgrade, ruler_downgrade}
 use Rattle.ruler.specs.Moves.{Moves}
 use Rattle.ruler.proofs.Drawn.{drawn_for, is_drawn}
 use Rattle.ruler.proofs.Reader.{Known, ruler_in, known_long}

@@ -1,6 +1,6 @@
 -- 02 (c): rulers with a twist, written, moved over and moved back. Assumes nothing.
-use Rattle.std.proofs.Common.{◌≡◌, ℕ, ◌+◌, ◌-◌, ◌*◌, ◌<◌, ◌≤◌, Bool, true, false, not, ◌&&◌, eqb, ltb, List, [], ◌∷◌, ◌++◌, length, take, drop, ℤ, sym, refl, ap, ◌∙◌, subst, arith, length-append, length-drop, length-take, le-ltb, lt-ltb, ne_eqb}
-use lib.Seq.{take-length}
+use Rattle.std.proofs.Common.{◌≡◌, ℕ, ◌+◌, ◌-◌, ◌*◌, ◌<◌, ◌≤◌, Bool, true, false, not, ltb, List, [], ◌∷◌, ◌++◌, length, take, drop, ℤ, sym, refl, ap, ◌∙◌, arith, append_assoc, length-append, length-drop, length-take, le-ltb, lt-ltb, ne_eqb}
+use lib.Seq.{take_at, drop_at, drop-drop}
 use borrow.Rule.Slice.PartMut.{put_mid}
 use Rattle.ranged1d.specs.Answer.{Answer, given, refused, Reason, ◌when◌, lowest, written, list_written}
 use Rattle.ranged1d.specs.Admitted.{ends_admitted, limit_admitted}
@@ -16,7 +16,7 @@ use Rattle.ruler.specs.declared.Twist.TheVariants.{Plain, S, Z}
 use Rattle.ruler.specs.declared.Form.{Form}
 use Rattle.ruler.specs.declared.Draft.{Draft}
 use Rattle.ruler.specs.Bytes.{kind_for, twist_bytes, head_long}
-use Rattle.ruler.specs.Rule.{no_ruler, bytes_by, write_by, ruler_plan_by, has_ruler, twisted, twisted_write, form_in, is_ruler, plain, is_z, is_old, is_twisted, over, back, upgraded, downgraded, ruler_upgrade, ruler_downgrade}
+use Rattle.ruler.specs.Rule.{no_ruler, bytes_by, write_by, ruler_plan_by, has_ruler, twisted_write, form_in, is_ruler, plain, is_z, is_old, is_twisted, over, back, upgraded, downgraded, ruler_upgrade, ruler_downgrade}
 use Rattle.ruler.specs.Steps.{no_twist}
 use Rattle.ruler.proofs.Places.{ends, film, served}
 use Rattle.ruler.proofs.Drawn.{is_drawn, ruler_long_lem}
@@ -70,6 +70,13 @@ module _ (f : Form) (a b : ℤ) (limit : Limit) (m room : ℕ) where
     no_twist_unknown h = rw (ends a b limit m has, film a b limit m has, served a b limit m has, ruler_long_lem f a b limit m e, le-ltb room (head_long f + 20 * p.count) h)
 
 -- ---- bytes moved, as they are put
+-- a list r in place of the m entries from a on, of a list that is as old was from there on
+put-part : (a m : ℕ) (p r old o y : List ℕ) → length p ≡ a → o ≡ p ++ drop a old → y ≡ r → put_mid a m o y ≡ (p ++ r) ++ drop (a + m) old
+put-part a m p r old o y c e f =
+    let put : take a o ++ (y ++ drop m (drop a o)) ≡ (p ++ r) ++ drop (a + m) old
+    = rw (e, f, take_at p (drop a old) a c, drop_at p (drop a old) a c, drop-drop m a old, append_assoc p r (drop (a + m) old)) in
+    put
+
 module _ (k : ℕ) (l : List ℕ) (h : 25 ≤ length l) where
   body_long : 1 + length (take 24 (drop 1 l)) ≡ 25
   body_long = simp (length-take, length-drop) (omega arith)
@@ -89,12 +96,14 @@ module _ (k : ℕ) (l : List ℕ) (h : 25 ≤ length l) where
       ∙ ap (λ (n : ℕ). over k l ++ drop n old) size
 
   pub back_put : 26 ≤ length l → (old o y : List ℕ) → o ≡ (k ∷ take 24 (drop 1 l)) ++ drop (1 + length (take 24 (drop 1 l))) old
-      → y ≡ take (length (take (length l - 26) (drop 26 l))) (take (length l - 26) (drop 26 l)) ++ drop (length (take (length l - 26) (drop 26 l))) (take (length o - 25) (drop 25 o))
-      → put_mid 25 (length o - 25) o y ≡ back k l ++ drop (length l - 1) old
+      → y ≡ take (length l - 26) (drop 26 l)
+      → put_mid 25 (length l - 1 - 25) o y ≡ back k l ++ drop (length l - 1) old
   back_put h' old o y e g =
-      let size : 25 + length (drop 26 l) ≡ length l - 1 = rw (length-drop 26 l) (omega arith) in
-      put_more 25 (length (drop 26 l)) (k ∷ take 24 (drop 1 l)) (drop 26 l) old o y (omega (arith, body_long)) (e ∙ ap (λ (n : ℕ). (k ∷ take 24 (drop 1 l)) ++ drop n old) body_long) (rw (rest_is 26 l, take-length (drop 26 l)) at g)
-      ∙ ap (λ (n : ℕ). back k l ++ drop n old) size
+      let size : 25 + (length l - 1 - 25) ≡ length l - 1 = omega arith in
+      let front = k ∷ take 24 (drop 1 l) in
+      let long : length front ≡ 25 = omega (arith, body_long) in
+      let o_is : o ≡ front ++ drop 25 old = e ∙ ap (λ (n : ℕ). front ++ drop n old) body_long in
+      put-part 25 (length l - 1 - 25) front (drop 26 l) old o y long o_is (g ∙ rest_is 26 l) ∙ ap (λ (n : ℕ). back k l ++ drop n old) size
 
 pub list_short : (new old : List ℕ) {n : ℕ} → length new ≡ n → length old < n → ◌≡◌ {A = Answer ℕ × List ℕ} (refused 13, old) (list_written new old)
 list_short new old {n} e h = rw (e, lt-ltb (length old) n h)

@@ -26,4 +26,4 @@ number-back z f = ap (to_z w32) (word_back (of_z w32 z) (Fits-of_z f).fits) ∙ 
 
 -- a number that was read, as the code passes it on
 pub read_is : {z : ℤ} {x y : ℕ} → mag z < 2 ^ hbits w32 → z ≡ to_z w32 x → x ≡ y → to_z w32 (of_z w32 z) ≡ to_z w32 y
-read_is f e g = to_z-of_z (record { sfits = f }) ∙ e ∙ ap (to_z w32) g
+read_is f e g = to_z-of_z {w = w32} (record { sfits = f }) ∙ e ∙ ap (to_z w32) g

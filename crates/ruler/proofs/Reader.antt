@@ -2,7 +2,6 @@
 use Rattle.std.proofs.Common.{◌≡◌, ℕ, ◌+◌, ◌*◌, ◌<◌, Bool, true, false, cond, ◌&&◌, List, length, sym, refl, ap, ◌∙◌, subst, arith}
 use Rattle.ranged1d.specs.Answer.{Answer, given, refused}
 use Rattle.ranged1d.proofs.Bools.{both_true}
-use Rattle.ruler.specs.declared.Form.{Form}
 use Rattle.numeric.specs.declared.KeyPoints.{KeyPoints}
 use Rattle.numeric.specs.Marks.{list_of}
 use Rattle.numeric.specs.Calls.{plan_with, element}

@@ -12,7 +12,7 @@ use Rattle.numeric.proofs.Lists.{length_of}
 use Rattle.decimal.specs.Print.{decimal}
 use Rattle.decimal.proofs.Digits.{decimal-most, filled_long}
 use Rattle.ruler.specs.declared.Draft.{Draft}
-use Rattle.ruler.specs.Bytes.{twist_bytes, head_long, Record, axis, mark, axis_body, mark_body, laid, joined}
+use Rattle.ruler.specs.Bytes.{head_long, Record, axis, mark, axis_body, mark_body, laid, joined}
 use Rattle.ruler.specs.Place.{place_of}
 use Rattle.ruler.specs.Rule.{mark_at}
 use Rattle.ruler.specs.Steps.{first_of}

@@ -1,5 +1,5 @@
 -- 02 (i): numbers that are added to in the bytes of a ruler, by which it becomes the ruler of the moved limits. Assumes nothing.
-use Rattle.std.proofs.Common.{◌≡◌, ℕ, zero, suc, ◌+◌, ◌-◌, ◌*◌, ◌/◌, ◌%◌, ◌^◌, ◌<◌, ◌≤◌, Bool, true, false, cond, List, [], ◌∷◌, ◌++◌, length, get_or, take, drop, set, ℤ, pos, negsuc, ◌+ℤ◌, sym, refl, ap, ◌∙◌, subst, ap₂, append_assoc, add_comm, arith, length-append, length-drop, length-take, get_or-append-add, to_z-of_z, w32, SFits, to_z, of_z}
+use Rattle.std.proofs.Common.{◌≡◌, ℕ, zero, suc, ◌+◌, ◌-◌, ◌*◌, ◌/◌, ◌%◌, ◌^◌, ◌<◌, ◌≤◌, List, [], ◌∷◌, ◌++◌, length, get_or, take, drop, set, ℤ, pos, negsuc, ◌+ℤ◌, sym, refl, ap, ◌∙◌, ap₂, append_assoc, add_comm, arith, length-append, length-drop, length-take, get_or-append-add, to_z-of_z, w32, SFits, to_z, of_z}
 use lib.IntN.{sub_ℕ}
 use lib.Seq.{take-append_seam, drop-append-add, get_or-append_seam, sets-eq}
 use mir.Facts.{Fits-of_z}
@@ -11,7 +11,7 @@ use Rattle.ruler.specs.declared.Form.{Form}
 use Rattle.ruler.specs.Bytes.{word, whole, word_at, whole_at, twist_bytes, kind_byte, axis, mark, axis_body, mark_body, laid}
 use Rattle.ruler.specs.Place.{place_of}
 use Rattle.ruler.specs.Steps.{put_word, added_at, added_to_places}
-use Rattle.ruler.proofs.Numbers.{word_back, number-back}
+use Rattle.ruler.proofs.Numbers.{word_back}
 use Rattle.ruler.proofs.Records.{run, one, run_suc, run_long}
 
 -- ---- whole numbers by their 32 bits

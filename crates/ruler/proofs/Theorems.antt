@@ -1,5 +1,5 @@
 -- The reader takes what the writer gives, and nothing else. Assumes nothing.
-use Rattle.std.proofs.Common.{◌≡◌, ℕ, ◌+◌, ◌*◌, ◌^◌, ◌<◌, ◌≤◌, Bool, true, false, ◌⊎◌, List, ◌++◌, length, get_or, take, drop, ℤ, pos, sym, refl, ap, ◌∙◌, subst, inl, inr, append-nil, arith, drop_of_length-le, take_at, w32, SFits}
+use Rattle.std.proofs.Common.{◌≡◌, ℕ, ◌+◌, ◌*◌, ◌^◌, ◌<◌, ◌≤◌, Bool, true, false, ◌⊎◌, List, ◌++◌, length, take, drop, ℤ, pos, sym, refl, ap, ◌∙◌, subst, inl, inr, append-nil, arith, drop_of_length-le, take_at, w32, SFits}
 use native.Mathlib.Decide.{dec_lt}
 use lib.Seq.{take-length}
 use Rattle.ranged1d.specs.Answer.{Answer, given, none, refused}

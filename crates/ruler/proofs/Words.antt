@@ -1,11 +1,10 @@
 -- Bytes that are compared four at a time. Assumes nothing.
-use Rattle.std.proofs.Common.{◌≡◌, ℕ, suc, ◌+◌, ◌-◌, ◌*◌, ◌/◌, ◌%◌, ◌^◌, ◌<◌, ◌≤◌, Bool, true, false, not, eqb, List, [], ◌∷◌, ◌++◌, length, get_or, take, drop, ℤ, sym, refl, ap, ◌∙◌, ap₂, true≢false, arith, length-drop, take-append-drop, drop_of_length-le, take_all, drop-cons, drop-drop, eq-eqb, eqb-true}
-use borrow.Author.Tests.{not-true, not-false}
+use Rattle.std.proofs.Common.{◌≡◌, ℕ, suc, ◌+◌, ◌*◌, ◌/◌, ◌%◌, ◌^◌, ◌<◌, ◌≤◌, Bool, true, false, eqb, List, [], ◌∷◌, ◌++◌, length, get_or, take, drop, ℤ, sym, ap, ◌∙◌, ap₂, true≢false, arith, length-drop, take-append-drop, drop_of_length-le, take_all, drop-cons, drop-drop, eq-eqb, eqb-true}
 use Rattle.ranged1d.specs.declared.Limit.{Limit}
 use Rattle.decimal.specs.Read.{same_bytes}
 use Rattle.decimal.proofs.Texts.{same-equal, same_yes, same_no, same_is}
 use Rattle.ruler.specs.declared.Form.{Form}
-use Rattle.ruler.specs.Bytes.{word, whole, word_at, kind_byte, twist_bytes, axis, mark, axis_body, mark_body, laid}
+use Rattle.ruler.specs.Bytes.{word, whole, word_at, kind_byte, twist_bytes, axis, axis_body, laid}
 use Rattle.ruler.specs.Steps.{four}
 use Rattle.ruler.proofs.Numbers.{word_back}
 
@@ -44,11 +43,11 @@ pub told_by : {r : Bool} (l t : List ℕ) (x at i : ℕ) → i + 4 ≤ length t 
 told_by l t x at i h e f = e ∙ ap (same_bytes (four at l)) (f ∙ sym (four_is i t h))
 
 -- what such a comparison says
-pub not_told : {r : Bool} {l t : List ℕ} → r ≡ same_bytes l t → not r ≡ true → l ≡ t → ⊥
-not_told {r} {l} {t} e n same = true≢false (sym (e ∙ same_yes l t same) ∙ not-true r n)
+pub not_told : {r : Bool} {l t : List ℕ} → r ≡ same_bytes l t → r ≡ false → l ≡ t → ⊥
+not_told {r} {l} {t} e n same = true≢false (sym (e ∙ same_yes l t same) ∙ n)
 
-pub well_told : {r : Bool} {l t : List ℕ} → r ≡ same_bytes l t → not r ≡ false → l ≡ t
-well_told {r} {l} {t} e n = same-equal l t (sym e ∙ not-false r n)
+pub well_told : {r : Bool} {l t : List ℕ} → r ≡ same_bytes l t → r ≡ true → l ≡ t
+well_told {r} {l} {t} e n = same-equal l t (sym e ∙ n)
 
 -- ---- a list from such pieces
 next-four : (at : ℕ) (l : List ℕ) → drop at l ≡ four at l ++ drop (at + 4) l

@@ -1,6 +1,6 @@
 -- 02 (i): what moving both film limits by c changes in a ruler, and what it leaves as it is. It is stated of the bytes, over the rules that the writers and
 -- `shift` promise. `moved_film` and `shifts` of proofs/MovedFilm prove `MovedFilm` and `Shifts`. Assumes nothing.
-use Rattle.std.specs.Prelude.{◌≡◌, ℕ, ◌+◌, ◌^◌, ◌<◌, ◌≤◌, true, List, length, take, drop, ℤ, ◌+ℤ◌, neg_ℤ, ◌≢◌, slice_index}
+use Rattle.std.specs.Prelude.{◌≡◌, ℕ, ◌+◌, ◌<◌, ◌≤◌, true, List, length, take, drop, ℤ, ◌+ℤ◌, neg_ℤ, ◌≢◌, slice_index}
 use Rattle.ranged1d.specs.Answer.{Answer, given, refused}
 use Rattle.ranged1d.specs.Admitted.{limit_admitted}
 use Rattle.ranged1d.specs.declared.Limit.{Limit}

@@ -341,7 +341,7 @@ fn put_record(kind: u8, body: &[u8], out: &mut [u8])
     ensures { out.new ≡ (kind ∷ body.now) ++ drop (1 + length body.now) out.old }
 {
     out[0] = kind;
-    bytes::copy(body, &mut out[1..]);
+    out[1..1 + body.len()].copy_from_slice(body);
 }
 
 // The axis's record at the start of out.
@@ -941,7 +941,7 @@ fn put_back(kind: u8, l: &[u8], out: &mut [u8]) -> Moved
         return Moved::Refused(Refusal::OutTooShort);
     }
     put_record(kind, &l[1..25], out);
-    bytes::copy(&l[26..], &mut out[25..]);
+    out[25..size].copy_from_slice(&l[26..]);
     Moved::Bytes(size)
 }
 
