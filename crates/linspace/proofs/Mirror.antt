@@ -39,6 +39,8 @@ whole_kind = record {
 
 opposite : (l l' : List ℤ) → Each Opposite l l' → l ≡ map neg_ℤ l'
 opposite [] [] end = refl
+opposite [] (y ∷ ys) x'' = elim x'' [ ]
+opposite (x ∷ xs) [] x4 = elim x4 [ ]
 opposite (x ∷ xs) (y ∷ ys) (more r e) = rw (r, opposite xs ys e) refl
 
 -- ---- floats

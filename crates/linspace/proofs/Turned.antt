@@ -40,6 +40,8 @@ module _ {A : Type 0} (R : A → A → Type 0) (p p' : A → Bool) (next next' :
 pub get_d_each : {A : Type 0} (R : A → A → Type 0) (l l' : List A) → Each R l l' → (k : ℕ) (d d' : A) → R d d' → R (get_or l k d) (get_or l' k d')
 get_d_each R [] [] end k d d' r = r
 get_d_each R (x ∷ xs) (y ∷ ys) (more s e) zero d d' r = s
+get_d_each {A = A} R [] (y ∷ ys) x4 k d d' r = elim x4 [ ]
+get_d_each {A = A} R (x ∷ xs) [] x5 k d d' r = elim x5 [ ]
 get_d_each R (x ∷ xs) (y ∷ ys) (more s e) (suc k) d d' r = get_d_each R xs ys e k d d' r
 
 map_each : {A : Type 0} (R : A → A → Type 0) (f f' : ℕ → A) → ((k : ℕ) → R (f k) (f' k)) → (ks : List ℕ) → Each R (map f ks) (map f' ks)
