@@ -1,8 +1,6 @@
 -- `linspace::lanes::advance_four` what the search leaves.
-use mathlib.Core.Path.{◌≡◌, refl, ap, ◌∙◌}
-use Prim.Native.Nat.{ℕ, ◌≤◌, ◌-◌}
+use mathlib.Core.Path.{refl}
 use native.Mathlib.Omega.{arith}
-use lib.Ieee.{Float}
 use Rattle.linspace.specs.RealSteps.{plus_step, after}
 use Rattle.linspace.proofs.Walks.{after_step}
 use Rattle.linspace.proofs.lanes.advance_four.Goals as goal

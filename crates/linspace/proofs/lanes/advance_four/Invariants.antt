@@ -1,9 +1,6 @@
-use mathlib.Core.Path.{◌≡◌, refl, ap, ◌∙◌}
-use Prim.Native.Nat.{ℕ, ◌≤◌, ◌-◌}
-use native.Mathlib.Omega.{arith}
-use lib.Ieee.{Float}
+use mathlib.Core.Path.{◌≡◌}
+use Prim.Native.Nat.{◌≤◌, ◌-◌}
 use Rattle.linspace.specs.RealSteps.{plus_step, after}
-use Rattle.linspace.proofs.Walks.{after_step}
 use Rattle.linspace.proofs.lanes.advance_four.Given as goal
 
 abbrev pub invariant-loop-i : goal.invariant-loop-i

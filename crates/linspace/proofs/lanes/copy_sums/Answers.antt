@@ -1,10 +1,9 @@
 -- `linspace::lanes::copy_sums` what the search leaves: the first k are copied.
-use mathlib.Core.Path.{◌≡◌, refl, ap, ◌∙◌}
-use mathlib.Core.List.{List, ◌++◌}
-use Prim.Native.Nat.{ℕ, ◌-◌, ◌≤◌}
+use mathlib.Core.Path.{ap, ◌∙◌}
+use mathlib.Core.List.{List}
 use native.Mathlib.Omega.{arith}
 use lib.Ieee.{Float, nan}
-use lib.ListN.{length, set, take, drop, get_or, length-set}
+use lib.ListN.{set, get_or, length-set}
 use Rattle.linspace.proofs.Runs.{copy_more}
 use Rattle.linspace.proofs.lanes.copy_sums.Goals as goal
 

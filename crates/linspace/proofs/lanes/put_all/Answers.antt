@@ -1,13 +1,10 @@
 -- `linspace::lanes::put_all` what the search leaves.
-use mathlib.Core.Path.{◌≡◌, refl, ◌∙◌}
+use mathlib.Core.Path.{◌≡◌, ◌∙◌}
 use Prim.Native.Nat.{◌*◌}
-use native.Mathlib.Omega.{arith}
 use lib.Ieee.{nan}
 use lib.ListN.{length, drop}
 use Rattle.linspace.specs.RealSteps.{plus_step}
-use Rattle.linspace.proofs.Walks.{after_none}
 use Rattle.linspace.proofs.Runs.{rest_put, four_join, four-behind}
-use borrow.Author.Rules.{rules}
 use Rattle.linspace.proofs.lanes.put_all.Lts as lts
 use Rattle.linspace.proofs.lanes.put_all.Reads as reads
 use Rattle.linspace.proofs.lanes.put_all.Tie as tie

@@ -1,12 +1,11 @@
 -- `linspace::lanes::put_entries` what the search leaves: the first k elements are the first k of the sums, and y is the last of them.
 use mathlib.Core.Path.{◌≡◌, refl, ap, ap₂, sym, ◌∙◌}
-use mathlib.Core.List.{List, [], ◌∷◌, ◌++◌, append-nil}
-use Prim.Native.Nat.{ℕ, ◌+◌, ◌-◌, ◌≤◌, ◌*◌}
+use mathlib.Core.List.{List, ◌++◌}
+use Prim.Native.Nat.{ℕ, ◌+◌, ◌-◌, ◌*◌}
 use native.Mathlib.Omega.{arith}
-use borrow.Author.Rules.{rules}
 use lib.Ieee.{Float, nan}
-use lib.ListN.{length, set, drop, length-set}
-use lib.Seq.{drop-length, drop-set-lt}
+use lib.ListN.{set, length-set}
+use lib.Seq.{drop-set-lt}
 use Rattle.numeric.specs.Marks.{list_of}
 use Rattle.numeric.proofs.Lists.{write_more}
 use Rattle.linspace.specs.RealSteps.{plus_step, after}

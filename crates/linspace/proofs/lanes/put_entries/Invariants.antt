@@ -1,15 +1,10 @@
-use mathlib.Core.Path.{◌≡◌, refl, ap, ap₂, sym, ◌∙◌}
-use mathlib.Core.List.{List, [], ◌∷◌, ◌++◌, append-nil}
-use Prim.Native.Nat.{ℕ, ◌+◌, ◌-◌, ◌≤◌, ◌*◌}
-use native.Mathlib.Omega.{arith}
-use borrow.Author.Rules.{rules}
-use lib.Ieee.{Float, nan}
-use lib.ListN.{length, set, drop, length-set}
-use lib.Seq.{drop-length, drop-set-lt}
+use mathlib.Core.Path.{◌≡◌}
+use mathlib.Core.List.{◌++◌}
+use Prim.Native.Nat.{ℕ, ◌-◌, ◌≤◌, ◌*◌}
+use lib.Ieee.{Float}
+use lib.ListN.{length, drop}
 use Rattle.numeric.specs.Marks.{list_of}
-use Rattle.numeric.proofs.Lists.{write_more}
 use Rattle.linspace.specs.RealSteps.{plus_step, after}
-use Rattle.linspace.proofs.Walks.{after_none, after_turn}
 use Rattle.linspace.proofs.lanes.put_entries.Given as goal
 
 abbrev sums : Float → ℕ → Float → ℕ → Float

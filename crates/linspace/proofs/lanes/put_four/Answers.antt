@@ -1,10 +1,9 @@
 -- `linspace::lanes::put_four` what the search leaves: the first k of each run are written, and y has the next of each.
 use mathlib.Core.Path.{◌≡◌, ap, subst, ◌∙◌}
-use Prim.Native.Nat.{ℕ, ◌-◌, ◌≤◌, ◌*◌}
+use Prim.Native.Nat.{ℕ, ◌≤◌, ◌*◌}
 use native.Mathlib.Omega.{arith}
-use borrow.Author.Rules.{rules}
 use lib.Ieee.{Float, nan}
-use lib.ListN.{length, length-set}
+use lib.ListN.{length}
 use Rattle.linspace.specs.RealSteps.{plus_step, after}
 use Rattle.linspace.proofs.Walks.{after_none, after_turn}
 use Rattle.linspace.proofs.Runs.{Four, four_starts, four_turn, four-whole}

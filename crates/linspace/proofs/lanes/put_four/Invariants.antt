@@ -1,12 +1,9 @@
-use mathlib.Core.Path.{◌≡◌, ap, subst, ◌∙◌}
+use mathlib.Core.Path.{◌≡◌}
 use Prim.Native.Nat.{ℕ, ◌-◌, ◌≤◌, ◌*◌}
-use native.Mathlib.Omega.{arith}
-use borrow.Author.Rules.{rules}
 use lib.Ieee.{Float, nan}
-use lib.ListN.{length, length-set}
+use lib.ListN.{length}
 use Rattle.linspace.specs.RealSteps.{plus_step, after}
-use Rattle.linspace.proofs.Walks.{after_none, after_turn}
-use Rattle.linspace.proofs.Runs.{Four, four_starts, four_turn, four-whole}
+use Rattle.linspace.proofs.Runs.{Four}
 use Rattle.linspace.proofs.lanes.put_four.Given as goal
 
 abbrev run : Float → ℕ → Float → ℕ → Float

@@ -8,7 +8,6 @@ use lib.ListN.{length, drop}
 use Rattle.linspace.specs.RealSteps.{plus_step, after}
 use Rattle.linspace.proofs.Walks.{after_turn}
 use Rattle.linspace.proofs.Runs.{kept_at, kept-front, rest_put}
-use borrow.Author.Rules.{rules}
 use Rattle.linspace.proofs.lanes.put_kept.Goals as goal
 
 pub returns-then-n-g : goal.returns-then-n-g

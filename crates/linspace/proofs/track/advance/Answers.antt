@@ -1,6 +1,5 @@
 -- `linspace::track::advance` what the search leaves.
-use mathlib.Core.Path.{◌≡◌, refl, ap, ◌∙◌}
-use Prim.Native.Nat.{ℕ, ◌≤◌, ◌-◌}
+use mathlib.Core.Path.{refl}
 use native.Mathlib.Omega.{arith}
 use Rattle.linspace.specs.RealSteps.{plus_step, after}
 use Rattle.linspace.proofs.Walks.{after_step}

@@ -1,8 +1,6 @@
-use mathlib.Core.Path.{◌≡◌, refl, ap, ◌∙◌}
-use Prim.Native.Nat.{ℕ, ◌≤◌, ◌-◌}
-use native.Mathlib.Omega.{arith}
+use mathlib.Core.Path.{◌≡◌}
+use Prim.Native.Nat.{◌≤◌, ◌-◌}
 use Rattle.linspace.specs.RealSteps.{plus_step, after}
-use Rattle.linspace.proofs.Walks.{after_step}
 use Rattle.linspace.proofs.track.advance.Given as goal
 
 abbrev pub invariant-loop-i : goal.invariant-loop-i

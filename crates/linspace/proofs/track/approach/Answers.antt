@@ -1,11 +1,9 @@
 -- `linspace::track::approach` what the search leaves.
 use mathlib.Core.Path.{◌≡◌, sym, subst, ◌∙◌}
 use mathlib.Core.Bool.{Bool, true, false}
-use Prim.Native.Nat.{◌+◌, ◌-◌, ◌<◌, ◌≤◌}
+use Prim.Native.Nat.{◌+◌, ◌<◌}
 use native.Mathlib.Omega.{arith}
-use borrow.Author.Rules.{rules}
-use borrow.Author.Tests.{not-true, not-false}
-use lib.Ieee.{Float, eq}
+use lib.Ieee.{Float}
 use Rattle.linspace.specs.List.{real, toward}
 use Rattle.linspace.specs.RealSteps.{plus_step, nearest, Going, Parted}
 use Rattle.linspace.specs.Walks.{Tracked, head_of}

@@ -1,15 +1,11 @@
-use mathlib.Core.Path.{◌≡◌, sym, subst, ◌∙◌}
-use mathlib.Core.Bool.{Bool, true, false}
-use Prim.Native.Nat.{◌+◌, ◌-◌, ◌<◌, ◌≤◌}
-use native.Mathlib.Omega.{arith}
-use borrow.Author.Rules.{rules}
-use borrow.Author.Tests.{not-true, not-false}
+use mathlib.Core.Path.{◌≡◌}
+use mathlib.Core.Bool.{true}
+use Prim.Native.Nat.{◌-◌, ◌≤◌}
 use lib.Ieee.{Float, eq}
 use Rattle.linspace.specs.List.{real, toward}
-use Rattle.linspace.specs.RealSteps.{plus_step, nearest, Going, Parted}
+use Rattle.linspace.specs.RealSteps.{plus_step, nearest, Going}
 use Rattle.linspace.specs.Walks.{Tracked, head_of}
-use Rattle.linspace.proofs.Walks.{going_starts, going_on}
-use Rattle.linspace.proofs.Tracks.{Runs, runs-from, runs_on, runs_test, head_on, track_head, before_both, not_both_before}
+use Rattle.linspace.proofs.Tracks.{Runs}
 use Rattle.linspace.proofs.track.approach.Given as goal
 
 abbrev pub invariant-loop-n : goal.invariant-loop-n

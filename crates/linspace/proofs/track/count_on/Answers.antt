@@ -1,16 +1,14 @@
 -- `linspace::track::count_on` what the search leaves: what is passed and what is left of the list stay as many.
 use mathlib.Core.Path.{◌≡◌, sym, ap, ◌∙◌}
-use Prim.Native.Nat.{◌≤◌, ◌+◌, ◌-◌}
+use Prim.Native.Nat.{◌+◌, ◌-◌}
 use native.Mathlib.Omega.{arith}
-use borrow.Author.Rules.{rules}
-use borrow.Author.Tests.{not-true, not-false}
 use lib.ListN.{length}
 use lib.Ieee.{Float}
 use Rattle.linspace.specs.List.{real, toward, entries}
 use Rattle.linspace.specs.RealSteps.{plus_step}
-use Rattle.linspace.specs.Walks.{Tracked, head_of}
+use Rattle.linspace.specs.Walks.{head_of}
 use Rattle.linspace.proofs.Walks.{total_on, total-ends, total_full}
-use Rattle.linspace.proofs.Tracks.{Runs, runs-from, runs_on, runs_test, head_on, track_head}
+use Rattle.linspace.proofs.Tracks.{Runs, runs_on, runs_test, head_on}
 use Rattle.linspace.proofs.track.count_on.Lts as lts
 use Rattle.linspace.proofs.track.count_on.Reads as reads
 use Rattle.linspace.proofs.track.count_on.Tie as tie

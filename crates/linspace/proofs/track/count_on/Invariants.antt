@@ -1,15 +1,11 @@
-use mathlib.Core.Path.{◌≡◌, sym, ap, ◌∙◌}
+use mathlib.Core.Path.{◌≡◌}
 use Prim.Native.Nat.{◌≤◌, ◌+◌, ◌-◌}
-use native.Mathlib.Omega.{arith}
-use borrow.Author.Rules.{rules}
-use borrow.Author.Tests.{not-true, not-false}
 use lib.ListN.{length}
 use lib.Ieee.{Float}
 use Rattle.linspace.specs.List.{real, toward, entries}
 use Rattle.linspace.specs.RealSteps.{plus_step}
 use Rattle.linspace.specs.Walks.{Tracked, head_of}
-use Rattle.linspace.proofs.Walks.{total_on, total-ends, total_full}
-use Rattle.linspace.proofs.Tracks.{Runs, runs-from, runs_on, runs_test, head_on, track_head}
+use Rattle.linspace.proofs.Tracks.{Runs}
 use Rattle.linspace.proofs.track.count_on.Given as goal
 
 abbrev pub invariant-loop-n : goal.invariant-loop-n

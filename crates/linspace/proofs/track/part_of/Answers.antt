@@ -2,7 +2,6 @@
 use mathlib.Core.Path.{subst, sym}
 use Prim.Native.Nat.{ℕ}
 use native.Mathlib.Omega.{arith}
-use borrow.Author.Rules.{rules}
 use lib.IntN.{pos}
 use Rattle.linspace.specs.RealSteps.{Shares}
 use Rattle.linspace.proofs.Shares.{share_on, share-past, share-between}

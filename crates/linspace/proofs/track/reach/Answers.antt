@@ -1,15 +1,13 @@
 -- `linspace::track::reach` what the search leaves.
 use mathlib.Core.Path.{◌≡◌, sym, subst, ◌∙◌}
 use mathlib.Core.Bool.{Bool, false}
-use Prim.Native.Nat.{◌≤◌, ◌<◌, ◌-◌}
+use Prim.Native.Nat.{◌≤◌, ◌<◌}
 use native.Mathlib.Omega.{arith}
-use borrow.Author.Rules.{rules}
-use borrow.Author.Tests.{not-true, not-false}
 use lib.Ieee.{Float}
 use Rattle.linspace.specs.List.{real, toward}
 use Rattle.linspace.specs.RealSteps.{plus_step, Walked, Reached}
 use Rattle.linspace.specs.Walks.{head_of}
-use Rattle.linspace.proofs.Tracks.{Along, along_starts, along_on, Runs, runs_test}
+use Rattle.linspace.proofs.Tracks.{along_starts, along_on, Runs, runs_test}
 use Rattle.linspace.proofs.track.reach.Lts as lts
 use Rattle.linspace.proofs.track.reach.Reads as reads
 use Rattle.linspace.proofs.track.reach.Tie as tie

@@ -1,7 +1,6 @@
 -- `linspace::track::share` what the search leaves.
 use mathlib.Core.Path.{◌≡◌, subst}
 use Prim.Native.Nat.{ℕ}
-use borrow.Author.Rules.{rules}
 use lib.IntN.{pos, nat_abs}
 use mir.Facts.{to_z-of_z}
 use Rattle.ranged1d.proofs.Bools.{apart, alike}

@@ -4,7 +4,6 @@ use Prim.Native.Nat.{◌+◌, ◌-◌, ◌/◌, ◌≤◌}
 use native.Mathlib.Omega.{arith}
 use lib.Dec.{T}
 use lib.Ieee.{neg, of_bits}
-use borrow.Author.Rules.{rules}
 use Rattle.linspace.proofs.Tracks.{trail_sum}
 use Rattle.linspace.proofs.track.trail_on.Goals as goal
 

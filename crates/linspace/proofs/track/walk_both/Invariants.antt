@@ -1,18 +1,7 @@
-use mathlib.Core.Path.{◌≡◌, refl, sym, ap, ◌∙◌}
-use mathlib.Core.Bool.{Bool}
-use Prim.Native.Nat.{ℕ, ◌+◌, ◌-◌, ◌*◌, ◌/◌, ◌≤◌}
-use native.Mathlib.Nat.{zero-mul, suc-mul, mul-le-mul}
-use native.Mathlib.Numerals.{add-one}
-use native.Mathlib.Omega.{arith}
-use borrow.Author.Rules.{rules}
-use borrow.Author.Tests.{not-true, not-false}
-use lib.Ieee.{Float}
-use lib.ListN.{length}
-use Rattle.linspace.specs.List.{real, toward, entries}
-use Rattle.linspace.specs.RealSteps.{plus_step, after, all, Walked, Behind}
-use Rattle.linspace.specs.Walks.{head_of}
-use Rattle.linspace.proofs.Walks.{total-ends, total_full, after_on}
-use Rattle.linspace.proofs.Tracks.{Along, along_starts, along_on, Runs, runs_test}
+use mathlib.Core.Path.{◌≡◌}
+use Prim.Native.Nat.{◌-◌, ◌*◌, ◌/◌, ◌≤◌}
+use Rattle.linspace.specs.RealSteps.{plus_step, after, all}
+use Rattle.linspace.proofs.Tracks.{Along}
 use Rattle.linspace.proofs.track.walk_both.Given as goal
 
 abbrev pub invariant-loop-n : goal.invariant-loop-n
