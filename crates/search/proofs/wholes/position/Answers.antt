@@ -1,5 +1,4 @@
--- `search::wholes::position` what the search leaves: lo and hi enclose the target's place, and half of what is left goes with each round. Assumes
--- nothing.
+-- `search::wholes::position` what the search leaves: lo and hi enclose the target's place, and half of what is left goes with each round.
 use mathlib.Core.Path.{◌≡◌, sym, ◌∙◌}
 use Prim.Native.Nat.{ℕ, ◌≤◌, ◌<◌}
 use native.Mathlib.Omega.{arith}
