@@ -1,7 +1,7 @@
 -- A length shared among n, by the cut of twice the quotient: doubling the length doubles the float. Assumes nothing.
 use Rattle.std.proofs.Common.{◌≡◌, ℕ, zero, suc, ◌+◌, ◌-◌, ◌*◌, ◌/◌, ◌^◌, ◌<◌, ◌≤◌, min, true, false, T, pos, sym, refl, ap, ◌∙◌, subst, true≢false, le_trans, mul_assoc, suc-mul, mul_comm, div-lt_iff_lt-mul, add-mul, mul-le-mul_left, mul-pos, le-mul_of_pos_right, mul_left_comm, arith, lt→ltb, pow_pos, leb-true}
 use native.Mathlib.Nat.{div-div-eq-div-mul, add-div_right}
-use lib.Ieee.{prec, low, Float, fin, binary32, up, down, round, lt, of_int, to_unsigned}
+use lib.Ieee.{prec, low, Float, fin, binary32, up, down, round, lt, of_int, to_unsigned, inf, nan}
 use lib.Ieee.Fits.{down_pos}
 use lib.Ieee.Exact.{HasValue}
 use lib.Ieee.Nearest.{div_same}
@@ -35,12 +35,16 @@ halved g d p =
 near_of : (x : Float) (g d : ℕ) → 0 < d → HasValue x false g d → whole_of halves x ≡ pos ((2 * g + d) / (2 * d))
 unfolding whole_of
 near_of (fin true m e) g d p h = absurd (true≢false h.0)
+near_of nan g d p h = elim h [ ]
+near_of (inf _) g d p h = elim h [ ]
 near_of (fin false m e) g d p h =
     ap pos (div_same (2 * (m * up e) + down e) (2 * down e) (2 * g + d) (2 * d) (mul-pos (omega arith) (down_pos e)) (mul-pos (omega arith) p) (spread (m * up e) (down e) g d h.1))
 
 cut_of : (y : Float) (g d : ℕ) → 0 < d → AtMost 4000000 y → HasValue y false g d → to_unsigned 64 y ≡ g / d
 unfolding to_unsigned
 cut_of (fin true m e) g d p s h = absurd (true≢false h.0)
+cut_of nan g d p s h = elim s [ ]
+cut_of (inf _) g d p s h = elim s [ ]
 cut_of (fin false m e) g d p s h =
     let l : m * up e / down e < 4000001 = (div-lt_iff_lt-mul (down_pos e)).1 (omega (arith, s, down_pos e)) in
     let r : min (m * up e / down e) (2 ^ 64 - 1) ≡ m * up e / down e = omega (arith, l) in
@@ -49,6 +53,8 @@ cut_of (fin false m e) g d p s h =
 cut_le : (C : ℕ) (y : Float) → AtMost C y → to_unsigned 64 y ≤ C
 unfolding to_unsigned
 cut_le C (fin true m e) s = omega arith
+cut_le C nan s = elim s [ ]
+cut_le C (inf _) s = elim s [ ]
 cut_le C (fin false m e) s =
     let l : m * up e / down e < suc C = (div-lt_iff_lt-mul (down_pos e)).1 (omega (arith, s, suc-mul C (down e), down_pos e)) in
     let r : min (m * up e / down e) (2 ^ 64 - 1) ≤ C = omega (arith, l) in
@@ -57,9 +63,13 @@ cut_le C (fin false m e) s =
 in_range : (y : Float) → Plus y → AtMost 4000000 y → T (lt (fin true 1 (pos 0)) y) × T (lt y (fin false 1 (pos 64)))
 unfolding lt
 in_range (fin true m e) p s = absurd (true≢false p)
+in_range nan p s = elim p [ ]
+in_range (inf _) p s = elim s [ ]
 in_range (fin false m e) p s = (lt→ltb 0 (1 * down e + m * up e * 1) (omega (arith, down_pos e)), lt→ltb (m * up e * 1) (18446744073709551616 * down e) (omega (arith, s, down_pos e)))
 
 small_finite : (C : ℕ) (x : Float) → AtMost C x → T (finite x)
+small_finite C nan h = elim h [ ]
+small_finite C (inf _) h = elim h [ ]
 small_finite C (fin s m e) h = tt
 
 -- ---- l ÷ n

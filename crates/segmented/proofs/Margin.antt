@@ -82,6 +82,8 @@ margin-neg n limit =
 told : (C : ℕ) (x : Float) → Plus x → AtMost C x → (j : ℕ) × (whole_of halves x ≡ pos j) × (j ≤ C)
 unfolding whole_of
 told C (fin true m e) s v = absurd (true≢false s)
+told C nan s v = elim s [ ]
+told C (inf _) s v = elim v [ ]
 told C (fin false m e) s v = (sized halves false (m * up e) (down e), refl, sized_le halves false (m * up e) (down e) C (down_pos e) v)
 
 pub int_plus : (k : ℕ) → k ≤ 16777216 → HasValue (of_int binary32 (pos k)) false k 1

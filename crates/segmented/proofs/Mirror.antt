@@ -63,6 +63,8 @@ by_parts f f' u u' r r' e g h = rw (e, g, h) (sym (lowest_then (5 when f' ∷ 9 
 nth_paired : {A : Type 0} (R : A → A → Type 0) (xs ys : List A) → Each R xs ys → (k : ℕ) → Paired R (nth xs k) (nth ys k)
 nth_paired R [] [] end k = both_none
 nth_paired R (x ∷ xs) (y ∷ ys) (more r e) zero = both_given r
+nth_paired {A = A} R [] (y ∷ ys) x'' k = elim x'' [ ]
+nth_paired {A = A} R (x ∷ xs) [] x4 k = elim x4 [ ]
 nth_paired R (x ∷ xs) (y ∷ ys) (more r e) (suc k) = nth_paired R xs ys e k
 
 module _ {A : Type 0} (kind : Kind A) (R : A → A → Type 0) (K : KindTurns kind R) (opposite : A → A) (opp : (x : A) → R (opposite x) x) (a b d : A) where
@@ -147,11 +149,23 @@ module _ {A : Type 0} (kind : Kind A) (R : A → A → Type 0) (K : KindTurns ki
             rw (begun, starts w' w r (g w' refl), number-neg (start H v limit), number-neg (start H w' limit)) (ap given (middle-neg (number (start H v limit)) (number (start H w' limit))))
         middles none none both_none g =
             rw (begun, number-neg (start H v limit), margins) (ap given (alone-neg (number (start H v limit)) (margin (length near) limit)))
+        middles (given w) none x5 g = elim x5 [ ]
+        middles (given w) (refused k) x6 g = elim x6 [ ]
+        middles none (given w') x5 g = elim x5 [ ]
+        middles none (refused k) x6 g = elim x6 [ ]
+        middles (refused m) (given w') x6 g = elim x6 [ ]
+        middles (refused m) none x7 g = elim x7 [ ]
         middles (refused m) (refused k) both_refused g = refl
 
         afters : (x y : Answer A) → Paired R x y → ((w : A) → y ≡ given w → kind.admitted w ≡ true) → after_beyond M (mirrored limit) x ≡ after_beyond H limit y
         afters (given w) (given w') (both_given r) g = ap is_beyond (starts w' w r (g w' refl)) ∙ beyond_neg (start H w' limit)
         afters none none both_none g = refl
+        afters (given w) none x5 g = elim x5 [ ]
+        afters (given w) (refused k) x6 g = elim x6 [ ]
+        afters none (given w') x5 g = elim x5 [ ]
+        afters none (refused k) x6 g = elim x6 [ ]
+        afters (refused m) (given w') x6 g = elim x6 [ ]
+        afters (refused m) none x7 g = elim x7 [ ]
         afters (refused m) (refused k) both_refused g = refl
 
       -- the successors

@@ -1,0 +1,46 @@
+-- `segmented::below::size` what the search leaves.
+use Rattle.std.proofs.Common.{◌≡◌, ℤ, sym, ap, ◌∙◌, arith}
+use Rattle.numeric.specs.Whole.{tell_count}
+use Rattle.numeric.specs.declared.whole.Count.{Count}
+use Rattle.segmented.specs.Segments.{Axis}
+use Rattle.segmented.specs.Steps.{count_answer, Stands, axis_of}
+use Rattle.segmented.proofs.Rules.{size-stopped, size_is}
+use Rattle.segmented.proofs.BelowRules.{below_stands}
+use Rattle.segmented.proofs.below.size.Lts as lts
+use Rattle.segmented.proofs.below.size.Reads as reads
+use Rattle.segmented.proofs.below.size.Tie as tie
+use Rattle.segmented.proofs.below.size.Goals as goal
+
+abbrev at-After-segments : Type 0
+at-After-segments = lts.After-segments tie.the-claims reads.Pre reads.Post
+
+abbrev at-Past-After-known_told2 : Type 0
+at-Past-After-known_told2 = lts.Past-After-known_told2 tie.the-claims reads.Pre reads.Post
+
+abbrev at-Start : Type 0
+at-Start = lts.Start tie.the-claims reads.Pre reads.Post
+
+module _ (s : at-Start) where
+  abbrev a : ℤ
+  a = s.args.ends.0
+
+  abbrev b : ℤ
+  b = s.args.ends.1
+
+  abbrev axis : Axis ℤ
+  axis = axis_of a b s.args.step
+
+counts : (c : at-After-segments) {r : Count} → c.segments.result ≡ r → count_answer (axis c.before) ≡ tell_count r
+counts c e = sym c.segments.ensures ∙ ap tell_count e
+
+known : (c : at-Past-After-known_told2) → Stands (axis c.before.before) c.in-Of.n
+known c = let s = c.before.before in below_stands (a s) (b s) s.args.step (counts c.before c.in-Of.is)
+
+pub overflow_add-result : goal.overflow_add-result
+overflow_add-result c = omega (arith, (known c).most)
+
+pub returns-in-Refused : goal.returns-in-Refused
+returns-in-Refused c = let at = c.before in size-stopped (axis at.before) (counts at c.in-Refused.is)
+
+pub returns-in-Of : goal.returns-in-Of
+returns-in-Of c = let n = c in size_is (axis n.before.before) (known n)
