@@ -1,65 +1,60 @@
 // Prints the marks of a few axes, each beside its mirror.
 #![tactic(auto)]
 
-use libc::STDOUT_FILENO;
 use numeric::{KeyPoints, Planned, Point, RangedCoordi32};
+use std::io;
 
-fn print(v: i32) {
-    if v < 0 {
-        io::write_all(STDOUT_FILENO, b"-");
-    }
-    io::print_decimal(STDOUT_FILENO, ranged1d::unsigned_abs(v) as u64);
+fn print(rt: &impl Print, v: i32) -> io::Result<()> {
+    print!(rt; "{v}")
 }
 
-fn print_mark(p: KeyPoints, i: u32) {
-    io::write_all(STDOUT_FILENO, b" ");
+fn print_mark(rt: &impl Print, p: KeyPoints, i: u32) -> io::Result<()> {
+    print!(rt; " ")?;
     match p.get(i) {
-        Point::At(v) => print(v),
-        Point::Nothing => {}
+        Point::At(v) => print(rt, v),
+        Point::Nothing => Ok(()),
     }
 }
 
-fn print_list(p: KeyPoints) {
+fn print_list(rt: &impl Print, p: KeyPoints) -> io::Result<()> {
     let n = p.count;
     let mut i = 0;
     while i < n {
-        print_mark(p, i);
+        print_mark(rt, p, i)?;
         i += 1;
     }
+    Ok(())
 }
 
-fn print_marks(p: KeyPoints) {
-    io::write_all(STDOUT_FILENO, b" step ");
-    print(p.step);
-    io::write_all(STDOUT_FILENO, b", marks");
-    print_list(p);
-    io::write_all(STDOUT_FILENO, b"\n");
+fn print_marks(rt: &impl Print, p: KeyPoints) -> io::Result<()> {
+    print!(rt; " step ")?;
+    print(rt, p.step)?;
+    print!(rt; ", marks")?;
+    print_list(rt, p)?;
+    println!(rt; "")
 }
 
-fn show(a: i32, b: i32, m: u32) {
-    print(a);
-    io::write_all(STDOUT_FILENO, b"..");
-    print(b);
-    io::write_all(STDOUT_FILENO, b" m ");
-    io::print_decimal(STDOUT_FILENO, m as u64);
-    io::write_all(STDOUT_FILENO, b":");
+fn show(rt: &impl Print, a: i32, b: i32, m: u32) -> io::Result<()> {
+    print(rt, a)?;
+    print!(rt; "..")?;
+    print(rt, b)?;
+    print!(rt; " m {m}:")?;
     match RangedCoordi32(a, b).plan(m) {
-        Planned::Points(p) => print_marks(p),
+        Planned::Points(p) => print_marks(rt, p),
         Planned::Refused(r) => {
-            io::write_all(STDOUT_FILENO, b" refused ");
-            io::print_decimal(STDOUT_FILENO, r.number() as u64);
-            io::write_all(STDOUT_FILENO, b"\n");
+            let number = r.number();
+            println!(rt; " refused {number}")
         }
     }
 }
 
-fn main() {
-    show(3, 15, 4);
-    show(-15, -3, 4);
-    show(10, 40, 4);
-    show(-40, -10, 4);
-    show(-7, 12, 6);
-    show(3, 5, 1);
-    show(-5, -3, 1);
-    show(0, 1, 0);
+fn main(rt: HostRuntime) -> io::Result<()> {
+    show(&rt, 3, 15, 4)?;
+    show(&rt, -15, -3, 4)?;
+    show(&rt, 10, 40, 4)?;
+    show(&rt, -40, -10, 4)?;
+    show(&rt, -7, 12, 6)?;
+    show(&rt, 3, 5, 1)?;
+    show(&rt, -5, -3, 1)?;
+    show(&rt, 0, 1, 0)
 }
