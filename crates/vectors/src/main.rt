@@ -2,7 +2,7 @@
 // list). Prints for each call how many lines matched, and then how many lines did not.
 #![tactic(auto)]
 
-ghost use Rattle.std.specs.Prelude.{◌≡◌, ◌≤◌, length};
+ghost use Rattle.std.specs.Prelude.{◌≡◌, ◌≤◌, length, IfOk};
 
 mod bits;
 mod calls;
@@ -14,7 +14,8 @@ mod segments;
 mod steps;
 mod text;
 
-use libc::{STDIN_FILENO, STDOUT_FILENO};
+use std::io;
+use std::io::Read;
 
 // The calls have numbers from 0 on; after them come the lines that differ and the comments. A total is kept of each.
 const LABEL: usize = 44;
@@ -30,7 +31,7 @@ fn position(word: &[u8], words: &[u8]) -> usize {
     let mut at = 0;
     let mut k = 0;
     while at < words.len() {
-        let end = bytes::scan::find(words, at, words.len(), b' ');
+        let end = text::find(words, at, b' ');
         if check::same(word, &words[at..end]) {
             return k;
         }
@@ -141,7 +142,7 @@ fn judge(line: &[u8], numbers: &mut [u64]) -> usize {
     if line[0] == b'#' {
         return COMMENT;
     }
-    let end = bytes::scan::find(line, 0, line.len(), b' ');
+    let end = text::find(line, 0, b' ');
     let call = call_of(&line[0..end]);
     let n = text::numbers(line, end + 1, numbers);
     if call == LABEL {
@@ -170,7 +171,7 @@ fn count(totals: &mut [u32], which: usize) {
 fn replay(s: &[u8], numbers: &mut [u64], totals: &mut [u32]) {
     let mut at = 0;
     while at < s.len() {
-        let end = bytes::scan::find(s, at, s.len(), b'\n');
+        let end = text::find(s, at, b'\n');
         count(totals, judge(&s[at..end], numbers));
         at = end + 1;
     }
@@ -184,41 +185,63 @@ fn total(totals: &[u32], which: usize) -> u32 {
     }
 }
 
-fn report(name: &[u8], n: u32) {
-    io::write_all(STDOUT_FILENO, name);
-    io::print_decimal(STDOUT_FILENO, n as u64);
-    io::write_all(STDOUT_FILENO, b"\n");
+fn report(rt: &impl Print, name: &[u8], n: u32) -> io::Result<()> {
+    rt.write_all(name)?;
+    println!(rt; "{n}")
 }
 
-fn report_call(name: &[u8], n: u32) {
-    io::write_all(STDOUT_FILENO, name);
-    report(b" matched: ", n);
+fn report_call(rt: &impl Print, name: &[u8], n: u32) -> io::Result<()> {
+    rt.write_all(name)?;
+    report(rt, b" matched: ", n)
 }
 
 // A line for each call of the text, which has one blank between two of them, in the order of their numbers.
-fn report_calls(names: &[u8], totals: &[u32]) {
+fn report_calls(rt: &impl Print, names: &[u8], totals: &[u32]) -> io::Result<()> {
     let mut at = 0;
     let mut k = 0;
     while at < names.len() {
-        let end = bytes::scan::find(names, at, names.len(), b' ');
-        report_call(&names[at..end], total(totals, k));
+        let end = text::find(names, at, b' ');
+        report_call(rt, &names[at..end], total(totals, k))?;
         k += 1;
         at = end + 1;
     }
+    Ok(())
 }
 
-fn report_all(totals: &[u32]) {
+fn report_all(rt: &impl Print, totals: &[u32]) -> io::Result<()> {
     report_calls(
+        rt,
         b"whole_key_points index_key_points whole_map real_map whole_size whole_index_of whole_from_index whole_unmap real_unmap search_whole search_real step_whole_size step_whole_from_index step_whole_index_of step_whole_map step_whole_unmap step_real_size step_real_from_index step_real_index_of step_real_map step_real_unmap seg_whole_size seg_whole_from_index seg_whole_index_of seg_whole_map seg_whole_unmap seg_step_whole_size seg_step_whole_from_index seg_step_whole_index_of seg_step_whole_map seg_step_whole_unmap seg_step_real_size seg_step_real_from_index seg_step_real_index_of seg_step_real_map seg_step_real_unmap step_whole_values step_whole_key_points step_real_values step_real_key_points seg_whole_key_points seg_step_whole_key_points seg_step_real_key_points real_key_points label label_scientific",
         totals,
-    );
-    report(b"lines that differ: ", total(totals, DIFFERS));
+    )?;
+    report(rt, b"lines that differ: ", total(totals, DIFFERS))
 }
 
-fn lend(space: &mut [u8], numbers: &mut [u64], totals: &mut [u32]) {
-    let n = io::read_full(STDIN_FILENO, space);
+// Reads until `space` is full or the input ends; how many bytes that were.
+fn read_full(stdin: &mut impl Read, space: &mut [u8]) -> io::Result<usize>
+    ensures { IfOk result (λ n. n ≤ length space.new) }
+{
+    let mut done = 0;
+    while done < space.len() {
+        let n = stdin.read(&mut space[done..])?;
+        if n == 0 {
+            break;
+        }
+        done += n;
+    }
+    Ok(done)
+}
+
+fn lend(
+    rt: &impl Print,
+    stdin: &mut impl Read,
+    space: &mut [u8],
+    numbers: &mut [u64],
+    totals: &mut [u32],
+) -> io::Result<()> {
+    let n = read_full(stdin, space)?;
     replay(&space[..n], numbers, totals);
-    report_all(totals);
+    report_all(rt, totals)
 }
 
 // Room for the whole list.
@@ -228,9 +251,9 @@ fn room() -> [u8; 1048576]
     [0; 1048576]
 }
 
-fn main() {
+fn main(rt: HostRuntime) -> io::Result<()> {
     let mut space = room();
     let mut numbers = [0u64; 64];
     let mut totals = [0u32; 48];
-    lend(&mut space, &mut numbers, &mut totals);
+    lend(&rt, &mut rt.stdin(), &mut space, &mut numbers, &mut totals)
 }

@@ -1,5 +1,7 @@
 // Lines of text, and the numbers in them: base ten, a minus sign in front of a negative one, which becomes its two's complement.
-ghost use Rattle.std.specs.Prelude.{◌+◌, ◌<◌, ◌≤◌, length};
+ghost use Rattle.std.specs.Prelude.{◌≡◌, ◌≢◌, ℕ, ◌+◌, ◌<◌, ◌≤◌, length, slice_index};
+
+use memchr::memchr;
 
 #[derive(Drop)]
 pub struct Number {
@@ -69,4 +71,17 @@ pub(crate) fn numbers(s: &[u8], start: usize, out: &mut [u64]) -> usize
         at = t.next + 1;
     }
     n
+}
+
+// Where this byte stands next, from `start` on; the length of s where it stands there no more.
+pub(crate) fn find(s: &[u8], start: usize, byte: u8) -> usize
+    requires { start ≤ length s.now }
+    ensures within { (start ≤ result) × (result ≤ length s.now) }
+    ensures before { (k : ℕ) → start ≤ k → k < result → slice_index s.now k ≢ byte }
+    ensures found { result < length s.now → slice_index s.now result ≡ byte }
+{
+    match memchr(byte, &s[start..]) {
+        Some(n) => start + n,
+        None => s.len(),
+    }
 }
