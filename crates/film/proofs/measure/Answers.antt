@@ -49,11 +49,10 @@ module _ (c : at-After-settle) where
 
 pub returns-in-Refused : goal.returns-in-Refused
 returns-in-Refused c =
-    let r = c in
-    let s = r.before in
+    let s = c.before in
     let a = (at s).args in
     let l = (loop s).loop-i in
-    sym (l.invariant.3 ∙ next-refused a.m a.n a.borders.now l.i a.room l.at l.marks (there s) (sym (told s) ∙ ap tell_wrote r.in-Refused.is))
+    sym (l.invariant.3 ∙ next-refused a.m a.n a.borders.now l.i a.room l.at l.marks (there s) (sym (told s) ∙ ap tell_wrote c.in-Refused.is))
 
 module _ (c : at-Past-After-known_told2) where
   abbrev here : at-After-settle
@@ -73,13 +72,12 @@ overflow_add-marks c = let t = (fits c).enough in let f = (fits c).fewer in omeg
 
 pub loop-i-preserved : goal.loop-i-preserved
 loop-i-preserved c =
-    let z = c in
-    let s = here z in
+    let s = here c in
     let a = (at s).args in
     let l = (loop s).loop-i in
-    let t = (fits z).enough in
-    let f = (fits z).fewer in
-    (omega arith, omega arith, omega arith, l.invariant.3 ∙ next_taken a.m a.n a.borders.now l.i a.room l.at l.marks (there s) (size_is z))
+    let t = (fits c).enough in
+    let f = (fits c).fewer in
+    (omega arith, omega arith, omega arith, l.invariant.3 ∙ next_taken a.m a.n a.borders.now l.i a.room l.at l.marks (there s) (size_is c))
 
 pub returns : goal.returns
 returns c =

@@ -50,9 +50,8 @@ returns-then-x-gt1 c =
 
 pub returns-in-Refused : goal.returns-in-Refused
 returns-in-Refused c =
-    let r = c in
-    let s = (at r.before).args in
-    sym (settled-refused s.x s.m s.room (sym (told r.before) ∙ ap tell_planned r.in-Refused.is))
+    let s = (at c.before).args in
+    sym (settled-refused s.x s.m s.room (sym (told c.before) ∙ ap tell_planned c.in-Refused.is))
 
 pub returns-else-x-gt1 : goal.returns-else-x-gt1
 returns-else-x-gt1 c =

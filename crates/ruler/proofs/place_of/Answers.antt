@@ -20,9 +20,8 @@ told c =
 
 pub returns-in-At : goal.returns-in-At
 returns-in-At c =
-    let found = c in
-    let x_fits : SFits w32 found.in-At.x = record { sfits = omega arith } in
-    to_z-of_z x_fits ∙ sym (ap (λ (r : Place). place_in (tell_place r)) found.in-At.is) ∙ told found.before
+    let x_fits : SFits w32 c.in-At.x = record { sfits = omega arith } in
+    to_z-of_z x_fits ∙ sym (ap (λ (r : Place). place_in (tell_place r)) c.in-At.is) ∙ told c.before
 
 pub returns-in-Refused : goal.returns-in-Refused
 returns-in-Refused c = sym (ap (λ (r : Place). place_in (tell_place r)) c.in-Refused.is) ∙ told c.before

@@ -30,8 +30,7 @@ returns-then-room-size c =
 
 pub returns-in-Refused : goal.returns-in-Refused
 returns-in-Refused c =
-    let r = c in
-    sym (no_twist_refused _ _ _ _ _ _ (sym r.planned.ensures ∙ ap tell_planned r.in-Refused.is))
+    sym (no_twist_refused _ _ _ _ _ _ (sym c.planned.ensures ∙ ap tell_planned c.in-Refused.is))
 
 pub returns-else-room-size : goal.returns-else-room-size
 returns-else-room-size c =
