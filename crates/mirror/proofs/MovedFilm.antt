@@ -2,9 +2,9 @@
 use mathlib.Core.Path.{◌≡◌, refl, sym, ap, ap₂, ◌∙◌, subst}
 use mathlib.Core.Bool.{Bool, true, false, cond}
 use mathlib.Core.List.{List}
-use Prim.Native.Nat.{ℕ, ◌%◌, zero-le}
+use Prim.Native.Nat.{ℕ, zero-le}
 use native.Mathlib.Omega.{arith}
-use lib.IntN.{ℤ, neg_ℤ, nat_abs, ◌+ℤ◌, ◌*ℤ◌, neg_ℤ-+ℤ, neg_ℤ-neg_ℤ, +ℤ_invr, pos}
+use lib.IntN.{ℤ, neg_ℤ, nat_abs, ◌+ℤ◌, neg_ℤ-+ℤ, neg_ℤ-neg_ℤ, +ℤ_invr}
 use lib.ListN.{length}
 use lib.Signed.{le_z, ◌≤ℤ◌, ◌<ℤ◌}
 use borrow.Author.Tests.{le-leb}
@@ -23,7 +23,7 @@ use Rattle.real.proofs.Shifting.{shifted_place, place-shifted}
 use Rattle.numeric.specs.declared.Choice.{Choice}
 use Rattle.numeric.specs.declared.Choice.TheVariants.{Cut, Inside}
 use Rattle.numeric.specs.Marks.{distance, step_at, first_of, chosen, step_for, step_of}
-use Rattle.numeric.specs.Mirror.{nearest_zero, NextTowardZero}
+use Rattle.numeric.specs.Mirror.{NextTowardZero}
 use Rattle.ruler.specs.declared.Form.{Form}
 use Rattle.ruler.specs.Rule.{write_by, twisted, twisted_write}
 use Rattle.ruler.specs.Mirror as ruler

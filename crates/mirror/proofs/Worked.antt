@@ -1,15 +1,15 @@
 -- The drafts of specs/Worked, computed; that the theorem speaks of drafts with nothing to write, whatever is lent; and statements beside demand 3 that are
 -- wrong, each refuted on the smallest input that tells. Assumes nothing.
-use mathlib.Core.Path.{◌≡◌, refl, sym, ap, ◌∙◌, subst}
+use mathlib.Core.Path.{◌≡◌, refl, sym, ap}
 use mathlib.Core.Bool.{Bool, true, false, true≢false}
 use mathlib.Core.List.{List, [], ◌∷◌, ◌++◌, map, reverse}
-use Prim.Native.Nat.{ℕ, ◌<◌}
+use Prim.Native.Nat.{ℕ}
 use native.Mathlib.Omega.{arith}
 use lib.IntN.{ℤ, pos, negsuc, neg_ℤ, ◌+ℤ◌}
 use lib.ListN.{length, get_or}
 use lib.Signed.{◌<ℤ◌}
 use lib.Ieee.{Float, nan, inf, fin, neg, sub, div, mul, add, of_int, of_bits, eq, lt}
-use Rattle.ranged1d.specs.Answer.{Answer, given, none, refused, BothLong}
+use Rattle.ranged1d.specs.Answer.{Answer, given}
 use Rattle.ranged1d.specs.Admitted.{limit_admitted, limit_of}
 use Rattle.ranged1d.specs.declared.Limit.{Limit}
 use Rattle.ranged1d.proofs.Answers.{not-both, not_none}

@@ -1,7 +1,7 @@
 -- The whole numbers of `whole_of` in the order of the integers: next to x on the side that the way says, and no smaller for a larger x. Assumes nothing.
 use Rattle.std.proofs.Common.{◌≡◌, ℕ, zero, suc, ◌+◌, ◌-◌, ◌*◌, ◌<◌, ◌≤◌, Bool, true, false, ℤ, pos, negsuc, ◌+ℤ◌, ◌-ℤ◌, ◌*ℤ◌, neg_ℤ, nat_abs, ◌≤ℤ◌, ◌<ℤ◌, sym, refl, ap, ◌∙◌, suc-mul, add-mul, lt_of_mul-lt-mul_right, one-mul, zero-mul, arith, le→leb, lt→ltb, ltb-false}
 use lib.IntN.{+ℤ_one, neg_ℤ-+ℤ}
-use lib.Ieee.{fin, up, down, lt, le}
+use lib.Ieee.{fin, up, down, lt}
 use lib.Ieee.Fits.{down_pos}
 use Rattle.ranged1d.proofs.Whole.{neg-far, sub-size, yes_le, yes_lt, neg-order, neg_below, below_all}
 use Rattle.rounding.specs.Integral.{Way, floors, ceils, halves, sized}

@@ -5,7 +5,6 @@ use native.Mathlib.Omega.{arith}
 use lib.ListN.{take, drop, length-drop}
 use lib.Seq.{take_all}
 use Rattle.decimal.proofs.Texts.{same_is}
-use borrow.Author.Rules.{rules}
 use Rattle.decimal.proofs.is_text.Goals as goal
 
 pub returns : goal.returns

@@ -7,7 +7,6 @@ use lib.IntN.{pos, neg_ℤ}
 use lib.ListN.{length}
 use Rattle.decimal.specs.Steps.{keep_i32, keep_printed}
 use Rattle.decimal.proofs.Reader.{no_i32, i32_by_steps, value-minus, value-plain}
-use borrow.Author.Rules.{rules}
 use Rattle.decimal.proofs.read_i32.Lts as lts
 use Rattle.decimal.proofs.read_i32.Reads as reads
 use Rattle.decimal.proofs.read_i32.Tie as tie

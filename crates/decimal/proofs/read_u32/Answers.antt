@@ -3,7 +3,6 @@ use mathlib.Core.Path.{sym, ◌∙◌}
 use borrow.Author.Tests.{le-leb, lt-leb}
 use Rattle.decimal.specs.Read.{read_u32}
 use Rattle.decimal.proofs.Reader.{no_u32}
-use borrow.Author.Rules.{rules}
 use Rattle.decimal.proofs.read_u32.Goals as goal
 
 pub returns-then-s-gt11 : goal.returns-then-s-gt11

@@ -4,9 +4,9 @@ use mathlib.Core.Path.{◌≡◌, ap, ◌∙◌}
 use mathlib.Core.List.{List, ◌++◌}
 use Prim.Native.Nat.{ℕ, ◌+◌, ◌-◌, ◌≤◌}
 use native.Mathlib.Omega.{arith}
-use lib.ListN.{length, set, replicate, length-set}
+use lib.ListN.{length, set, replicate}
 use Rattle.decimal.specs.Print.{digits}
-use Rattle.decimal.proofs.Digits.{Spelt, spelt_blank, spelt_long, spelt_more, spelt_last, spelt_count, fill_plain, fill_minus}
+use Rattle.decimal.proofs.Digits.{spelt_long, spelt_more, spelt_last, spelt_count, fill_plain, fill_minus}
 use Rattle.decimal.proofs.spell_into.Lts as lts
 use Rattle.decimal.proofs.spell_into.Reads as reads
 use Rattle.decimal.proofs.spell_into.Tie as tie

@@ -1,11 +1,10 @@
 -- `decimal::value` what the search leaves: the value so far, followed by what is left.
-use mathlib.Core.Path.{◌≡◌, refl, sym, ap, ◌∙◌}
+use mathlib.Core.Path.{refl, sym, ap, ◌∙◌}
 use Prim.Native.Nat.{ℕ, ◌+◌, ◌-◌, ◌*◌, ◌≤◌}
 use native.Mathlib.Omega.{arith}
-use lib.ListN.{length, drop}
+use lib.ListN.{drop}
 use Rattle.decimal.specs.Read.{value_of}
-use Rattle.decimal.proofs.Texts.{Room, room_bound, room_start, room_step, value_step, value-end}
-use borrow.Author.Rules.{rules}
+use Rattle.decimal.proofs.Texts.{room_bound, room_start, room_step, value_step, value-end}
 use Rattle.decimal.proofs.value.Lts as lts
 use Rattle.decimal.proofs.value.Reads as reads
 use Rattle.decimal.proofs.value.Tie as tie

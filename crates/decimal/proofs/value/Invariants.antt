@@ -1,10 +1,8 @@
-use mathlib.Core.Path.{◌≡◌, refl, sym, ap, ◌∙◌}
-use Prim.Native.Nat.{ℕ, ◌+◌, ◌-◌, ◌*◌, ◌≤◌}
-use native.Mathlib.Omega.{arith}
+use mathlib.Core.Path.{◌≡◌}
+use Prim.Native.Nat.{◌-◌, ◌≤◌}
 use lib.ListN.{length, drop}
 use Rattle.decimal.specs.Read.{value_of}
-use Rattle.decimal.proofs.Texts.{Room, room_bound, room_start, room_step, value_step, value-end}
-use borrow.Author.Rules.{rules}
+use Rattle.decimal.proofs.Texts.{Room}
 use Rattle.decimal.proofs.value.Given as goal
 
 abbrev pub invariant-loop-i : goal.invariant-loop-i

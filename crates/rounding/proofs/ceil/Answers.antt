@@ -1,5 +1,5 @@
 -- `rounding::ceil` what the search leaves.
-use Rattle.std.proofs.Common.{ap, ◌∙◌, rules}
+use Rattle.std.proofs.Common.{ap, ◌∙◌}
 use lib.Ieee.{binary64, neg}
 use Rattle.rounding.specs.Integral.{floors}
 use Rattle.rounding.proofs.Signs.{integral-turned}

@@ -1,5 +1,5 @@
 -- `rounding::ceil_within` what the search leaves: the number at or next above x is the negation of the one at or next below -x.
-use Rattle.std.proofs.Common.{◌≡◌, ◌^◌, ◌≤◌, ℤ, pos, ◌-ℤ◌, neg_ℤ, nat_abs, sym, ◌∙◌, subst, arith, lit<, to_z-of_z, w64, SFits, rules}
+use Rattle.std.proofs.Common.{◌≡◌, ◌^◌, ◌≤◌, ℤ, pos, ◌-ℤ◌, neg_ℤ, nat_abs, sym, ◌∙◌, subst, arith, lit<, to_z-of_z, w64, SFits}
 use lib.IntN.{+ℤ_idl}
 use lib.Ieee.{neg}
 use Rattle.ranged1d.proofs.Whole.{fits_abs, zero_minus_far}

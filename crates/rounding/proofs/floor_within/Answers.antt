@@ -1,5 +1,5 @@
 -- `rounding::floor_within` what the search leaves.
-use Rattle.std.proofs.Common.{◌≡◌, ◌^◌, T, ℤ, sym, ap, ◌∙◌, ⊎_elim, arith, lit<, to_z-of_z, w64, SFits, to_z, of_z, rules}
+use Rattle.std.proofs.Common.{◌≡◌, ◌^◌, T, ℤ, sym, ap, ◌∙◌, ⊎_elim, arith, lit<, to_z-of_z, w64, SFits, to_z, of_z}
 use lib.Ieee.{binary64, in_signed, to_signed, of_bits, neg}
 use Rattle.ranged1d.proofs.Whole.{fits_abs}
 use Rattle.rounding.specs.Integral.{floors}

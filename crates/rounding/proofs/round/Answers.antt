@@ -1,5 +1,5 @@
 -- `rounding::round` what the search leaves.
-use Rattle.std.proofs.Common.{◌≡◌, true, false, sym, ap, ◌∙◌, ⊎_elim, true≢false}
+use Rattle.std.proofs.Common.{◌≡◌, true, sym, ap, ◌∙◌, ⊎_elim, true≢false}
 use lib.Ieee.{Float, binary64, lt, neg, of_bits}
 use Rattle.rounding.specs.Integral.{halves, round_of}
 use Rattle.rounding.proofs.Signs.{zero_f, neg-above, integral-turned}

@@ -1,5 +1,5 @@
 -- `rounding::round_f32` what the search leaves: the f64 of x's value has the same answer.
-use Rattle.std.proofs.Common.{◌≡◌, not, ◌&&◌, T, sym, ◌∙◌, subst, rules}
+use Rattle.std.proofs.Common.{◌≡◌, not, ◌&&◌, T, sym, ◌∙◌, subst}
 use lib.Ieee.{Float, binary32, binary64, fits, is_nan}
 use lib.Ieee.Fits.{and_i, fits_widens}
 use Rattle.rounding.specs.Integral.{halves, round_of32}

@@ -1,5 +1,5 @@
 -- `rounding::round_within` what the search leaves: what was rounded is its own floor.
-use Rattle.std.proofs.Common.{T, sym, ap, ◌∙◌, subst, rules}
+use Rattle.std.proofs.Common.{T, sym, ap, ◌∙◌, subst}
 use lib.Ieee.{binary64, fits}
 use lib.Ieee.Bits.{is_true}
 use lib.Ieee.Fits.{fits_widens}

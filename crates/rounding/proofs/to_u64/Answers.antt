@@ -1,5 +1,5 @@
 -- `rounding::to_u64` what the search leaves.
-use Rattle.std.proofs.Common.{sym, rules}
+use Rattle.std.proofs.Common.{sym}
 use lib.Ieee.{of_bits}
 use Rattle.rounding.proofs.Cuts.{cut_nan, cut-one, cut_range, cut_top}
 use Rattle.rounding.proofs.to_u64.Goals as goal
