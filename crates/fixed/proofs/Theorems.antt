@@ -37,7 +37,7 @@ module _ (f : ℕ) where
       ∙ ap (λ (y : ℤ). keep_admitted f s y) (number-text f z)
       ∙ rw (a, same_self (fixed_text f z))
 
-  -- what is isPrinted is what is printed of the number that is given
+  -- what is_printed holds of is what is printed of the number that is given
   printed : (s : List ℕ) (z : ℤ) → fixed_read s f ≡ given z → (f ≤ 6) × (whole_admitted z ≡ true) × (s ≡ fixed_text f z)
   unfolding fixed_read
   printed s z e =

@@ -62,5 +62,5 @@ negated_reading (refused n) = refused (exchanged n)
 pub record Directed : Type 0 where
   -- on an axis that does not descend, the reading is that of `unmap` on every input
   pub ascending : (a b x : ℤ) (l : Limit) → lt_z b a ≡ false → whole_directed a b x l ≡ whole_reading a b x l
-  -- with ends that differ and limits that differ, the mirrored axis at the negated pixel answers the negatedReading
+  -- with ends that differ and limits that differ, the mirrored axis at the negated pixel answers the negated_reading
   pub mirror : (a b x : ℤ) (l : Limit) → (a ≡ b → ⊥) → (l.0 ≡ l.1 → ⊥) → whole_directed (neg_ℤ a) (neg_ℤ b) (neg_ℤ x) (mirrored l) ≡ negated_reading (whole_directed a b x l)
