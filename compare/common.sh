@@ -80,8 +80,7 @@ make_tabled() {
 
 make_archive() {
     if [ -z "${CULVRAOD_LIB_DIR:-}" ]; then
-        (cd crates/culvraod && rt lib)
-        copy crates/culvraod/out/libculvraod.a "$archive_dir/libculvraod.a"
+        tools/staticlib
     fi
     if [ ! -r "$archive_dir/libculvraod.a" ]; then
         echo "no libculvraod.a in $archive_dir" >&2

@@ -1,5 +1,5 @@
 //! Links libculvraod.a from the folder in `CULVRAOD_LIB_DIR`, or from
-//! `crates/culvraod/out` beside this crate's folder.
+//! `target/staticlib` beside this crate's folder.
 
 use std::env;
 use std::path::{Path, PathBuf};
@@ -7,7 +7,7 @@ use std::path::{Path, PathBuf};
 fn main() {
     let dir = match env::var_os("CULVRAOD_LIB_DIR") {
         Some(dir) => PathBuf::from(dir),
-        None => Path::new(&env::var_os("CARGO_MANIFEST_DIR").unwrap()).join("../crates/culvraod/out"),
+        None => Path::new(&env::var_os("CARGO_MANIFEST_DIR").unwrap()).join("../target/staticlib"),
     };
     println!("cargo:rerun-if-env-changed=CULVRAOD_LIB_DIR");
     println!(

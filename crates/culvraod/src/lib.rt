@@ -1,7 +1,7 @@
 // The C interface: every call under its C name. include/culvraod.h documents them.
 #![tactic(auto)]
 
-mod segments;
+pub mod segments;
 
 ghost use Rattle.std.specs.Prelude.{◌≡◌, pos};
 ghost use Rattle.ranged1d.specs.Refusals.{number_of};
