@@ -1,4 +1,5 @@
 // Lines are gathered and written in large parts. Each call takes how much of out is used, and returns it.
+
 // Stands for how much is used once a write has failed: more than any buffer has. Nothing is written from then on.
 const FAILED: usize = usize::MAX;
 
