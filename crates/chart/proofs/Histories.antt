@@ -14,11 +14,9 @@ use Rattle.ranged1d.specs.Answer.{Answer, given, none, refused, ◌when◌, lowe
 use Rattle.ranged1d.proofs.Answers.{given_is, not-both}
 use Rattle.ranged1d.proofs.Lowest.{either}
 use Rattle.linspace.specs.List.{whole, stepped}
-use Rattle.chart.specs.Chart.{done, is_given, found_at, chart_size, chart_in, empty_chart, no_chart, recounted, count_reason, chart_clear, pin_entry, entry_reasons, chart_pin, chart_set, chart_pull}
+use Rattle.chart.specs.Chart.{Deed, Setting, Pulling, done, is_given, found_at, chart_size, chart_in, empty_chart, no_chart, recounted, count_reason, chart_clear, pin_entry, entry_reasons, chart_pin, chart_set, chart_pull}
 use Rattle.chart.specs.Steps.{chart_entry}
 use Rattle.chart.specs.Histories.{Action, same_deed, is_at, act, left_by, accepted_of, pins, Balanced, EitherOrder, BothAccepted, Histories}
-use Rattle.chart.specs.declared.Deed.{Deed}
-use Rattle.chart.specs.declared.Deed.TheVariants.{Setting, Pulling}
 use Rattle.chart.proofs.Rules.{empty_long, OnChart, stands_of, pin-stopped, pin-short, pin_is, entry-inside}
 
 -- lent memory after an action: another count, or as it was

@@ -2,9 +2,9 @@
 use mathlib.Core.Path.{◌≡◌, refl, sym, ap, subst, ◌∙◌}
 use mathlib.Core.Bool.{Bool, true, false, cond, not, ◌||◌, or-true, or-false, true≢false}
 use mathlib.Core.List.{List, [], ◌∷◌, ◌++◌}
-use Prim.Native.Nat.{ℕ, ◌<◌}
+use Prim.Native.Nat.{ℕ, ◌+◌, ◌-◌, ◌≤◌, ◌<◌}
 use native.Mathlib.Omega.{arith}
-use borrow.Author.Tests.{ltb-false}
+use borrow.Author.Tests.{ltb-false, eq-eqb, ne_eqb}
 use lib.Dec.{ltb}
 use lib.IntN.{ℤ, pos}
 use lib.ListN.{length, get_or, set, drop, length-set, length-replicate, take-append-drop}
@@ -13,16 +13,20 @@ use Rattle.ranged1d.specs.Answer.{Answer, given, none, refused, Reason, ◌when�
 use Rattle.ranged1d.proofs.Answers.{given_is, not_none}
 use Rattle.ranged1d.proofs.Bools.{both_false}
 use Rattle.ranged1d.proofs.Lowest.{NoneOf, given_tests, stops, passed_over, unless_refused, lowest_unless}
+use Rattle.std.specs.Prelude.{Option, None, Some, Result, Ok, Err}
+use Rattle.std.specs.Option.{SomeIff, ok_or}
+use Rattle.ranged1d.specs.Told.{tell}
+use Rattle.ranged1d.specs.Refusals.{number_of}
+use Rattle.ranged1d.specs.declared.Refusal.{Refusal}
+use Rattle.ranged1d.specs.declared.Refusal.TheVariants.{CountFull, CountEmpty}
 use Rattle.search.specs.Search.{wholes, best, index_of}
 use Rattle.search.specs.Search as rule
 use Rattle.search.specs.declared.RoundingMethod.TheVariants.{Floor}
 use Rattle.search.proofs.Best.{Sound, best_sound}
 use Rattle.linspace.specs.List.{whole, stepped}
-use Rattle.linspace.specs.Calls.{count_reasons, step_index_reasons, step_size, step_index_of, among}
-use Rattle.chart.specs.Chart.{done, is_given, found_at, chart_size, chart_in, empty_chart, no_chart, recounted, count_reason, overlong, chart_clear, pin_entry, no_entry, entry_reasons, count_at, pinned, chart_pin}
+use Rattle.linspace.specs.Calls.{count_reasons, step_index_reasons, step_size, step_index_of, step_index_among, among}
+use Rattle.chart.specs.Chart.{Deed, Setting, Pulling, done, is_given, found_at, chart_size, chart_in, empty_chart, no_chart, recounted, count_reason, overlong, chart_clear, pin_entry, no_entry, entry_reasons, count_at, pinned, chart_pin}
 use Rattle.chart.specs.Steps.{chart_entry, recount_of}
-use Rattle.chart.specs.declared.Deed.{Deed}
-use Rattle.chart.specs.declared.Deed.TheVariants.{Setting, Pulling}
 
 -- ---- an answer that gives something gives its index
 given-index : (s : Answer ℕ) → not (is_given s) ≡ false → s ≡ given (found_at s)
@@ -79,13 +83,34 @@ module _ (k n : ℕ) {r : Answer ℕ} (e : entry_among (given (k, n)) ≡ r) whe
   pub entry_found : ltb chart_size n ≡ false → given k ≡ r
   entry_found h = sym (rw h refl) ∙ e
 
--- a count by the deed's case
-module _ {deed case : Deed} (n : ℕ) (e : deed ≡ case) where
-  pub recount_refused : (count_reason case n true).applies ≡ true → refused (count_reason case n true).number ≡ recount_of deed n
-  recount_refused h = sym (rw h refl) ∙ ap (λ (x : Deed). recount_of x n) (sym e)
+pub recount_full : (n : ℕ) → n ≡ 65535 → recount_of Setting n ≡ refused 21
+recount_full n h = rw (eq-eqb n 65535 h)
 
-  pub recount_given : (count_reason case n true).applies ≡ false → given (recounted case n) ≡ recount_of deed n
-  recount_given h = sym (rw h refl) ∙ ap (λ (x : Deed). recount_of x n) (sym e)
+pub recount_more : (n : ℕ) → (n ≡ 65535 → ⊥) → recount_of Setting n ≡ given (n + 1)
+recount_more n h = rw (ne_eqb n 65535 h)
+
+pub recount_none : (n : ℕ) → n ≡ 0 → recount_of Pulling n ≡ refused 22
+recount_none n h = rw (eq-eqb n 0 h)
+
+pub recount_less : (n : ℕ) → (n ≡ 0 → ⊥) → recount_of Pulling n ≡ given (n - 1)
+recount_less n h = rw (ne_eqb n 0 h)
+
+-- a sum or a difference that the code asks for, by what it then answers
+pub added-refused : (n : ℕ) → n < 65536 → (x : Option ℕ) → SomeIff x (n + 1 < 65536) (n + 1) → (r : Refusal) → ◌≡◌ {A = Result ℕ Refusal} (Err r) (ok_or x CountFull) → refused (number_of r) ≡ recount_of Setting n
+added-refused n l None h r e = ap (λ (t : Result ℕ Refusal). tell t) e ∙ sym (recount_full n (omega (arith, h)))
+added-refused n l (Some v) h r e = cc
+
+pub added_given : (n : ℕ) (x : Option ℕ) → SomeIff x (n + 1 < 65536) (n + 1) → (v : ℕ) → ◌≡◌ {A = Result ℕ Refusal} (Ok v) (ok_or x CountFull) → given v ≡ recount_of Setting n
+added_given n None h v e = cc
+added_given n (Some w) h v e = ap (λ (t : Result ℕ Refusal). tell t) e ∙ ap (λ (k : ℕ). given k) h.1 ∙ sym (recount_more n (λ z. omega (arith, h.0)))
+
+pub taken-refused : (n : ℕ) (x : Option ℕ) → SomeIff x (1 ≤ n) (n - 1) → (r : Refusal) → ◌≡◌ {A = Result ℕ Refusal} (Err r) (ok_or x CountEmpty) → refused (number_of r) ≡ recount_of Pulling n
+taken-refused n None h r e = ap (λ (t : Result ℕ Refusal). tell t) e ∙ sym (recount_none n (omega (arith, h)))
+taken-refused n (Some v) h r e = cc
+
+pub taken_given : (n : ℕ) (x : Option ℕ) → SomeIff x (1 ≤ n) (n - 1) → (v : ℕ) → ◌≡◌ {A = Result ℕ Refusal} (Ok v) (ok_or x CountEmpty) → given v ≡ recount_of Pulling n
+taken_given n None h v e = cc
+taken_given n (Some w) h v e = ap (λ (t : Result ℕ Refusal). tell t) e ∙ ap (λ (k : ℕ). given k) h.1 ∙ sym (recount_less n (λ z. omega (arith, h.0)))
 
 abbrev pub stored : Answer ℕ → List ℕ → ℕ → Answer Unit × List ℕ
 stored (given v) old k = (done, set old k v)
@@ -133,6 +158,10 @@ module _ (a b d : ℤ) where
         go (given k) = rw (or-false (overlong a b d)) refl
         go none = rw (or-true (overlong a b d)) refl
         go (refused n) = refl
+
+    pub entry_searched : entry_among (step_index_among whole a b d pin Floor) ≡ chart_entry a b d pin
+    unfolding pin_entry
+    entry_searched = entry_is
 
     pub entry-inside : {k : ℕ} → pin_entry a b d pin ≡ given k → k < length list
     unfolding pin_entry step_index_of

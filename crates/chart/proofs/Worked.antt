@@ -12,10 +12,9 @@ use Rattle.ranged1d.specs.Numbers.{every}
 use Rattle.ranged1d.proofs.Answers.{not-both}
 use Rattle.linspace.specs.List.{whole, stepped, against, entries}
 use Rattle.linspace.specs.Calls.{step_index_of}
-use Rattle.chart.specs.Chart.{done, chart_size, chart_in, empty_chart, pin_entry, chart_pin, chart_set, chart_pull}
+use Rattle.chart.specs.Chart.{Setting, Pulling, done, chart_size, chart_in, empty_chart, pin_entry, chart_pin, chart_set, chart_pull}
 use Rattle.chart.specs.Histories.{Action, left_by, pins, BothAccepted}
 use Rattle.chart.specs.Worked.{holds, rows}
-use Rattle.chart.specs.declared.Deed.TheVariants.{Setting, Pulling}
 
 pub worked : every holds rows ≡ true
 unfolding chart_pin pin_entry step_index_of stepped against entries

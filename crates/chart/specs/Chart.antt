@@ -3,22 +3,13 @@
 -- other. Assumes nothing.
 use Rattle.std.specs.Prelude.{ℕ, ◌+◌, ◌-◌, Bool, true, false, not, ◌&&◌, ◌||◌, List, [], ◌∷◌, ◌++◌, ltb, eqb, ℤ, length, get_or, set, take, replicate}
 use Rattle.ranged1d.specs.Answer.{Answer, given, none, refused, Reason, ◌when◌, lowest, written}
-use Rattle.ranged1d.specs.Refusals.{number_of}
 use Rattle.search.specs.declared.RoundingMethod.TheVariants.{Floor}
 use Rattle.linspace.specs.List.{whole, stepped}
 use Rattle.linspace.specs.Calls.{count_reasons, step_index_reasons, step_index_of}
-use Rattle.chart.specs.declared.Charted.{Charted}
-use Rattle.chart.specs.declared.Charted.TheVariants as charted_is
-use Rattle.chart.specs.declared.Deed.{Deed}
-use Rattle.chart.specs.declared.Deed.TheVariants.{Setting, Pulling}
 
 -- ---- an answer that tells no more than that it is done
 abbrev pub done : Answer Unit
 done = given tt
-
-abbrev pub tell_charted : Charted → Answer Unit
-tell_charted charted_is.Done = done
-tell_charted (charted_is.Refused r) = refused (number_of r)
 
 -- whether an answer gives something, and the index that it gives; where there is none 0 stands for it, and no rule comes to that
 abbrev pub is_given : {A : Type 0} → Answer A → Bool
@@ -45,6 +36,11 @@ empty_chart = replicate chart_size 0
 -- 13: the lent memory is too short to hold one
 abbrev pub no_chart : List ℕ → Bool
 no_chart old = ltb (length old) chart_size
+
+-- ---- what is done with a pin
+pub data Deed : Type 0 where
+  Setting : Deed
+  Pulling : Deed
 
 -- ---- what a deed does to a count: a pin more where it is set, a pin less where it is pulled
 abbrev pub recounted : Deed → ℕ → ℕ

@@ -3,9 +3,7 @@
 use Rattle.std.specs.Prelude.{ℕ, ◌+◌, ◌-◌, ◌≤◌, ◌<◌, ◌≡◌, Bool, true, false, cond, ◌&&◌, List, [], ◌∷◌, eqb, ℤ, length, get_or, drop}
 use Rattle.ranged1d.specs.Answer.{Answer, given, none, refused}
 use Rattle.linspace.specs.List.{whole, stepped}
-use Rattle.chart.specs.Chart.{done, is_given, chart_size, chart_in, empty_chart, chart_clear, pin_entry, chart_pin, chart_set, chart_pull}
-use Rattle.chart.specs.declared.Deed.{Deed}
-use Rattle.chart.specs.declared.Deed.TheVariants.{Setting, Pulling}
+use Rattle.chart.specs.Chart.{Deed, Setting, Pulling, done, is_given, chart_size, chart_in, empty_chart, chart_clear, pin_entry, chart_pin, chart_set, chart_pull}
 
 -- an action: a pin that is set, or one that is pulled
 pub record Action : Type 0 where

@@ -2,9 +2,7 @@
 -- counts, or the number of the refusal. `worked` of proofs/Worked checks every row by computing the rule. Assumes nothing.
 use Rattle.std.specs.Prelude.{ℕ, Bool, false, List, [], ◌∷◌, eqb, ℤ, pos, negsuc, replicate}
 use Rattle.ranged1d.specs.Answer.{Answer, given, none, refused, and_then}
-use Rattle.chart.specs.Chart.{pin_entry, chart_pin}
-use Rattle.chart.specs.declared.Deed.{Deed}
-use Rattle.chart.specs.declared.Deed.TheVariants.{Setting, Pulling}
+use Rattle.chart.specs.Chart.{Deed, Setting, Pulling, pin_entry, chart_pin}
 
 pub record Row : Type 0 where
   pub a : ℤ

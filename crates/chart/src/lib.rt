@@ -2,48 +2,19 @@
 // axis's closed form and one store, however long the list is.
 #![tactic(auto)]
 
-ghost use Rattle.std.specs.Prelude.{◌≡◌, ◌++◌, ◌≤◌, ltb, length, drop};
-ghost use Rattle.chart.specs.Chart.{tell_charted, chart_size, empty_chart, chart_clear, chart_pin, chart_set, chart_pull};
-ghost use Rattle.chart.specs.Steps.{tell_entry, chart_entry, tell_new_count, recount_of};
+ghost use Rattle.std.specs.Prelude.{◌≡◌, ◌<◌, false, ltb, length, IfOk, IfErr};
+ghost use Rattle.ranged1d.specs.Answer.{given, refused};
+ghost use Rattle.ranged1d.specs.Refusals.{number_of};
+ghost use Rattle.ranged1d.specs.Told.{tell};
+ghost use Rattle.chart.specs.Chart.{Deed, chart_size, no_chart, chart_clear, chart_pin, chart_set, chart_pull};
+ghost use Rattle.chart.specs.Steps.{chart_entry};
 
-use linspace::{Among, Linspacei32};
-use numeric::Count;
+use linspace::Linspacei32;
 use ranged1d::Refusal;
 use search::RoundingMethod;
 
 // Every chart has so many counts, and its list at most as many entries.
 const COUNTS: usize = 1024;
-
-// The most pins that a count can tell.
-const FULL: u16 = 65535;
-
-// What became of a call on a chart.
-#[derive(Clone, Copy)]
-pub enum Charted {
-    Done,
-    Refused(Refusal),
-}
-
-// What is done with a pin.
-#[derive(Clone, Copy)]
-pub enum Deed {
-    Setting,
-    Pulling,
-}
-
-// The entry where a pin counts.
-#[derive(Clone, Copy)]
-enum Entry {
-    At(usize),
-    Refused(Refusal),
-}
-
-// A count after a deed.
-#[derive(Clone, Copy)]
-enum NewCount {
-    Of(u16),
-    Refused(Refusal),
-}
 
 // Whether a list of n entries is too long for a chart.
 fn too_many(n: u64) -> bool
@@ -59,104 +30,58 @@ fn too_few(len: usize) -> bool
     len < COUNTS
 }
 
-// No pin at any entry.
-fn clear_counts(counts: &mut [u16])
-    requires { chart_size ≤ length counts.old }
-    ensures { counts.new ≡ empty_chart ++ drop chart_size counts.old }
-{
-    let mut k = 0;
-    while k < COUNTS {
-        counts[k] = 0;
-        k += 1;
-    }
-}
-
 // Makes the lent counts an empty chart of the axis.
-pub fn clear(axis: Linspacei32, counts: &mut [u16]) -> Charted
-    ensures { (tell_charted result, counts.new) ≡ chart_clear axis.inner.0 axis.inner.1 axis.step counts.old }
+pub fn clear(axis: Linspacei32, counts: &mut [u16]) -> Result<(), Refusal>
+    ensures { (tell result, counts.new) ≡ chart_clear axis.inner.0 axis.inner.1 axis.step counts.old }
 {
-    match axis.size() {
-        Count::Refused(r) => Charted::Refused(r),
-        Count::Of(n) => {
-            if too_many(n) {
-                return Charted::Refused(Refusal::NoChartEntry);
-            }
-            if too_few(counts.len()) {
-                return Charted::Refused(Refusal::OutTooShort);
-            }
-            clear_counts(counts);
-            Charted::Done
-        }
+    if too_many(axis.size()?) {
+        return Err(Refusal::NoChartEntry);
     }
+    if too_few(counts.len()) {
+        return Err(Refusal::OutTooShort);
+    }
+    counts[..COUNTS].fill(0);
+    Ok(())
 }
 
 // The entry that a search down finds for the pin, in a list that is not too long for a chart.
-fn entry_of(axis: Linspacei32, pin: i32) -> Entry
-    ensures { tell_entry result ≡ chart_entry axis.inner.0 axis.inner.1 axis.step pin }
+fn entry_of(axis: Linspacei32, pin: i32) -> Result<usize, Refusal>
+    ensures { tell result ≡ chart_entry axis.inner.0 axis.inner.1 axis.step pin }
 {
-    match axis.index_among(pin, RoundingMethod::Floor) {
-        Among::Refused(r) => Entry::Refused(r),
-        Among::Nothing => Entry::Refused(Refusal::NoChartEntry),
-        Among::At(k, n) => {
-            if too_many(n) {
-                return Entry::Refused(Refusal::NoChartEntry);
-            }
-            Entry::At(k as usize)
-        }
+    match axis.index_among(pin, RoundingMethod::Floor)? {
+        Some((k, n)) if !too_many(n) => Ok(k as usize),
+        _ => Err(Refusal::NoChartEntry),
     }
 }
 
-// A count with a pin more or less, if it can have that.
-fn recount(deed: Deed, n: u16) -> NewCount
-    ensures { tell_new_count result ≡ recount_of deed n }
+// The same in lent counts, if they are enough for a chart; else why the pin can be neither set nor pulled.
+fn count_of(axis: Linspacei32, pin: i32, counts: &[u16]) -> Result<usize, Refusal>
+    ensures found { IfOk result (λ k. (chart_entry axis.inner.0 axis.inner.1 axis.step pin ≡ given k) × (no_chart counts.now ≡ false)) }
+    ensures inside { IfOk result (λ k. (k < chart_size) × (k < length counts.now)) }
+    ensures refused { IfErr result (λ r. (deed : Deed) → chart_pin axis.inner.0 axis.inner.1 axis.step deed pin counts.now ≡ (refused (number_of r), counts.now)) }
 {
-    match deed {
-        Deed::Setting => {
-            if n == FULL {
-                return NewCount::Refused(Refusal::CountFull);
-            }
-            NewCount::Of(n + 1)
-        }
-        Deed::Pulling => {
-            if n == 0 {
-                return NewCount::Refused(Refusal::CountEmpty);
-            }
-            NewCount::Of(n - 1)
-        }
+    let k = entry_of(axis, pin)?;
+    if too_few(counts.len()) {
+        return Err(Refusal::OutTooShort);
     }
-}
-
-// Changes the count at the pin's entry, and no other.
-fn act(axis: Linspacei32, deed: Deed, pin: i32, counts: &mut [u16]) -> Charted
-    ensures { (tell_charted result, counts.new) ≡ chart_pin axis.inner.0 axis.inner.1 axis.step deed pin counts.old }
-{
-    match entry_of(axis, pin) {
-        Entry::Refused(r) => Charted::Refused(r),
-        Entry::At(k) => {
-            if too_few(counts.len()) {
-                return Charted::Refused(Refusal::OutTooShort);
-            }
-            match recount(deed, counts[k]) {
-                NewCount::Refused(r) => Charted::Refused(r),
-                NewCount::Of(n) => {
-                    counts[k] = n;
-                    Charted::Done
-                }
-            }
-        }
-    }
+    Ok(k)
 }
 
 // A pin more at its entry.
-pub fn set(axis: Linspacei32, pin: i32, counts: &mut [u16]) -> Charted
-    ensures { (tell_charted result, counts.new) ≡ chart_set axis.inner.0 axis.inner.1 axis.step pin counts.old }
+pub fn set(axis: Linspacei32, pin: i32, counts: &mut [u16]) -> Result<(), Refusal>
+    ensures { (tell result, counts.new) ≡ chart_set axis.inner.0 axis.inner.1 axis.step pin counts.old }
 {
-    act(axis, Deed::Setting, pin, counts)
+    let k = count_of(axis, pin, counts)?;
+    counts[k] = counts[k].checked_add(1).ok_or(Refusal::CountFull)?;
+    Ok(())
 }
 
 // A pin less at its entry.
-pub fn pull(axis: Linspacei32, pin: i32, counts: &mut [u16]) -> Charted
-    ensures { (tell_charted result, counts.new) ≡ chart_pull axis.inner.0 axis.inner.1 axis.step pin counts.old }
+// Kept: beside `set`. What differs is the sum, its bound and the refusal, and what is shared is `count_of`.
+pub fn pull(axis: Linspacei32, pin: i32, counts: &mut [u16]) -> Result<(), Refusal>
+    ensures { (tell result, counts.new) ≡ chart_pull axis.inner.0 axis.inner.1 axis.step pin counts.old }
 {
-    act(axis, Deed::Pulling, pin, counts)
+    let k = count_of(axis, pin, counts)?;
+    counts[k] = counts[k].checked_sub(1).ok_or(Refusal::CountEmpty)?;
+    Ok(())
 }

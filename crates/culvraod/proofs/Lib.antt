@@ -1,3 +1,2 @@
-pub mod Crossing
 pub mod Lowest
-pub mod SegmentCrossing
+pub mod Laws

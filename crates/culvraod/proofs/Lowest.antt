@@ -5,9 +5,7 @@ use lib.IntN.{ℤ}
 use Rattle.ranged1d.specs.Answer.{rank}
 use Rattle.linspace.specs.List.{Kind}
 use Rattle.segmented.specs.Segments.{Axis}
-use Rattle.chart.specs.Chart.{pin_reasons}
-use Rattle.chart.specs.declared.Deed.{Deed}
-use Rattle.chart.specs.declared.Deed.TheVariants.{Setting, Pulling}
+use Rattle.chart.specs.Chart.{Deed, Setting, Pulling, pin_reasons}
 use Rattle.culvraod.specs.Lowest.{Rising, StepsRise, SegmentsRise, LowestFirst}
 
 steps_rise : {A : Type 0} (kind : Kind A) (a b d : A) → StepsRise kind a b d

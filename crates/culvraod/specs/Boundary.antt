@@ -1,5 +1,5 @@
 -- How a call's answer crosses the C interface. Assumes nothing.
-use Rattle.std.specs.Prelude.{ℤ, pos, negsuc}
+use Rattle.std.specs.Prelude.{List, ℤ, pos, negsuc}
 use Rattle.ranged1d.specs.Answer.{Answer, given, none, refused}
 
 -- what is returned: 0 where the call answered, a refusal's number, −1 for none
@@ -21,3 +21,7 @@ single x old = (code x, out_after (λ a. a) x old)
 -- a call whose answer is two numbers, each with its own out pointer
 abbrev pub double : {A B : Type 0} → Answer (A × B) → A → B → ℤ × A × B
 double x old old' = (code x, out_after (λ a. a.0) x old, out_after (λ a. a.1) x old')
+
+-- a call that has no answer but what the lent memory holds: the code, and that memory
+abbrev pub held_c : {A B : Type 0} → Answer A × List B → ℤ × List B
+held_c x = (code x.0, x.1)

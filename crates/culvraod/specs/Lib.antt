@@ -1,5 +1,4 @@
 pub mod Boundary
-pub mod Chart
 pub mod Lowest
 pub mod Numeric
 pub mod Ruler

@@ -15,8 +15,7 @@ use Rattle.search.specs.declared.RoundingMethod.{RoundingMethod}
 use Rattle.search.specs.Lists.{whole_search_reasons, real_search_reasons}
 use Rattle.linspace.specs.List.{Kind}
 use Rattle.linspace.specs.Calls as steps
-use Rattle.chart.specs.Chart.{clear_reasons, entry_reasons, pin_reasons}
-use Rattle.chart.specs.declared.Deed.{Deed}
+use Rattle.chart.specs.Chart.{Deed, clear_reasons, entry_reasons, pin_reasons}
 use Rattle.segmented.specs.Values.{Segment}
 use Rattle.segmented.specs.Segments.{Axis, Finder}
 use Rattle.segmented.specs.Segments as segments

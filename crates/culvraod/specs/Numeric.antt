@@ -1,11 +1,7 @@
 -- The C calls on numeric's axes: what each returns, and what lies behind its pointers afterwards, in their order. Assumes nothing.
 use Rattle.std.specs.Prelude.{ℕ, List, ℤ}
 use Rattle.ranged1d.specs.Answer.{Answer}
-use Rattle.culvraod.specs.Boundary.{code, out_after, double}
-
--- an answer of a step and a count: the code, the step, the count
-abbrev pub marks_c : {A : Type 0} → Answer (A × ℕ) → A → ℕ → ℤ × A × ℕ
-marks_c x step count = double x step count
+use Rattle.culvraod.specs.Boundary.{code, out_after}
 
 -- a call that writes a list and gives a step and a count: the code, the list, the step, the count
 abbrev pub key_points_c : {A : Type 0} → Answer (A × ℕ) × List A → A → ℕ → ℤ × List A × A × ℕ

@@ -1,14 +1,15 @@
 -- The C calls on rulers: what each returns, and what lies behind its pointers afterwards, in their order. Assumes nothing.
-use Rattle.std.specs.Prelude.{ℕ, ◌-◌, List, ℤ, pos}
+use Rattle.std.specs.Prelude.{ℕ, ◌-◌, ℤ, pos}
 use Rattle.ranged1d.specs.Answer.{Answer}
 use Rattle.ruler.specs.declared.Ruler.{Ruler}
 use Rattle.ruler.specs.declared.Part.{Part}
+use Rattle.ruler.specs.Bytes.{kind_byte, twist_number}
 use Rattle.ruler.specs.Rule.{side_of}
 use Rattle.culvraod.specs.Boundary.{code, out_after}
 
 -- the numbers of a ruler, one behind each pointer
 abbrev with_numbers : ℤ → Ruler → ℤ × ℤ × ℤ × ℤ × ℤ × ℕ × ℤ × ℕ
-with_numbers c r = (c, r.a, r.b, r.p, r.q, r.m, r.step, r.marks)
+with_numbers c r = (c, r.a, r.b, r.limit.0, r.limit.1, r.m, r.step, r.marks)
 
 -- the reader: the code, and the numbers of the ruler, or those that were there
 abbrev pub read_c : Answer Ruler → Ruler → ℤ × ℤ × ℤ × ℤ × ℤ × ℕ × ℤ × ℕ
@@ -18,11 +19,7 @@ read_c x old = with_numbers (code x) (out_after (λ r. r) x old)
 abbrev pub read_kind_c : Answer Ruler → Ruler → ℕ → ℕ → ℤ × ℤ × ℤ × ℤ × ℤ × ℕ × ℤ × ℕ × ℕ × ℕ
 read_kind_c x old kind twist =
     let r = out_after (λ y. y) x old in
-    (code x, r.a, r.b, r.p, r.q, r.m, r.step, r.marks, out_after (λ y. y.kind) x kind, out_after (λ y. y.twist) x twist)
-
--- a call that has no answer but what the lent memory holds: the code, and that memory
-abbrev pub held_c : {A B : Type 0} → Answer A × List B → ℤ × List B
-held_c x = (code x.0, x.1)
+    (code x, r.a, r.b, r.limit.0, r.limit.1, r.m, r.step, r.marks, out_after (λ y. kind_byte y.form) x kind, out_after (λ y. twist_number y.form.twist) x twist)
 
 -- a look-up: always answered, with the part's start and its length
 abbrev pub part_c : Part → ℤ × ℕ × ℕ

@@ -1,74 +1,55 @@
 // The C interface: every call under its C name. include/culvraod.h documents them.
+// Kept: a call for wholes beside one for reals, ends, steps and limits as numbers one by one, a length beside a list, and numbers for kinds and
+// methods, as C has them.
 #![tactic(auto)]
 
 pub mod segments;
 
-ghost use Rattle.std.specs.Prelude.{◌≡◌, pos};
+ghost use Rattle.std.specs.Prelude.{◌≡◌, ◌≤◌, pos};
 ghost use Rattle.ranged1d.specs.Refusals.{number_of};
-ghost use Rattle.ranged1d.specs.Listed.{tell_listed};
+ghost use Rattle.ranged1d.specs.Told.{tell, tell_found};
 ghost use Rattle.ranged1d.specs.Admitted.{limit_of};
-ghost use Rattle.discrete.specs.Index.{tell_index};
-ghost use Rattle.numeric.specs.Calls.{tell_marks, whole_key_points, index_key_points};
+ghost use Rattle.numeric.specs.Calls.{whole_key_points, index_key_points};
 ghost use Rattle.numeric.specs.Directed.{whole_directed};
-ghost use Rattle.numeric.specs.Whole.{tell_count, tell_value, whole_size, whole_index_of, whole_from_index, whole_reading};
-ghost use Rattle.real.specs.Place.{tell_place, whole_place, real_place};
+ghost use Rattle.numeric.specs.Whole.{whole_size, whole_index_of, whole_from_index, whole_reading};
+ghost use Rattle.real.specs.Place.{whole_place, real_place};
 ghost use Rattle.real.specs.Exact.{whole_exact};
-ghost use Rattle.real.specs.Reading.{tell_reading, real_reading};
+ghost use Rattle.real.specs.Reading.{real_reading};
 ghost use Rattle.keypoints.specs.Marks.{real_key_points};
 ghost use Rattle.linspace.specs.List.{whole, real};
 ghost use Rattle.linspace.specs.Calls.{step_values, step_size, step_from_index, step_index_of, step_place, step_reading, step_key_points};
-ghost use Rattle.chart.specs.Chart.{tell_charted, chart_clear, chart_set, chart_pull};
-ghost use Rattle.culvraod.specs.Chart.{chart_c};
+ghost use Rattle.chart.specs.Chart.{chart_clear, chart_set, chart_pull};
 ghost use Rattle.culvraod.specs.Steps.{list_c};
-ghost use Rattle.float.specs.Calls.{tell_label, label_print, label_scientific};
+ghost use Rattle.float.specs.Calls.{label_print, label_scientific};
 ghost use Rattle.search.specs.Lists.{whole_search, real_search};
 ghost use Rattle.culvraod.specs.Search.{method_of, by_method};
-ghost use Rattle.fixed.specs.Fixed.{tell_printed, tell_number, fixed_print, fixed_read};
-ghost use Rattle.week.specs.Week.{tell_minute, running_minute, clock_minute};
-ghost use Rattle.ruler.specs.Rule.{tell_wrote, tell_moved, ruler_write, ruler_write_inside, twisted_write, ruler_upgrade, ruler_downgrade, ruler_of, ruler_read, record_in, label_in, side_of};
+ghost use Rattle.fixed.specs.Fixed.{fixed_print, fixed_read};
+ghost use Rattle.week.specs.Week.{running_minute, clock_minute};
+ghost use Rattle.ruler.specs.Rule.{ruler_write, ruler_write_inside, twisted_write, ruler_upgrade, ruler_downgrade, ruler_of, ruler_read, record_in, label_in, side_of};
 ghost use Rattle.film.specs.Film.{film_write};
 ghost use Rattle.ruler.specs.Shifting.{ruler_shift};
-ghost use Rattle.culvraod.specs.Ruler.{read_c, read_kind_c, held_c, part_c, pair_c};
-ghost use Rattle.culvraod.specs.Boundary.{code, single, double};
-ghost use Rattle.culvraod.specs.Numeric.{marks_c, key_points_c};
+ghost use Rattle.culvraod.specs.Ruler.{read_c, read_kind_c, part_c, pair_c};
+ghost use Rattle.culvraod.specs.Boundary.{code, single, double, held_c};
+ghost use Rattle.culvraod.specs.Numeric.{key_points_c};
 
-use chart::Charted;
-use discrete::Index;
-use fixed::{Number, Printed};
-use float::{FloatPrettyPrinter, Label};
+use float::FloatPrettyPrinter;
 use linspace::{Linspacef64, Linspacei32};
-use numeric::{
-    Choice, Count, ExactPlace, IndexMarks, Marks, Place, RangedCoordf64, RangedCoordi32,
-    RangedCoordusize, RealReading, Value,
-};
-use ranged1d::{Limit, Listed, Refusal};
-use ruler::{Moved, Reading, Shifted, Wrote};
+use numeric::{Choice, RangedCoordf64, RangedCoordi32, RangedCoordusize};
+use ranged1d::{Limit, Refusal};
+use ruler::{Draft, Part};
 use search::RoundingMethod;
-use week::Minute;
 
 // A search as C chooses it.
-#[derive(Clone, Copy)]
-enum Method {
-    Of(RoundingMethod),
-    Unknown,
-}
-
-fn method_of(method: u32) -> Method
+fn method_of(method: u32) -> Option<RoundingMethod>
     ensures { result ≡ method_of method }
 {
-    if method == 0 {
-        return Method::Of(RoundingMethod::Exact);
+    match method {
+        0 => Some(RoundingMethod::Exact),
+        1 => Some(RoundingMethod::Ceil),
+        2 => Some(RoundingMethod::Floor),
+        3 => Some(RoundingMethod::Round),
+        _ => None,
     }
-    if method == 1 {
-        return Method::Of(RoundingMethod::Ceil);
-    }
-    if method == 2 {
-        return Method::Of(RoundingMethod::Floor);
-    }
-    if method == 3 {
-        return Method::Of(RoundingMethod::Round);
-    }
-    Method::Unknown
 }
 
 // The number of a refusal, as every call returns it.
@@ -78,175 +59,85 @@ pub(crate) fn refused(r: Refusal) -> i32
     r.number() as i32
 }
 
-// What is handed out behind a pointer, and what is returned: an index, a count, a whole value, a place, a real value.
-fn give_index(x: Index, k: &mut u64) -> i32
-    ensures { (result, k.new) ≡ single (tell_index x) k.old }
+// What is handed out behind a pointer, and what is returned: of a call that always has something to give, of one that may have nothing, of one
+// that has two things, and of one that has its answer in the lent memory alone.
+pub(crate) fn give<T: Copy>(x: Result<T, Refusal>, out: &mut T) -> i32
+    ensures { (result, out.new) ≡ single (tell x) out.old }
 {
     match x {
-        Index::At(i) => {
-            *k = i;
+        Ok(given) => {
+            *out = given;
             0
         }
-        Index::Nothing => -1,
-        Index::Refused(r) => refused(r),
+        Err(r) => refused(r),
     }
 }
 
-fn give_count(x: Count, n: &mut u64) -> i32
-    ensures { (result, n.new) ≡ single (tell_count x) n.old }
+pub(crate) fn give_found<T: Copy>(x: Result<Option<T>, Refusal>, out: &mut T) -> i32
+    ensures { (result, out.new) ≡ single (tell_found x) out.old }
 {
     match x {
-        Count::Of(k) => {
-            *n = k;
+        Ok(Some(given)) => {
+            *out = given;
             0
         }
-        Count::Refused(r) => refused(r),
+        Ok(None) => -1,
+        Err(r) => refused(r),
     }
 }
 
-fn give_value(x: Value, v: &mut i32) -> i32
-    ensures { (result, v.new) ≡ single (tell_value x) v.old }
+pub(crate) fn give_two<A: Copy, B: Copy>(
+    x: Result<(A, B), Refusal>,
+    first: &mut A,
+    second: &mut B,
+) -> i32
+    ensures { (result, first.new, second.new) ≡ double (tell x) first.old second.old }
 {
     match x {
-        Value::At(w) => {
-            *v = w;
+        Ok((given, beside)) => {
+            *first = given;
+            *second = beside;
             0
         }
-        Value::Nothing => -1,
-        Value::Refused(r) => refused(r),
+        Err(r) => refused(r),
     }
 }
 
-fn give_place(x: Place, pixel: &mut i32) -> i32
-    ensures { (result, pixel.new) ≡ single (tell_place x) pixel.old }
+fn give_done(x: Result<(), Refusal>) -> i32
+    ensures { result ≡ code (tell x) }
 {
     match x {
-        Place::At(y) => {
-            *pixel = y;
-            0
-        }
-        Place::Refused(r) => refused(r),
+        Ok(()) => 0,
+        Err(r) => refused(r),
     }
 }
 
-fn give_reading(x: RealReading, v: &mut f64) -> i32
-    ensures { (result, v.new) ≡ single (tell_reading x) v.old }
+// Where a part of a ruler begins, and how long it is.
+fn give_part(part: Part, start: &mut usize, size: &mut usize) -> i32
+    requires { part.start ≤ part.end }
+    ensures { (result, start.new, size.new) ≡ part_c part }
 {
-    match x {
-        RealReading::At(w) => {
-            *v = w;
-            0
-        }
-        RealReading::Nothing => -1,
-        RealReading::Refused(r) => refused(r),
+    *start = part.start;
+    *size = part.end - part.start;
+    0
+}
+
+// The stepped axes that C names by their three numbers.
+pub(crate) fn wholes_by(a: i32, b: i32, d: i32) -> Linspacei32
+    ensures { (result.inner.0 ≡ a) × (result.inner.1 ≡ b) × (result.step ≡ d) }
+{
+    Linspacei32 {
+        inner: RangedCoordi32(a, b),
+        step: d,
     }
 }
 
-fn give_listed(x: Listed, count: &mut usize) -> i32
-    ensures { (result, count.new) ≡ single (tell_listed x) count.old }
+pub(crate) fn reals_by(a: f64, b: f64, d: f64) -> Linspacef64
+    ensures { (result.inner.0 ≡ a) × (result.inner.1 ≡ b) × (result.step ≡ d) }
 {
-    match x {
-        Listed::Written(n) => {
-            *count = n;
-            0
-        }
-        Listed::Refused(r) => refused(r),
-    }
-}
-
-fn give_label(x: Label, written: &mut usize) -> i32
-    ensures { (result, written.new) ≡ single (tell_label x) written.old }
-{
-    match x {
-        Label::Written(n) => {
-            *written = n;
-            0
-        }
-        Label::Refused(r) => refused(r),
-    }
-}
-
-fn give_printed(x: Printed, written: &mut usize) -> i32
-    ensures { (result, written.new) ≡ single (tell_printed x) written.old }
-{
-    match x {
-        Printed::Written(long) => {
-            *written = long;
-            0
-        }
-        Printed::Refused(r) => refused(r),
-    }
-}
-
-fn give_number(x: Number, z: &mut i32) -> i32
-    ensures { (result, z.new) ≡ single (tell_number x) z.old }
-{
-    match x {
-        Number::Whole(n) => {
-            *z = n;
-            0
-        }
-        Number::Refused(r) => refused(r),
-    }
-}
-
-fn give_marks(x: Marks, step: &mut i32, count: &mut usize) -> i32
-    ensures { (result, step.new, count.new) ≡ marks_c (tell_marks x) step.old count.old }
-{
-    match x {
-        Marks::Written(s, n) => {
-            *step = s;
-            *count = n;
-            0
-        }
-        Marks::Refused(r) => refused(r),
-    }
-}
-
-fn give_wrote(x: Wrote, bytes: &mut usize, marks: &mut usize) -> i32
-    ensures { (result, bytes.new, marks.new) ≡ marks_c (tell_wrote x) bytes.old marks.old }
-{
-    match x {
-        Wrote::Bytes(n, k) => {
-            *bytes = n;
-            *marks = k;
-            0
-        }
-        Wrote::Refused(r) => refused(r),
-    }
-}
-
-fn give_moved(x: Moved, written: &mut usize) -> i32
-    ensures { (result, written.new) ≡ single (tell_moved x) written.old }
-{
-    match x {
-        Moved::Bytes(size) => {
-            *written = size;
-            0
-        }
-        Moved::Refused(r) => refused(r),
-    }
-}
-
-fn give_minute(x: Minute, minute: &mut u32) -> i32
-    ensures { (result, minute.new) ≡ single (tell_minute x) minute.old }
-{
-    match x {
-        Minute::At(at) => {
-            *minute = at;
-            0
-        }
-        Minute::Nothing => -1,
-        Minute::Refused(r) => refused(r),
-    }
-}
-
-fn give_charted(x: Charted) -> i32
-    ensures { result ≡ code (tell_charted x) }
-{
-    match x {
-        Charted::Done => 0,
-        Charted::Refused(r) => refused(r),
+    Linspacef64 {
+        inner: RangedCoordf64(a, b),
+        step: d,
     }
 }
 
@@ -261,7 +152,7 @@ pub extern "C" fn culv_whole_key_points(
 ) -> i32
     ensures { (result, out.new, step.new, count.new) ≡ key_points_c (whole_key_points a b m out.old) step.old count.old }
 {
-    give_marks(RangedCoordi32(a, b).key_points(m, out), step, count)
+    give_two(RangedCoordi32(a, b).key_points(m, out), step, count)
 }
 
 #[unsafe(no_mangle)]
@@ -275,42 +166,35 @@ pub extern "C" fn culv_index_key_points(
 ) -> i32
     ensures { (result, out.new, step.new, count.new) ≡ key_points_c (index_key_points a b m out.old) step.old count.old }
 {
-    match RangedCoordusize(a, b).key_points(m, out) {
-        IndexMarks::Written(t, k) => {
-            *step = t;
-            *count = k;
-            0
-        }
-        IndexMarks::Refused(r) => refused(r),
-    }
+    give_two(RangedCoordusize(a, b).key_points(m, out), step, count)
 }
 
 #[unsafe(no_mangle)]
 pub extern "C" fn culv_whole_size(a: i32, b: i32, n: &mut u64) -> i32
     ensures { (result, n.new) ≡ single (whole_size a b) n.old }
 {
-    give_count(RangedCoordi32(a, b).size(), n)
+    give(RangedCoordi32(a, b).size(), n)
 }
 
 #[unsafe(no_mangle)]
 pub extern "C" fn culv_whole_index_of(a: i32, b: i32, v: i32, k: &mut u64) -> i32
     ensures { (result, k.new) ≡ single (whole_index_of a b v) k.old }
 {
-    give_index(RangedCoordi32(a, b).index_of(v), k)
+    give_found(RangedCoordi32(a, b).index_of(v), k)
 }
 
 #[unsafe(no_mangle)]
 pub extern "C" fn culv_whole_from_index(a: i32, b: i32, k: u64, v: &mut i32) -> i32
     ensures { (result, v.new) ≡ single (whole_from_index a b k) v.old }
 {
-    give_value(RangedCoordi32(a, b).from_index(k), v)
+    give_found(RangedCoordi32(a, b).from_index(k), v)
 }
 
 #[unsafe(no_mangle)]
 pub extern "C" fn culv_whole_unmap(a: i32, b: i32, x: i32, p: i32, q: i32, v: &mut i32) -> i32
     ensures { (result, v.new) ≡ single (whole_reading a b x (limit_of p q)) v.old }
 {
-    give_value(RangedCoordi32(a, b).unmap(x, Limit(p, q)), v)
+    give_found(RangedCoordi32(a, b).unmap(x, Limit(p, q)), v)
 }
 
 #[unsafe(no_mangle)]
@@ -324,14 +208,14 @@ pub extern "C" fn culv_whole_unmap_directed(
 ) -> i32
     ensures { (result, v.new) ≡ single (whole_directed a b x (limit_of p q)) v.old }
 {
-    give_value(RangedCoordi32(a, b).unmap_directed(x, Limit(p, q)), v)
+    give_found(RangedCoordi32(a, b).unmap_directed(x, Limit(p, q)), v)
 }
 
 #[unsafe(no_mangle)]
 pub extern "C" fn culv_whole_map(a: i32, b: i32, v: i32, p: i32, q: i32, pixel: &mut i32) -> i32
     ensures { (result, pixel.new) ≡ single (whole_place a b v (limit_of p q)) pixel.old }
 {
-    give_place(RangedCoordi32(a, b).map(v, Limit(p, q)), pixel)
+    give(RangedCoordi32(a, b).map(v, Limit(p, q)), pixel)
 }
 
 #[unsafe(no_mangle)]
@@ -346,28 +230,25 @@ pub extern "C" fn culv_whole_map_exact(
 ) -> i32
     ensures { (result, quotient.new, remainder.new) ≡ double (whole_exact a b v (limit_of p q)) quotient.old remainder.old }
 {
-    match RangedCoordi32(a, b).map_exact(v, Limit(p, q)) {
-        ExactPlace::At(pixels, parts) => {
-            *quotient = pixels;
-            *remainder = parts;
-            0
-        }
-        ExactPlace::Refused(r) => refused(r),
-    }
+    give_two(
+        RangedCoordi32(a, b).map_exact(v, Limit(p, q)),
+        quotient,
+        remainder,
+    )
 }
 
 #[unsafe(no_mangle)]
 pub extern "C" fn culv_real_map(a: f64, b: f64, v: f64, p: i32, q: i32, pixel: &mut i32) -> i32
     ensures { (result, pixel.new) ≡ single (real_place a b v (limit_of p q)) pixel.old }
 {
-    give_place(RangedCoordf64(a, b).map(v, Limit(p, q)), pixel)
+    give(RangedCoordf64(a, b).map(v, Limit(p, q)), pixel)
 }
 
 #[unsafe(no_mangle)]
 pub extern "C" fn culv_real_unmap(a: f64, b: f64, x: i32, p: i32, q: i32, v: &mut f64) -> i32
     ensures { (result, v.new) ≡ single (real_reading a b x (limit_of p q)) v.old }
 {
-    give_reading(RangedCoordf64(a, b).unmap(x, Limit(p, q)), v)
+    give_found(RangedCoordf64(a, b).unmap(x, Limit(p, q)), v)
 }
 
 #[unsafe(no_mangle)]
@@ -380,7 +261,7 @@ pub extern "C" fn culv_real_key_points(
 ) -> i32
     ensures { (result, out.new, count.new) ≡ list_c (real_key_points a b m out.old) count.old }
 {
-    give_listed(RangedCoordf64(a, b).key_points(m, out), count)
+    give(RangedCoordf64(a, b).key_points(m, out), count)
 }
 
 #[unsafe(no_mangle)]
@@ -396,7 +277,14 @@ pub extern "C" fn culv_ruler_write(
 ) -> i32
     ensures { (result, out.new, bytes.new, marks.new) ≡ key_points_c (ruler_write a b (limit_of p q) m out.old) bytes.old marks.old }
 {
-    give_wrote(ruler::write(a, b, Limit(p, q), m, out), bytes, marks)
+    let whole = Draft {
+        a,
+        b,
+        limit: Limit(p, q),
+        m,
+        choice: Choice::Cut,
+    };
+    give_two(whole.write(out), bytes, marks)
 }
 
 #[unsafe(no_mangle)]
@@ -412,7 +300,14 @@ pub extern "C" fn culv_ruler_write_inside(
 ) -> i32
     ensures { (result, out.new, bytes.new, marks.new) ≡ key_points_c (ruler_write_inside a b (limit_of p q) m out.old) bytes.old marks.old }
 {
-    give_wrote(ruler::write_inside(a, b, Limit(p, q), m, out), bytes, marks)
+    let inside = Draft {
+        a,
+        b,
+        limit: Limit(p, q),
+        m,
+        choice: Choice::Inside,
+    };
+    give_two(inside.write(out), bytes, marks)
 }
 
 #[unsafe(no_mangle)]
@@ -429,11 +324,14 @@ pub extern "C" fn culv_ruler_write_twisted(
 ) -> i32
     ensures { (result, out.new, bytes.new, marks.new) ≡ key_points_c (twisted_write Choice.Cut twist a b (limit_of p q) m out.old) bytes.old marks.old }
 {
-    give_wrote(
-        ruler::write_twisted(a, b, Limit(p, q), m, twist, out),
-        bytes,
-        marks,
-    )
+    let whole = Draft {
+        a,
+        b,
+        limit: Limit(p, q),
+        m,
+        choice: Choice::Cut,
+    };
+    give_two(whole.write_twisted(twist, out), bytes, marks)
 }
 
 #[unsafe(no_mangle)]
@@ -450,11 +348,14 @@ pub extern "C" fn culv_ruler_write_inside_twisted(
 ) -> i32
     ensures { (result, out.new, bytes.new, marks.new) ≡ key_points_c (twisted_write Choice.Inside twist a b (limit_of p q) m out.old) bytes.old marks.old }
 {
-    give_wrote(
-        ruler::write_inside_twisted(a, b, Limit(p, q), m, twist, out),
-        bytes,
-        marks,
-    )
+    let inside = Draft {
+        a,
+        b,
+        limit: Limit(p, q),
+        m,
+        choice: Choice::Inside,
+    };
+    give_two(inside.write_twisted(twist, out), bytes, marks)
 }
 
 #[unsafe(no_mangle)]
@@ -467,21 +368,21 @@ pub extern "C" fn culv_film_write(
 ) -> i32
     ensures { (result, out.new, bytes.new, marks.new) ≡ key_points_c (film_write borders.now m out.old) bytes.old marks.old }
 {
-    give_wrote(film::write(borders, m, out), bytes, marks)
+    give_two(film::write(borders, m, out), bytes, marks)
 }
 
 #[unsafe(no_mangle)]
 pub extern "C" fn culv_ruler_upgrade(bytes: &[u8], out: &mut [u8], written: &mut usize) -> i32
     ensures { (result, out.new, written.new) ≡ list_c (ruler_upgrade bytes.now out.old) written.old }
 {
-    give_moved(ruler::upgrade(bytes, out), written)
+    give(ruler::upgrade(bytes, out), written)
 }
 
 #[unsafe(no_mangle)]
 pub extern "C" fn culv_ruler_downgrade(bytes: &[u8], out: &mut [u8], written: &mut usize) -> i32
     ensures { (result, out.new, written.new) ≡ list_c (ruler_downgrade bytes.now out.old) written.old }
 {
-    give_moved(ruler::downgrade(bytes, out), written)
+    give(ruler::downgrade(bytes, out), written)
 }
 
 // Moves the film limits of the ruler in the bytes by c, where it lies.
@@ -489,10 +390,7 @@ pub extern "C" fn culv_ruler_downgrade(bytes: &[u8], out: &mut [u8], written: &m
 pub extern "C" fn culv_ruler_shift(bytes: &mut [u8], c: i32) -> i32
     ensures { (result, bytes.new) ≡ held_c (ruler_shift c bytes.old) }
 {
-    match ruler::shift(bytes, c) {
-        Shifted::Done => 0,
-        Shifted::Refused(r) => refused(r),
-    }
+    give_done(ruler::shift(bytes, c))
 }
 
 // The numbers of the ruler in the bytes, its kind, and its twist: 0 where the kind has none.
@@ -512,24 +410,19 @@ pub extern "C" fn culv_ruler_read_kind(
     ensures { (result, a.new, b.new, p.new, q.new, m.new, step.new, marks.new, kind.new, twist.new) ≡ read_kind_c (ruler_read bytes.now) (ruler_of a.old b.old (limit_of p.old q.old) m.old step.old marks.old) kind.old twist.old }
 {
     match ruler::read(bytes) {
-        Reading::Ruler(r) => {
-            let first = r.a;
-            let second = r.b;
-            let from = r.p;
-            let to = r.q;
-            let s = r.step;
-            *a = first;
-            *b = second;
-            *p = from;
-            *q = to;
+        Ok(r) => {
+            *a = r.a;
+            *b = r.b;
+            *p = r.limit.0;
+            *q = r.limit.1;
             *m = r.m;
-            *step = s;
+            *step = r.step;
             *marks = r.marks;
-            *kind = r.kind;
-            *twist = r.twist;
+            *kind = u32::from(r.form.kind());
+            *twist = u32::from(r.form.twist.number());
             0
         }
-        Reading::Refused(why) => refused(why),
+        Err(why) => refused(why),
     }
 }
 
@@ -561,10 +454,7 @@ pub extern "C" fn culv_ruler_label(
 ) -> i32
     ensures { (result, start.new, size.new) ≡ part_c (label_in bytes.now value) }
 {
-    let part = ruler::find_label(bytes, value);
-    *start = part.start;
-    *size = part.end - part.start;
-    0
+    give_part(ruler::find_label(bytes, value), start, size)
 }
 
 #[unsafe(no_mangle)]
@@ -579,17 +469,11 @@ pub extern "C" fn culv_ruler_pair(
     ensures { (result, which.new, start.new, size.new) ≡ pair_c value (record_in (side_of value left.now right.now) value) }
 {
     if value < 0 {
-        let part = ruler::find_record(left, value);
         *which = 0;
-        *start = part.start;
-        *size = part.end - part.start;
-        return 0;
+        return give_part(ruler::find_record(left, value), start, size);
     }
-    let part = ruler::find_record(right, value);
     *which = 1;
-    *start = part.start;
-    *size = part.end - part.start;
-    0
+    give_part(ruler::find_record(right, value), start, size)
 }
 
 #[unsafe(no_mangle)]
@@ -597,8 +481,8 @@ pub extern "C" fn culv_search_whole(list: &[i32], target: i32, method: u32, k: &
     ensures { (result, k.new) ≡ single (by_method (method_of method) (whole_search list.now target)) k.old }
 {
     match method_of(method) {
-        Method::Of(m) => give_index(search::search_whole(list, target, m), k),
-        Method::Unknown => 1,
+        Some(m) => give_found(search::search_whole(list, target, m), k),
+        None => 1,
     }
 }
 
@@ -607,8 +491,8 @@ pub extern "C" fn culv_search_real(list: &[f64], target: f64, method: u32, k: &m
     ensures { (result, k.new) ≡ single (by_method (method_of method) (real_search list.now target)) k.old }
 {
     match method_of(method) {
-        Method::Of(m) => give_index(search::search_real(list, target, m), k),
-        Method::Unknown => 1,
+        Some(m) => give_found(search::search_real(list, target, m), k),
+        None => 1,
     }
 }
 
@@ -622,33 +506,24 @@ pub extern "C" fn culv_step_whole_values(
 ) -> i32
     ensures { (result, out.new, count.new) ≡ list_c (step_values whole a b d out.old) count.old }
 {
-    let wholes = Linspacei32 {
-        inner: RangedCoordi32(a, b),
-        step: d,
-    };
-    give_listed(wholes.values(out), count)
+    let wholes = wholes_by(a, b, d);
+    give(wholes.values(out), count)
 }
 
 #[unsafe(no_mangle)]
 pub extern "C" fn culv_step_whole_size(a: i32, b: i32, d: i32, n: &mut u64) -> i32
     ensures { (result, n.new) ≡ single (step_size whole a b d) n.old }
 {
-    let wholes = Linspacei32 {
-        inner: RangedCoordi32(a, b),
-        step: d,
-    };
-    give_count(wholes.size(), n)
+    let wholes = wholes_by(a, b, d);
+    give(wholes.size(), n)
 }
 
 #[unsafe(no_mangle)]
 pub extern "C" fn culv_step_whole_from_index(a: i32, b: i32, d: i32, k: u64, v: &mut i32) -> i32
     ensures { (result, v.new) ≡ single (step_from_index whole a b d k) v.old }
 {
-    let wholes = Linspacei32 {
-        inner: RangedCoordi32(a, b),
-        step: d,
-    };
-    give_value(wholes.from_index(k), v)
+    let wholes = wholes_by(a, b, d);
+    give_found(wholes.from_index(k), v)
 }
 
 #[unsafe(no_mangle)]
@@ -662,13 +537,10 @@ pub extern "C" fn culv_step_whole_index_of(
 ) -> i32
     ensures { (result, k.new) ≡ single (by_method (method_of method) (step_index_of whole a b d v)) k.old }
 {
-    let wholes = Linspacei32 {
-        inner: RangedCoordi32(a, b),
-        step: d,
-    };
+    let wholes = wholes_by(a, b, d);
     match method_of(method) {
-        Method::Of(m) => give_index(wholes.index_of(v, m), k),
-        Method::Unknown => 1,
+        Some(m) => give_found(wholes.index_of(v, m), k),
+        None => 1,
     }
 }
 
@@ -684,11 +556,8 @@ pub extern "C" fn culv_step_whole_map(
 ) -> i32
     ensures { (result, pixel.new) ≡ single (step_place whole a b d v (limit_of p q)) pixel.old }
 {
-    let wholes = Linspacei32 {
-        inner: RangedCoordi32(a, b),
-        step: d,
-    };
-    give_place(wholes.map(v, Limit(p, q)), pixel)
+    let wholes = wholes_by(a, b, d);
+    give(wholes.map(v, Limit(p, q)), pixel)
 }
 
 #[unsafe(no_mangle)]
@@ -703,11 +572,8 @@ pub extern "C" fn culv_step_whole_unmap(
 ) -> i32
     ensures { (result, v.new) ≡ single (step_reading whole a b d x (limit_of p q)) v.old }
 {
-    let wholes = Linspacei32 {
-        inner: RangedCoordi32(a, b),
-        step: d,
-    };
-    give_value(wholes.unmap(x, Limit(p, q)), v)
+    let wholes = wholes_by(a, b, d);
+    give_found(wholes.unmap(x, Limit(p, q)), v)
 }
 
 #[unsafe(no_mangle)]
@@ -721,11 +587,8 @@ pub extern "C" fn culv_step_whole_key_points(
 ) -> i32
     ensures { (result, out.new, count.new) ≡ list_c (step_key_points whole a b d m out.old) count.old }
 {
-    let wholes = Linspacei32 {
-        inner: RangedCoordi32(a, b),
-        step: d,
-    };
-    give_listed(wholes.key_points(m, out), count)
+    let wholes = wholes_by(a, b, d);
+    give(wholes.key_points(m, out), count)
 }
 
 #[unsafe(no_mangle)]
@@ -738,33 +601,24 @@ pub extern "C" fn culv_step_real_values(
 ) -> i32
     ensures { (result, out.new, count.new) ≡ list_c (step_values real a b d out.old) count.old }
 {
-    let reals = Linspacef64 {
-        inner: RangedCoordf64(a, b),
-        step: d,
-    };
-    give_listed(reals.values(out), count)
+    let reals = reals_by(a, b, d);
+    give(reals.values(out), count)
 }
 
 #[unsafe(no_mangle)]
 pub extern "C" fn culv_step_real_size(a: f64, b: f64, d: f64, n: &mut u64) -> i32
     ensures { (result, n.new) ≡ single (step_size real a b d) n.old }
 {
-    let reals = Linspacef64 {
-        inner: RangedCoordf64(a, b),
-        step: d,
-    };
-    give_count(reals.size(), n)
+    let reals = reals_by(a, b, d);
+    give(reals.size(), n)
 }
 
 #[unsafe(no_mangle)]
 pub extern "C" fn culv_step_real_from_index(a: f64, b: f64, d: f64, k: u64, v: &mut f64) -> i32
     ensures { (result, v.new) ≡ single (step_from_index real a b d k) v.old }
 {
-    let reals = Linspacef64 {
-        inner: RangedCoordf64(a, b),
-        step: d,
-    };
-    give_reading(reals.from_index(k), v)
+    let reals = reals_by(a, b, d);
+    give_found(reals.from_index(k), v)
 }
 
 #[unsafe(no_mangle)]
@@ -778,13 +632,10 @@ pub extern "C" fn culv_step_real_index_of(
 ) -> i32
     ensures { (result, k.new) ≡ single (by_method (method_of method) (step_index_of real a b d v)) k.old }
 {
-    let reals = Linspacef64 {
-        inner: RangedCoordf64(a, b),
-        step: d,
-    };
+    let reals = reals_by(a, b, d);
     match method_of(method) {
-        Method::Of(m) => give_index(reals.index_of(v, m), k),
-        Method::Unknown => 1,
+        Some(m) => give_found(reals.index_of(v, m), k),
+        None => 1,
     }
 }
 
@@ -800,11 +651,8 @@ pub extern "C" fn culv_step_real_map(
 ) -> i32
     ensures { (result, pixel.new) ≡ single (step_place real a b d v (limit_of p q)) pixel.old }
 {
-    let reals = Linspacef64 {
-        inner: RangedCoordf64(a, b),
-        step: d,
-    };
-    give_place(reals.map(v, Limit(p, q)), pixel)
+    let reals = reals_by(a, b, d);
+    give(reals.map(v, Limit(p, q)), pixel)
 }
 
 #[unsafe(no_mangle)]
@@ -819,11 +667,8 @@ pub extern "C" fn culv_step_real_unmap(
 ) -> i32
     ensures { (result, v.new) ≡ single (step_reading real a b d x (limit_of p q)) v.old }
 {
-    let reals = Linspacef64 {
-        inner: RangedCoordf64(a, b),
-        step: d,
-    };
-    give_reading(reals.unmap(x, Limit(p, q)), v)
+    let reals = reals_by(a, b, d);
+    give_found(reals.unmap(x, Limit(p, q)), v)
 }
 
 #[unsafe(no_mangle)]
@@ -837,44 +682,32 @@ pub extern "C" fn culv_step_real_key_points(
 ) -> i32
     ensures { (result, out.new, count.new) ≡ list_c (step_key_points real a b d m out.old) count.old }
 {
-    let reals = Linspacef64 {
-        inner: RangedCoordf64(a, b),
-        step: d,
-    };
-    give_listed(reals.key_points(m, out), count)
+    let reals = reals_by(a, b, d);
+    give(reals.key_points(m, out), count)
 }
 
 #[unsafe(no_mangle)]
 pub extern "C" fn culv_chart_clear(a: i32, b: i32, d: i32, counts: &mut [u16]) -> i32
-    ensures { (result, counts.new) ≡ chart_c (chart_clear a b d counts.old) }
+    ensures { (result, counts.new) ≡ held_c (chart_clear a b d counts.old) }
 {
-    let wholes = Linspacei32 {
-        inner: RangedCoordi32(a, b),
-        step: d,
-    };
-    give_charted(chart::clear(wholes, counts))
+    let wholes = wholes_by(a, b, d);
+    give_done(chart::clear(wholes, counts))
 }
 
 #[unsafe(no_mangle)]
 pub extern "C" fn culv_chart_set(a: i32, b: i32, d: i32, pin: i32, counts: &mut [u16]) -> i32
-    ensures { (result, counts.new) ≡ chart_c (chart_set a b d pin counts.old) }
+    ensures { (result, counts.new) ≡ held_c (chart_set a b d pin counts.old) }
 {
-    let wholes = Linspacei32 {
-        inner: RangedCoordi32(a, b),
-        step: d,
-    };
-    give_charted(chart::set(wholes, pin, counts))
+    let wholes = wholes_by(a, b, d);
+    give_done(chart::set(wholes, pin, counts))
 }
 
 #[unsafe(no_mangle)]
 pub extern "C" fn culv_chart_pull(a: i32, b: i32, d: i32, pin: i32, counts: &mut [u16]) -> i32
-    ensures { (result, counts.new) ≡ chart_c (chart_pull a b d pin counts.old) }
+    ensures { (result, counts.new) ≡ held_c (chart_pull a b d pin counts.old) }
 {
-    let wholes = Linspacei32 {
-        inner: RangedCoordi32(a, b),
-        step: d,
-    };
-    give_charted(chart::pull(wholes, pin, counts))
+    let wholes = wholes_by(a, b, d);
+    give_done(chart::pull(wholes, pin, counts))
 }
 
 #[unsafe(no_mangle)]
@@ -891,7 +724,7 @@ pub extern "C" fn culv_label(
         min_decimal,
         max_decimal,
     };
-    give_label(printer.print(n, out), written)
+    give(printer.print(n, out), written)
 }
 
 #[unsafe(no_mangle)]
@@ -908,33 +741,33 @@ pub extern "C" fn culv_label_scientific(
         min_decimal,
         max_decimal,
     };
-    give_label(printer.print_scientific(n, out), written)
+    give(printer.print_scientific(n, out), written)
 }
 
 #[unsafe(no_mangle)]
 pub extern "C" fn culv_decimal_print(x: i32, f: u32, out: &mut [u8], written: &mut usize) -> i32
     ensures { (result, out.new, written.new) ≡ list_c (fixed_print x f out.old) written.old }
 {
-    give_printed(fixed::print(x, f, out), written)
+    give(fixed::print(x, f, out), written)
 }
 
 #[unsafe(no_mangle)]
 pub extern "C" fn culv_decimal_read(text: &[u8], f: u32, x: &mut i32) -> i32
     ensures { (result, x.new) ≡ single (fixed_read text.now f) x.old }
 {
-    give_number(fixed::read(text, f), x)
+    give(fixed::read(text, f), x)
 }
 
 #[unsafe(no_mangle)]
 pub extern "C" fn culv_week_running(windows: &[u32], clock: u32, running: &mut u32) -> i32
     ensures { (result, running.new) ≡ single (running_minute windows.now clock) running.old }
 {
-    give_minute(week::running(windows, clock), running)
+    give_found(week::running(windows, clock), running)
 }
 
 #[unsafe(no_mangle)]
 pub extern "C" fn culv_week_clock(windows: &[u32], running: u32, clock: &mut u32) -> i32
     ensures { (result, clock.new) ≡ single (clock_minute windows.now running) clock.old }
 {
-    give_minute(week::clock(windows, running), clock)
+    give_found(week::clock(windows, running), clock)
 }

@@ -1,36 +1,33 @@
 // The static library that C links: each call of crates/culvraod under its C name, with the promise that it has there.
+// Kept: each call again, since a static library exports its own functions alone.
 #![tactic(auto)]
 
 mod segments;
 
-ghost use Rattle.std.specs.Prelude.{◌≡◌, pos};
-ghost use Rattle.ranged1d.specs.Refusals.{number_of};
-ghost use Rattle.ranged1d.specs.Listed.{tell_listed};
+ghost use Rattle.std.specs.Prelude.{◌≡◌};
 ghost use Rattle.ranged1d.specs.Admitted.{limit_of};
-ghost use Rattle.discrete.specs.Index.{tell_index};
-ghost use Rattle.numeric.specs.Calls.{tell_marks, whole_key_points, index_key_points};
+ghost use Rattle.numeric.specs.Calls.{whole_key_points, index_key_points};
 ghost use Rattle.numeric.specs.Directed.{whole_directed};
-ghost use Rattle.numeric.specs.Whole.{tell_count, tell_value, whole_size, whole_index_of, whole_from_index, whole_reading};
-ghost use Rattle.real.specs.Place.{tell_place, whole_place, real_place};
+ghost use Rattle.numeric.specs.Whole.{whole_size, whole_index_of, whole_from_index, whole_reading};
+ghost use Rattle.real.specs.Place.{whole_place, real_place};
 ghost use Rattle.real.specs.Exact.{whole_exact};
-ghost use Rattle.real.specs.Reading.{tell_reading, real_reading};
+ghost use Rattle.real.specs.Reading.{real_reading};
 ghost use Rattle.keypoints.specs.Marks.{real_key_points};
 ghost use Rattle.linspace.specs.List.{whole, real};
 ghost use Rattle.linspace.specs.Calls.{step_values, step_size, step_from_index, step_index_of, step_place, step_reading, step_key_points};
-ghost use Rattle.chart.specs.Chart.{tell_charted, chart_clear, chart_set, chart_pull};
-ghost use Rattle.culvraod.specs.Chart.{chart_c};
+ghost use Rattle.chart.specs.Chart.{chart_clear, chart_set, chart_pull};
 ghost use Rattle.culvraod.specs.Steps.{list_c};
-ghost use Rattle.float.specs.Calls.{tell_label, label_print, label_scientific};
+ghost use Rattle.float.specs.Calls.{label_print, label_scientific};
 ghost use Rattle.search.specs.Lists.{whole_search, real_search};
 ghost use Rattle.culvraod.specs.Search.{method_of, by_method};
-ghost use Rattle.fixed.specs.Fixed.{tell_printed, tell_number, fixed_print, fixed_read};
-ghost use Rattle.week.specs.Week.{tell_minute, running_minute, clock_minute};
-ghost use Rattle.ruler.specs.Rule.{tell_wrote, tell_moved, ruler_write, ruler_write_inside, twisted_write, ruler_upgrade, ruler_downgrade, ruler_of, ruler_read, record_in, label_in, side_of};
+ghost use Rattle.fixed.specs.Fixed.{fixed_print, fixed_read};
+ghost use Rattle.week.specs.Week.{running_minute, clock_minute};
+ghost use Rattle.ruler.specs.Rule.{ruler_write, ruler_write_inside, twisted_write, ruler_upgrade, ruler_downgrade, ruler_of, ruler_read, record_in, label_in, side_of};
 ghost use Rattle.film.specs.Film.{film_write};
 ghost use Rattle.ruler.specs.Shifting.{ruler_shift};
-ghost use Rattle.culvraod.specs.Ruler.{read_c, read_kind_c, held_c, part_c, pair_c};
-ghost use Rattle.culvraod.specs.Boundary.{code, single, double};
-ghost use Rattle.culvraod.specs.Numeric.{marks_c, key_points_c};
+ghost use Rattle.culvraod.specs.Ruler.{read_c, read_kind_c, part_c, pair_c};
+ghost use Rattle.culvraod.specs.Boundary.{single, double, held_c};
+ghost use Rattle.culvraod.specs.Numeric.{key_points_c};
 
 use numeric::Choice;
 
@@ -499,21 +496,21 @@ pub extern "C" fn culv_step_real_key_points(
 
 #[unsafe(no_mangle)]
 pub extern "C" fn culv_chart_clear(a: i32, b: i32, d: i32, counts: &mut [u16]) -> i32
-    ensures { (result, counts.new) ≡ chart_c (chart_clear a b d counts.old) }
+    ensures { (result, counts.new) ≡ held_c (chart_clear a b d counts.old) }
 {
     culvraod::culv_chart_clear(a, b, d, counts)
 }
 
 #[unsafe(no_mangle)]
 pub extern "C" fn culv_chart_set(a: i32, b: i32, d: i32, pin: i32, counts: &mut [u16]) -> i32
-    ensures { (result, counts.new) ≡ chart_c (chart_set a b d pin counts.old) }
+    ensures { (result, counts.new) ≡ held_c (chart_set a b d pin counts.old) }
 {
     culvraod::culv_chart_set(a, b, d, pin, counts)
 }
 
 #[unsafe(no_mangle)]
 pub extern "C" fn culv_chart_pull(a: i32, b: i32, d: i32, pin: i32, counts: &mut [u16]) -> i32
-    ensures { (result, counts.new) ≡ chart_c (chart_pull a b d pin counts.old) }
+    ensures { (result, counts.new) ≡ held_c (chart_pull a b d pin counts.old) }
 {
     culvraod::culv_chart_pull(a, b, d, pin, counts)
 }

@@ -1,18 +1,17 @@
 // The calls on segments.
 
 ghost use Rattle.std.specs.Prelude.{◌≡◌, pos, length};
-ghost use Rattle.ranged1d.specs.Answer.{given, and_then};
+ghost use Rattle.ranged1d.specs.Answer.{and_then};
 ghost use Rattle.ranged1d.specs.Admitted.{limit_of};
 ghost use Rattle.numeric.specs.Marks.{marks, step_of};
 ghost use Rattle.linspace.specs.List.{whole, real};
 ghost use Rattle.linspace.specs.Calls.{step_marks};
-ghost use Rattle.segmented.specs.Values.{whole_segment, real_segment, tell_segment, tell_real_segment};
 ghost use Rattle.segmented.specs.Segments.{segment_size, segment_place, segment_index_of, segment_from_index, segment_reading, segment_key_points};
 ghost use Rattle.segmented.specs.Axes.{whole_axis, whole_finder, stepped_axis, stepped_finder};
 ghost use Rattle.culvraod.specs.Boundary.{single};
 ghost use Rattle.culvraod.specs.Numeric.{key_points_c};
 ghost use Rattle.culvraod.specs.Search.{method_of, by_method};
-ghost use Rattle.culvraod.specs.Segments.{case_of, tell_whole_case, tell_real_case, nil, segment_c};
+ghost use Rattle.culvraod.specs.Segments.{case_of, nil, segment_c};
 ghost use Rattle.culvraod.specs.Steps.{list_c};
 
 #[unsafe(no_mangle)]

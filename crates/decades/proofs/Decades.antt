@@ -6,11 +6,14 @@ use Prim.Native.Nat.{ℕ, zero, suc, ◌+◌, ◌-◌, ◌≤◌, ◌<◌}
 use native.Mathlib.Nat.{add-suc, add-zero, zero-add}
 use native.Mathlib.Omega.{arith}
 use lib.Dec.{T}
-use lib.ListN.{get_or, take, drop}
+use lib.ListN.{get_or, length, take, drop}
 use lib.Seq.{get_or-take, get_or-drop}
 use lib.Ieee.{Float, nan, inf, fin, lt, eq, le}
 use lib.Ieee.Bits.{is_true}
 use lib.Ieee.Positive.{positive, above, above_of_le, le_trans_positive, cross→le}
+use Rattle.std.specs.List.Sorted.{IsPartitionedBy, IsPartitionPoint}
+use Rattle.std.proofs.Common.{zero-le}
+use Rattle.std.proofs.lemmas.List.{get_or_default}
 use Rattle.decades.specs.Powers.{power}
 use Rattle.decades.specs.Decade.{last_of, reached, decade_index, decade_of}
 use Rattle.decades.specs.Steps.{Holds}
@@ -89,12 +92,42 @@ module _ (p : ℕ → Bool) where
       go true h = omega arith
       go false h = omega arith
 
--- ---- what the search by halves asks: from entry k on none is reached
+-- ---- what the search by halves is given: from entry k on none is reached
 module _ (x : Float) (k n : ℕ) (h : k < n) (l : n ≤ 616) where
   pub below_next : decade_index x ≡ last_of (reached x) n → reached x k ≡ false → decade_index x ≡ last_of (reached x) k
   below_next e f =
       let s : k + (n - k) ≡ n = omega arith in
       e ∙ rw s at (last_skips (reached x) k (n - k) (λ i a b. unreached_after x k i a (omega arith) f))
+
+-- ---- and what it gives: the part of the table is parted by the test, and the last entry before the point is the decade
+module _ (l : List Float) (i : ℕ) (x : Float) (h : Holds l i x) where
+  -- an entry of the part, whatever the default
+  part_entry : (k : ℕ) (d : Float) → k < length l → le (get_or l k d) x ≡ reached x (i + k)
+  part_entry k d s = ap (λ (y : Float). le y x) (get_or_default l k d nan s ∙ h.entries k s)
+
+  pub parted : IsPartitionedBy (λ (y : Float). le y x) l
+  parted k j d s t e =
+      let in_table : i + j < 616 = omega (arith, h.inside) in
+      part_entry k d (omega arith) ∙ reached-before x (i + k) (i + j) (omega arith) in_table (sym (part_entry j d t) ∙ e)
+
+  module _ (n : ℕ) (w : n ≤ length l) (at : IsPartitionPoint (λ (y : Float). le y x ≡ true) (λ (y : Float). le y x ≡ false) l n) where
+    -- the entry before the point is the last that is reached, or, where none is, the first
+    last_at : (n : ℕ) → n ≤ length l → ((k : ℕ) → k < n → reached x (i + k) ≡ true) → last_of (reached x) (suc (i + (n - 1))) ≡ i + (n - 1)
+    last_at zero w g = rw (add-zero i) h.begins
+    last_at (suc n) w g = let e : suc n - 1 ≡ n = omega arith in rw e (last_is (reached x) (i + n) (g n (omega arith)))
+
+    behind : (k : ℕ) → suc (i + (n - 1)) ≤ k → k < i + length l → reached x k ≡ false
+    behind k a b =
+        let j : ℕ = k - i in
+        let s : i + j ≡ k = omega arith in
+        rw s at (sym (part_entry j nan (omega arith)) ∙ at.1 j nan (omega arith) (omega arith))
+
+    pub decade_before : decade_index x ≡ i + (n - 1)
+    decade_before =
+        let m : ℕ = suc (i + (n - 1)) in
+        let s : m + (i + length l - m) ≡ i + length l = omega (arith, h.some) in
+        let none : (k : ℕ) → m ≤ k → k < m + (i + length l - m) → reached x k ≡ false = λ k a b. behind k (omega arith) (omega arith) in
+        h.ends ∙ rw s at (last_skips (reached x) m (i + length l - m) none) ∙ last_at n w (λ k a. sym (part_entry k nan (omega arith)) ∙ at.0 k nan zero-le a)
 
 pub from_all : (x : Float) → decade_index x ≡ last_of (reached x) 616
 unfolding decade_index

@@ -13,8 +13,7 @@ use Rattle.ranged1d.proofs.Bools.{chosen}
 use lib.ListN.{length, set, drop, replicate, length-append, length-replicate, replicate-append-replicate}
 use lib.Seq.{set_at, drop_at}
 use Rattle.decimal.specs.declared.Text.{Text}
-use Rattle.decimal.specs.declared.LongText.{LongText}
-use Rattle.decimal.specs.Print.{digit, minus, digits, natural, signed_digits, decimal, filled_with, filled_to, text_of, long_text_of}
+use Rattle.decimal.specs.Print.{digit, minus, digits, natural, signed_digits, decimal, filled_with, filled_to, padded, text_of, long_text_of}
 
 pub tenth_small : (n k : ℕ) → n < 10 ^ suc k → n / 10 < 10 ^ k
 tenth_small n k h = (div-lt_iff_lt-mul (zero-lt-suc 9)).1 (rw (pow-suc 10 k) at h)
@@ -163,11 +162,14 @@ told w l h = record {
   text = drop_at (replicate (w - length l) 32) l (w - length l) (length-replicate {A = ℕ} (w - length l) 32);
 }
 
-pub text_told : (l : List ℕ) → length l ≤ 11 → {t : Text} → t ≡ text_of l → Told 11 t.blanks t.bytes l
-text_told l h e = subst (λ (u : Text). Told 11 u.blanks u.bytes l) (sym e) (told 11 l h)
+pub padded_told : (w : ℕ) (l : List ℕ) → length l ≤ w → {t : Text w} → t ≡ padded w l → Told w t.blanks t.bytes l
+padded_told w l h e = subst (λ (u : Text w). Told w u.blanks u.bytes l) (sym e) (told w l h)
 
-pub long_told : (l : List ℕ) → length l ≤ 21 → {t : LongText} → t ≡ long_text_of l → Told 21 t.blanks t.bytes l
-long_told l h e = subst (λ (u : LongText). Told 21 u.blanks u.bytes l) (sym e) (told 21 l h)
+pub text_told : (l : List ℕ) → length l ≤ 11 → {t : Text 11} → t ≡ text_of l → Told 11 t.blanks t.bytes l
+text_told l h e = padded_told 11 l h e
+
+pub long_told : (l : List ℕ) → length l ≤ 21 → {t : Text 21} → t ≡ long_text_of l → Told 21 t.blanks t.bytes l
+long_told l h e = padded_told 21 l h e
 
 -- ---- enough digits: a number below 10 ^ k has at most k, and more fuel than it needs changes nothing
 pub digits_fuel : (f n : ℕ) → n < 10 ^ suc f → digits f n ≡ digits (suc f) n

@@ -2,9 +2,11 @@
 use mathlib.Core.Path.{◌≡◌, refl, sym, ap₂, subst}
 use mathlib.Core.Bool.{Bool, true, false, true≢false, ◌&&◌}
 use mathlib.Core.List.{List, [], ◌∷◌}
-use Prim.Native.Nat.{ℕ, zero, suc, ◌+◌, ◌-◌, ◌*◌, ◌≤◌, ◌<◌}
+use Prim.Native.Nat.{ℕ, ◌+◌, ◌-◌, ◌*◌, ◌^◌, ◌≤◌, ◌<◌}
 use native.Mathlib.Omega.{arith}
 use native.Mathlib.Numerals.{add-one}
+use native.Mathlib.Nat.{pow-le-pow_right}
+use Rattle.std.proofs.lemmas.Grind.{pow_more}
 use lib.Dec.{T, eqb}
 use borrow.Author.Tests.{eq-eqb, eqb-true}
 use lib.ListN.{length, get_or, drop, drop_of_length-le}
@@ -43,36 +45,17 @@ pub same_is : (r : Bool) (l k : List ℕ) → (r ≡ true → l ≡ k) → (l �
 same_is true l k f g = sym (same_yes l k (f refl))
 same_is false l k f g = sym (same_no l k (λ e. true≢false (sym (g e))))
 
--- ---- with r bytes more to come, each at most 207 away from the byte of 0, a value stays within 10^14
-abbrev pub Room : ℕ → ℕ → Type 0
-Room zero n = n ≤ 100000000000000
-Room (suc r) n = Room r (n * 10 + 207)
+-- ---- the value of i bytes, each at most 207 away from the byte of 0
+pub value-more : (i n d : ℕ) → d ≤ 207 → n + 23 ≤ 23 * 10 ^ i → n * 10 + d + 23 ≤ 23 * 10 ^ (i + 1)
+value-more i n d l h = omega (arith, pow_more 10 i)
 
-pub room_anti : (r : ℕ) {a b : ℕ} → a ≤ b → Room r b → Room r a
-room_anti zero h s = omega arith
-room_anti (suc r) h s = room_anti r (omega arith) s
-
-pub room_bound : (r n : ℕ) → Room r n → n ≤ 100000000000000
-room_bound zero n s = s
-room_bound (suc r) n s = omega (arith, room_bound r (n * 10 + 207) s)
-
-room_less : (r n : ℕ) → Room (suc r) n → Room r n
-room_less r n s = room_anti r (omega arith) s
-
-pub room_start : (k r : ℕ) → k + r ≡ 11 → Room r 0
-room_start zero r e = let f : 11 ≡ r = omega arith in subst (λ (n : ℕ). Room n 0) f (omega arith)
-room_start (suc k) r e = room_less r 0 (room_start k (suc r) (omega arith))
-
--- one byte is taken
-pub room_step : (i n d : ℕ) → i < 11 → d ≤ 207 → Room (11 - i) n → Room (11 - (i + 1)) (n * 10 + d)
-room_step i n d h l s =
-    let e : 11 - i ≡ suc (11 - (i + 1)) = omega arith in
-    room_anti (11 - (i + 1)) (omega arith) (subst (λ (r : ℕ). Room r n) e s)
+pub value-below : (i n : ℕ) → i ≤ 12 → n + 23 ≤ 23 * 10 ^ i → n ≤ 23_000_000_000_000
+value-below i n l h = let p : 10 ^ i ≤ 10 ^ 12 = pow-le-pow_right (omega arith) l in omega arith
 
 pub value_step : (s : List ℕ) (i n : ℕ) → i < length s → value_of n (drop i s) ≡ value_of (n * 10 + (get_or s i 0 - 48)) (drop (i + 1) s)
 unfolding value_of
 value_step s i n h = rw (add-one, drop-cons s i 0)
 
-pub value-end : (s : List ℕ) (i n : ℕ) → length s ≤ i → value_of n (drop i s) ≡ n
+pub value-end : (s : List ℕ) (n : ℕ) → value_of n (drop (length s) s) ≡ n
 unfolding value_of
-value-end s i n h = rw (drop_of_length-le s h)
+value-end s n = rw (drop_of_length-le s {i = length s} (omega arith))

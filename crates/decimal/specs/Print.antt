@@ -2,7 +2,6 @@
 -- a list of bytes. Assumes nothing.
 use Rattle.std.specs.Prelude.{ℕ, zero, suc, ◌+◌, ◌-◌, ◌/◌, ◌%◌, Bool, cond, List, [], ◌∷◌, ◌++◌, ltb, ℤ, pos, negsuc, length, replicate}
 use Rattle.decimal.specs.declared.Text.{Text}
-use Rattle.decimal.specs.declared.LongText.{LongText}
 
 -- a digit's byte; the bytes of a minus sign, of a decimal point and of a blank
 abbrev pub digit : ℕ → ℕ
@@ -54,10 +53,14 @@ filled t = filled_to 11 t
 abbrev pub label_of : ℤ → List ℕ
 label_of z = filled (decimal z)
 
--- the filled text with the number of its blanks
-abbrev pub text_of : List ℕ → Text
-text_of t = record { bytes = filled t; blanks = 11 - length t }
+-- a text filled to w bytes, with the number of its blanks
+abbrev pub padded : (w : ℕ) → List ℕ → Text w
+padded w t = record { bytes = filled_to w t; blanks = w - length t }
 
--- a longer number's text, which is filled to 21 bytes: twenty digits and a sign
-abbrev pub long_text_of : List ℕ → LongText
-long_text_of t = record { bytes = filled_to 21 t; blanks = 21 - length t }
+-- a label's
+abbrev pub text_of : List ℕ → Text 11
+text_of t = padded 11 t
+
+-- a longer number's: twenty digits and a sign
+abbrev pub long_text_of : List ℕ → Text 21
+long_text_of t = padded 21 t

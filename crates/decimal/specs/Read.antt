@@ -4,10 +4,6 @@ use Rattle.std.specs.Prelude.{ℕ, ◌+◌, ◌-◌, ◌*◌, Bool, cond, ◌&&�
 use Rattle.ranged1d.specs.Answer.{Answer, given, none}
 use Rattle.ranged1d.specs.Numbers.{is_i32, same_each}
 use Rattle.decimal.specs.Print.{minus, natural, decimal}
-use Rattle.decimal.specs.declared.Whole.{Whole}
-use Rattle.decimal.specs.declared.Whole.TheVariants as whole_is
-use Rattle.decimal.specs.declared.Natural.{Natural}
-use Rattle.decimal.specs.declared.Natural.TheVariants as natural_is
 
 -- the number that bytes stand for if they are digits, with n in front of them
 unfoldable pub value_of : ℕ → List ℕ → ℕ
@@ -28,11 +24,3 @@ read_i32 s = cond (is_i32 (signed_value s) && same_bytes s (decimal (signed_valu
 
 unfoldable pub read_u32 : List ℕ → Answer ℕ
 read_u32 s = cond (leb (value_of 0 s) 4_294_967_295 && same_bytes s (natural (value_of 0 s))) (given (value_of 0 s)) none
-
-abbrev pub tell_whole : Whole → Answer ℤ
-tell_whole (whole_is.Number z) = given z
-tell_whole whole_is.Nothing = none
-
-abbrev pub tell_natural : Natural → Answer ℕ
-tell_natural (natural_is.Number n) = given n
-tell_natural natural_is.Nothing = none

@@ -2,19 +2,10 @@
 -- and q. It rests on two distances, d = x − p and w = q − p. Assumes nothing.
 use Rattle.std.specs.Prelude.{ℕ, zero, suc, ◌/◌, Bool, true, false, cond, not, ◌&&◌, [], ◌∷◌, ltb, ℤ, pos, negsuc, ◌-ℤ◌, ◌*ℤ◌}
 use Rattle.std.specs.Int.Signed.{lt_z}
-use Rattle.ranged1d.specs.Answer.{Answer, given, none, refused, ◌when◌, lowest}
-use Rattle.ranged1d.specs.Refusals.{number_of}
+use Rattle.ranged1d.specs.Answer.{Answer, given, none, ◌when◌, lowest}
 use Rattle.ranged1d.specs.Admitted.{reading_admitted}
 use Rattle.ranged1d.specs.declared.Limit.{Limit}
 use Rattle.ranged1d.specs.Numbers.{raised}
-use Rattle.discrete.specs.declared.Index.{Index}
-use Rattle.discrete.specs.declared.Index.TheVariants as index_is
-
--- ---- the answer's cases, by 01's values and numbers
-abbrev pub tell_index : Index → Answer ℕ
-tell_index (index_is.At k) = given k
-tell_index index_is.Nothing = none
-tell_index (index_is.Refused r) = refused (number_of r)
 
 -- ---- z ÷ w for w ≠ 0, rounded down, by the signs: of unlike ones, −(a + 1) ÷ b is rounded down to −(c + 1), with c the whole part of
 -- a ÷ b. `floor-rest` and `floor-negated` of proofs/Floor say that this is the floor.

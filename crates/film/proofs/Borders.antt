@@ -2,41 +2,37 @@
 use mathlib.Core.Path.{◌≡◌, refl, ap, ◌∙◌}
 use mathlib.Core.Bool.{true, false}
 use mathlib.Core.List.{List, [], ◌∷◌}
-use Prim.Native.Nat.{ℕ, suc, ◌+◌, ◌*◌, ◌/◌, ◌%◌, ◌≤◌, ◌<◌}
+use Prim.Native.Nat.{ℕ, zero, suc, ◌+◌, ◌*◌, ◌/◌, ◌%◌, ◌≤◌, ◌<◌}
 use native.Mathlib.Omega.{arith}
 use borrow.Author.Tests.{eq-eqb, ne_eqb, lt-ltb, le-ltb, eqb-true, eqb-false, ltb-false, not-false}
 use lib.Dec.{ltb, eqb}
-use lib.IntN.{ℤ, pos}
-use lib.ListN.{length, get_or, drop, drop_of_length-le}
-use lib.Seq.{drop-cons}
+use lib.IntN.{ℤ}
+use lib.ListN.{length, get_or, drop}
+use Rattle.std.proofs.Common.{map}
+use Rattle.std.specs.Simd.{first_chunks}
+use Rattle.film.specs.declared.Border.{Border}
 use Rattle.ranged1d.proofs.Bools.{both_false, or_right}
-use Rattle.film.specs.Film.{borders_of, no_film}
-use Rattle.film.specs.Steps.{border_at}
+use Rattle.film.specs.Film.{border_of, borders_of, no_film}
+use Rattle.film.specs.Steps.{border_from}
 
--- five numbers from a place on
-five : (l : List ℤ) (k : ℕ) → k + 5 ≤ length l → drop k l ≡ get_or l k (pos 0) ∷ (get_or l (k + 1) (pos 0) ∷ (get_or l (k + 2) (pos 0) ∷ (get_or l (k + 3) (pos 0) ∷ (get_or l (k + 4) (pos 0) ∷ drop (k + 5) l))))
-five l k h =
-    let e₁ : k + 1 ≡ suc k = omega arith in
-    let e₂ : k + 2 ≡ suc (suc k) = omega arith in
-    let e₃ : k + 3 ≡ suc (suc (suc k)) = omega arith in
-    let e₄ : k + 4 ≡ suc (suc (suc (suc k))) = omega arith in
-    let e₅ : k + 5 ≡ suc (suc (suc (suc (suc k)))) = omega arith in
-    let d = pos 0 in
-    rw (e₁, e₂, e₃, e₄, e₅)
-    (drop-cons l k d (omega arith)
-    ∙ ap (λ (t : List ℤ). get_or l k d ∷ t) (drop-cons l (suc k) d (omega arith)
-    ∙ ap (λ (t : List ℤ). get_or l (suc k) d ∷ t) (drop-cons l (suc (suc k)) d (omega arith)
-    ∙ ap (λ (t : List ℤ). get_or l (suc (suc k)) d ∷ t) (drop-cons l (suc (suc (suc k))) d (omega arith)
-    ∙ ap (λ (t : List ℤ). get_or l (suc (suc (suc k))) d ∷ t) (drop-cons l (suc (suc (suc (suc k)))) d (omega arith))))))
+-- five at a time
+pub borders_are : (l : List ℤ) → map border_from (first_chunks 5 (length l / 5) l) ≡ borders_of l
+unfolding borders_of border_from
+borders_are [] = refl
+borders_are (a ∷ []) = refl
+borders_are (a ∷ (b ∷ [])) = refl
+borders_are (a ∷ (b ∷ (p ∷ []))) = refl
+borders_are (a ∷ (b ∷ (p ∷ (q ∷ [])))) = refl
+borders_are (a ∷ (b ∷ (p ∷ (q ∷ (t ∷ l))))) =
+    let m = a ∷ (b ∷ (p ∷ (q ∷ (t ∷ l)))) in
+    let e : length m / 5 ≡ suc (length l / 5) = omega arith in
+    ap (λ (k : ℕ). map border_from (first_chunks 5 k m)) e ∙ ap (λ (xs : List Border). border_of a b p q t ∷ xs) (borders_are l)
 
--- the border there, and those behind it
-pub border_next : (l : List ℤ) (k : ℕ) → k + 5 ≤ length l → borders_of (drop k l) ≡ border_at l k ∷ borders_of (drop (k + 5) l)
-unfolding borders_of border_at
-border_next l k h = ap borders_of (five l k h)
-
-pub border_end : (l : List ℤ) (k : ℕ) → length l ≤ k → borders_of (drop k l) ≡ []
-unfolding borders_of
-border_end l k h = ap borders_of (drop_of_length-le l h)
+-- the border at an index, and those behind it
+pub at_border : (fs : List (List ℤ)) (i : ℕ) → i < length fs → drop i (map border_from fs) ≡ border_from (get_or fs i []) ∷ drop (i + 1) (map border_from fs)
+at_border [] i h = absurd (omega arith)
+at_border (f ∷ fs) zero h = refl
+at_border (f ∷ fs) (suc i) h = let e : suc i + 1 ≡ suc (i + 1) = omega arith in rw e (at_border fs i (omega arith))
 
 -- how many there are
 pub borders_long : (l : List ℤ) → length (borders_of l) ≡ length l / 5

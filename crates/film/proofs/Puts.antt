@@ -1,26 +1,25 @@
 -- The rulers of a film, put one behind another: what lent bytes hold when so many borders are put. Assumes nothing.
 use mathlib.Core.Path.{◌≡◌, refl, sym, ap, ap₂, ◌∙◌, subst}
-use mathlib.Core.List.{List, [], ◌++◌}
-use Prim.Native.Nat.{ℕ, ◌+◌, ◌-◌, ◌*◌, ◌≤◌}
+use mathlib.Core.List.{List, [], ◌∷◌, ◌++◌}
+use Prim.Native.Nat.{ℕ, ◌+◌, ◌-◌, ◌≤◌}
 use native.Mathlib.Numerals.{add-one}
 use native.Mathlib.Omega.{arith}
-use lib.IntN.{ℤ}
 use lib.ListN.{length, take, drop, length-drop}
 use lib.Seq.{length-take-le, take_all}
 use borrow.Rule.Slice.PartMut.{put_mid}
 use Rattle.ranged1d.proofs.Pieces.{rest_is, put_more, more_long}
 use Rattle.film.specs.declared.Border.{Border}
-use Rattle.film.specs.Film.{borders_of, share, ruler_for, film_bytes}
-use Rattle.film.specs.Steps.{border_at, settled, walked, Accepted}
+use Rattle.film.specs.Film.{share, ruler_for, film_bytes}
+use Rattle.film.specs.Steps.{settled, walked, Accepted}
 use Rattle.film.proofs.Settled.{Taken, taken}
 use Rattle.film.proofs.Walk.{Begun, next_begun, next-bytes, no_bytes, piece_taken, piece_dropped, piece_long}
 
-module _ (M n : ℕ) (l : List ℤ) (old : List ℕ) where
+module _ (M n : ℕ) (xs : List Border) (old : List ℕ) where
   abbrev whole : List ℕ
-  whole = film_bytes M n 0 (borders_of l)
+  whole = film_bytes M n 0 xs
 
   abbrev rest : ℕ → List Border
-  rest i = borders_of (drop (5 * i) l)
+  rest i = drop i xs
 
   -- i borders are put, in `at` bytes, and those left are accepted
   pub record Standing (out : List ℕ) (at i : ℕ) : Type 0 where
@@ -31,17 +30,9 @@ module _ (M n : ℕ) (l : List ℤ) (old : List ℕ) where
     pub accepted : Accepted (walked M n i (rest i) (length old - at))
     pub long : length out ≡ length old
 
-  pub none_put : Accepted (walked M n 0 (borders_of l) (length old)) → Standing old 0 0
-  none_put a =
-      let e : length old ≡ length old - 0 = omega arith in
-      record { inside = omega arith; room = omega arith; held = refl; left = refl; accepted = subst (λ (k : ℕ). Accepted (walked M n 0 (borders_of l) k)) e a; long = refl }
-
-  module _ {out : List ℕ} {at i : ℕ} (p : Standing out at i) (there : 5 * i + 5 ≤ length l) where
-    abbrev x : Border
-    x = border_at l (5 * i)
-
+  module _ {out : List ℕ} {at i : ℕ} (p : Standing out at i) {x : Border} (there : drop i xs ≡ x ∷ drop (i + 1) xs) where
     here : Begun M n i x (rest (i + 1)) (length old - at)
-    here = next_begun M n l i (length old - at) there p.accepted.1
+    here = next_begun M n xs i there (length old - at) p.accepted.1
 
     fits : Taken x (share M n i) (length old - at) here.first.0 here.first.1
     fits = taken x (share M n i) here.first_is
@@ -60,7 +51,7 @@ module _ (M n : ℕ) (l : List ℤ) (old : List ℕ) where
         let own_is : ruler_for m y ≡ own = ap₂ (λ (k : ℕ) (b : Border). ruler_for k b) f e in
         let size : r ≡ length own = g ∙ ap length own_is in
         let behind = film_bytes M n (i + 1) (rest (i + 1)) in
-        let split : drop at whole ≡ own ++ behind = p.left ∙ next-bytes M n l i there in
+        let split : drop at whole ≡ own ++ behind = p.left ∙ next-bytes M n xs i there in
         let z_is : z ≡ own ++ drop (length own) (take (length out - at) (drop at out)) = h ∙ ap (λ (t : List ℕ). t ++ drop (length t) (take (length out - at) (drop at out))) own_is in
         let front = length-take-le at whole p.inside in
         let put = put_more at (length own) (take at whole) own old out z front p.held z_is in
@@ -79,8 +70,8 @@ module _ (M n : ℕ) (l : List ℤ) (old : List ℕ) where
         subst (λ (k : ℕ). Standing (put_mid at (length out - at) out z) (at + k) (i + 1)) (sym size) done
 
   -- all are put
-  pub all_put : {out : List ℕ} {at i : ℕ} → Standing out at i → length l ≤ 5 * i → out ≡ whole ++ drop (length whole) old
+  pub all_put : {out : List ℕ} {at i : ℕ} → Standing out at i → length xs ≤ i → out ≡ whole ++ drop (length whole) old
   all_put {out} {at} {i} p h =
-      let none : drop at whole ≡ [] = p.left ∙ no_bytes M n l i h in
+      let none : drop at whole ≡ [] = p.left ∙ no_bytes M n xs i h in
       let size : at ≡ length whole = let z = ap length none in omega (arith, length-drop at whole, p.inside, z) in
       p.held ∙ ap₂ (λ (t : List ℕ) (k : ℕ). t ++ drop k old) (take_all at whole (omega (arith, size))) size

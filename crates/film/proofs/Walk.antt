@@ -1,18 +1,16 @@
 -- The walk over the borders: what it answers, border by border, and what it writes. Assumes nothing.
 use mathlib.Core.Path.{◌≡◌, refl, sym, ap, ap₂, ◌∙◌}
 use mathlib.Core.List.{List, [], ◌∷◌, ◌++◌}
-use Prim.Native.Nat.{ℕ, suc, ◌+◌, ◌-◌, ◌*◌, ◌≤◌}
+use Prim.Native.Nat.{ℕ, suc, ◌+◌, ◌-◌, ◌≤◌}
 use native.Mathlib.Numerals.{add-one}
 use native.Mathlib.Omega.{arith}
-use lib.IntN.{ℤ}
-use lib.ListN.{length, take, drop, length-append, length-drop}
+use lib.ListN.{length, take, drop, length-append, length-drop, drop_of_length-le}
 use lib.Seq.{take_at, drop_at, drop-drop, take-add}
 use Rattle.ranged1d.specs.Answer.{Answer, given, none, refused, and_then}
 use Rattle.ranged1d.proofs.Answers.{given_is, not-both, not_none}
 use Rattle.film.specs.declared.Border.{Border}
-use Rattle.film.specs.Film.{borders_of, share, ruler_for, together, film_answer, film_bytes}
-use Rattle.film.specs.Steps.{border_at, settled, walked}
-use Rattle.film.proofs.Borders.{border_next, border_end}
+use Rattle.film.specs.Film.{share, ruler_for, together, film_answer, film_bytes}
+use Rattle.film.specs.Steps.{settled, walked}
 use Rattle.film.proofs.Settled.{alone_is}
 
 -- with what was counted before
@@ -90,54 +88,35 @@ module _ (M n : ℕ) where
   unfolding film_bytes
   bytes-none i = refl
 
--- ---- the borders of a list of numbers, by the index of a border
-module _ (M n : ℕ) (l : List ℤ) where
-  next : (i : ℕ) → 5 * i + 5 ≤ length l → borders_of (drop (5 * i) l) ≡ border_at l (5 * i) ∷ borders_of (drop (5 * (i + 1)) l)
-  next i h = let e : 5 * i + 5 ≡ 5 * (i + 1) = omega arith in border_next l (5 * i) h ∙ ap (λ (k : ℕ). border_at l (5 * i) ∷ borders_of (drop k l)) e
+-- ---- the borders of a film, by the index of a border
+module _ (M n : ℕ) (xs : List Border) where
+  module _ (i : ℕ) {x : Border} (h : drop i xs ≡ x ∷ drop (i + 1) xs) where
+    module _ (room at marks : ℕ) where
+      pub next_taken : {s k : ℕ} → settled x (share M n i) (room - at) ≡ given (s, k)
+          → counted (at, marks) (walked M n i (drop i xs) (room - at)) ≡ counted (at + s, marks + k) (walked M n (i + 1) (drop (i + 1) xs) (room - (at + s)))
+      next_taken {s} {k} e =
+          let less : room - at - s ≡ room - (at + s) = omega arith in
+          ap (λ (ys : List Border). counted (at, marks) (walked M n i ys (room - at))) h
+          ∙ walk_on M n i x (drop (i + 1) xs) (room - at) (at, marks) e
+          ∙ rw (add-one i, less)
 
-  none_yet : (w : Answer (ℕ × ℕ)) → w ≡ counted (0, 0) w
-  none_yet (given s) =
-      let e : s.0 ≡ 0 + s.0 = omega arith in
-      let f : s.1 ≡ 0 + s.1 = omega arith in
-      ap₂ (λ (x y : ℕ). given (x, y)) e f
-  none_yet none = refl
-  none_yet (refused k) = refl
+      pub next-refused : {k : ℕ} → settled x (share M n i) (room - at) ≡ refused k → counted (at, marks) (walked M n i (drop i xs) (room - at)) ≡ refused k
+      next-refused e =
+          ap (λ (ys : List Border). counted (at, marks) (walked M n i ys (room - at))) h ∙ walk_stop M n i x (drop (i + 1) xs) (room - at) (at, marks) e
 
-  pub from_first : (room : ℕ) → walked M n 0 (borders_of l) room ≡ counted (0, 0) (walked M n 0 (borders_of (drop (5 * 0) l)) (room - 0))
-  from_first room = let e : room - 0 ≡ room = omega arith in rw e (none_yet (walked M n 0 (borders_of l) room))
+    -- the same of the bytes, and of a walk that is accepted
+    pub next-bytes : film_bytes M n i (drop i xs) ≡ ruler_for (share M n i) x ++ film_bytes M n (i + 1) (drop (i + 1) xs)
+    next-bytes = ap (film_bytes M n i) h ∙ bytes_on M n i x (drop (i + 1) xs) ∙ rw (add-one i)
 
-  module _ (i room at marks : ℕ) where
-    abbrev rest : Answer (ℕ × ℕ)
-    rest = counted (at, marks) (walked M n i (borders_of (drop (5 * i) l)) (room - at))
+    pub next_begun : (room : ℕ) {r : ℕ × ℕ} → walked M n i (drop i xs) room ≡ given r → Begun M n i x (drop (i + 1) xs) room
+    next_begun room e = (begun M n i x (drop (i + 1) xs) room (ap (λ (ys : List Border). walked M n i ys room) (sym h) ∙ e)).0
 
-    pub next_taken : 5 * i + 5 ≤ length l → {s k : ℕ} → settled (border_at l (5 * i)) (share M n i) (room - at) ≡ given (s, k)
-        → rest ≡ counted (at + s, marks + k) (walked M n (i + 1) (borders_of (drop (5 * (i + 1)) l)) (room - (at + s)))
-    next_taken h {s} {k} e =
-        let less : room - at - s ≡ room - (at + s) = omega arith in
-        ap (λ (xs : List Border). counted (at, marks) (walked M n i xs (room - at))) (next i h)
-        ∙ walk_on M n i (border_at l (5 * i)) (borders_of (drop (5 * (i + 1)) l)) (room - at) (at, marks) e
-        ∙ rw (add-one i, less)
+  module _ (i : ℕ) (h : length xs ≤ i) where
+    pub no_more : (room at marks : ℕ) → counted (at, marks) (walked M n i (drop i xs) (room - at)) ≡ given (at, marks)
+    no_more room at marks = ap (λ (ys : List Border). counted (at, marks) (walked M n i ys (room - at))) (drop_of_length-le xs h) ∙ walk_end M n i (room - at) at marks
 
-    pub next-refused : 5 * i + 5 ≤ length l → {k : ℕ} → settled (border_at l (5 * i)) (share M n i) (room - at) ≡ refused k → rest ≡ refused k
-    next-refused h e =
-        ap (λ (xs : List Border). counted (at, marks) (walked M n i xs (room - at))) (next i h)
-        ∙ walk_stop M n i (border_at l (5 * i)) (borders_of (drop (5 * (i + 1)) l)) (room - at) (at, marks) e
-
-    pub no_more : length l ≤ 5 * i → rest ≡ given (at, marks)
-    no_more h =
-        ap (λ (xs : List Border). counted (at, marks) (walked M n i xs (room - at))) (border_end l (5 * i) h) ∙ walk_end M n i (room - at) at marks
-
-  -- the same of the bytes, and of a walk that is accepted
-  pub next-bytes : (i : ℕ) → 5 * i + 5 ≤ length l → film_bytes M n i (borders_of (drop (5 * i) l)) ≡ ruler_for (share M n i) (border_at l (5 * i)) ++ film_bytes M n (i + 1) (borders_of (drop (5 * (i + 1)) l))
-  next-bytes i h = ap (film_bytes M n i) (next i h) ∙ bytes_on M n i (border_at l (5 * i)) (borders_of (drop (5 * (i + 1)) l)) ∙ rw (add-one i)
-
-  pub no_bytes : (i : ℕ) → length l ≤ 5 * i → film_bytes M n i (borders_of (drop (5 * i) l)) ≡ []
-  no_bytes i h = ap (film_bytes M n i) (border_end l (5 * i) h) ∙ bytes-none M n i
-
-  pub next_begun : (i room : ℕ) → 5 * i + 5 ≤ length l → {r : ℕ × ℕ} → walked M n i (borders_of (drop (5 * i) l)) room ≡ given r
-      → Begun M n i (border_at l (5 * i)) (borders_of (drop (5 * (i + 1)) l)) room
-  next_begun i room h e =
-      (begun M n i (border_at l (5 * i)) (borders_of (drop (5 * (i + 1)) l)) room (ap (λ (xs : List Border). walked M n i xs room) (sym (next i h)) ∙ e)).0
+    pub no_bytes : film_bytes M n i (drop i xs) ≡ []
+    no_bytes = ap (film_bytes M n i) (drop_of_length-le xs h) ∙ bytes-none M n i
 
 -- a list of which the first `at` are written, and then a piece of it that comes next
 module _ (at : ℕ) (w r more : List ℕ) (h : at ≤ length w) (e : drop at w ≡ r ++ more) where

@@ -1,14 +1,14 @@
 // Several borders on one film: rulers of kind 6, one behind another, under one mark limit.
 #![tactic(auto)]
 
-ghost use Rattle.std.specs.Prelude.{◌≡◌, ◌++◌, ◌+◌, ◌*◌, ◌<◌, ◌≤◌, length, drop};
-ghost use Rattle.ruler.specs.Rule.{tell_wrote};
-ghost use Rattle.film.specs.Film.{twist_handed, borders_of, share, ruler_for, film_bytes, film_write};
-ghost use Rattle.film.specs.Steps.{border_at, settled, walked, Accepted};
+ghost use Rattle.std.specs.Prelude.{◌≡◌, ◌++◌, ◌<◌, ◌≤◌, length, map, drop};
+ghost use Rattle.ranged1d.specs.Told.{tell};
+ghost use Rattle.film.specs.Film.{twist_handed, share, ruler_for, film_bytes, film_write};
+ghost use Rattle.film.specs.Steps.{border_from, draft_of, settled, walked, Accepted};
 
-use numeric::Planned;
+use numeric::Choice;
 use ranged1d::{Limit, Refusal};
-use ruler::Wrote;
+use ruler::Draft;
 
 // A border: its axis, its limits on the film, and the number of its twist.
 #[derive(Clone, Copy)]
@@ -23,24 +23,7 @@ pub struct Border {
 fn twist_handed(z: i32) -> u32
     ensures { result ≡ twist_handed z }
 {
-    if z < 0 {
-        return 2;
-    }
-    ranged1d::unsigned_abs(z)
-}
-
-// The border whose five numbers begin at a place.
-fn border_at(borders: &[i32], at: usize) -> Border
-    requires { at + 5 ≤ length borders.now }
-    ensures { result ≡ border_at borders.now at }
-{
-    let a = borders[at];
-    let b = borders[at + 1];
-    let p = borders[at + 2];
-    let q = borders[at + 3];
-    let limit = Limit(p, q);
-    let twist = twist_handed(borders[at + 4]);
-    Border { a, b, limit, twist }
+    u32::try_from(z).unwrap_or(2)
 }
 
 // The marks that border i of n may use: m shared out, and what is left over to the first ones.
@@ -57,52 +40,78 @@ fn share_of(m: u32, n: usize, i: usize) -> u32
     each
 }
 
-// What the writer would answer for a border under the mark limit m, were it lent `room` bytes.
-fn settle(x: Border, m: u32, room: usize) -> Wrote
-    ensures { tell_wrote result ≡ settled x m room }
-{
-    let a = x.a;
-    let b = x.b;
-    let limit = x.limit;
-    match ruler::plan_inside(a, b, limit, m) {
-        Planned::Refused(r) => Wrote::Refused(r),
-        Planned::Points(p) => {
-            let count = p.count as usize;
-            let size = 26 + 20 * count;
-            if room < size {
-                return Wrote::Refused(Refusal::OutTooShort);
-            }
-            if 1 < x.twist {
-                return Wrote::Refused(Refusal::UnknownTwist);
-            }
-            Wrote::Bytes(size, count)
+impl Border {
+    // The border of five numbers.
+    #[tactic(auto, unfolding(crate::specs::Steps::border_from))]
+    fn of(numbers: &[i32; 5]) -> Border
+        ensures { result ≡ border_from numbers.now }
+    {
+        Border {
+            a: numbers[0],
+            b: numbers[1],
+            limit: Limit(numbers[2], numbers[3]),
+            twist: twist_handed(numbers[4]),
         }
+    }
+
+    // What a ruler of the border is drawn for, under the mark limit m.
+    fn draft(self, m: u32) -> Draft
+        ensures { result ≡ draft_of self m }
+    {
+        Draft {
+            a: self.a,
+            b: self.b,
+            limit: self.limit,
+            m,
+            choice: Choice::Inside,
+        }
+    }
+
+    // What the writer would answer for the border under the mark limit m, were it lent `room` bytes.
+    fn settle(self, m: u32, room: usize) -> Result<(usize, usize), Refusal>
+        ensures { tell result ≡ settled self m room }
+    {
+        let count = self.draft(m).plan()?.count as usize;
+        let size = 26 + 20 * count;
+        if room < size {
+            return Err(Refusal::OutTooShort);
+        }
+        // Kept: a twist stays a number up to here, since 15 comes behind 13.
+        if 1 < self.twist {
+            return Err(Refusal::UnknownTwist);
+        }
+        Ok((size, count))
     }
 }
 
-// What is answered for n borders, each lent what the rulers before it leave of `room` bytes; nothing is written.
-fn measure(borders: &[i32], n: usize, m: u32, room: usize) -> Wrote
-    requires n_nonzero { (0 < n) × (n ≤ 16) }
-    requires borders_len { length borders.now ≡ 5 * n }
-    ensures { tell_wrote result ≡ walked m n 0 (borders_of borders.now) room }
+// What is answered for the borders, each lent what the rulers before it leave of `room` bytes; nothing is written.
+fn measure(borders: &[[i32; 5]], m: u32, room: usize) -> Result<(usize, usize), Refusal>
+    requires { length borders.now ≤ 16 }
+    ensures { tell result ≡ walked m (length borders.now) 0 (map border_from borders.now) room }
 {
     let mut at = 0;
     let mut marks = 0;
-    let mut i = 0;
-    while i < n {
-        let x = border_at(borders, 5 * i);
-        match settle(x, share_of(m, n, i), room - at) {
-            Wrote::Refused(r) => {
-                return Wrote::Refused(r);
-            }
-            Wrote::Bytes(size, count) => {
-                at += size;
-                marks += count;
-            }
-        }
-        i += 1;
+    for (i, numbers) in borders.iter().enumerate() {
+        let share = share_of(m, borders.len(), i);
+        let (size, count) = Border::of(numbers).settle(share, room - at)?;
+        at += size;
+        marks += count;
     }
-    Wrote::Bytes(at, marks)
+    Ok((at, marks))
+}
+
+// The rulers of borders that are all taken, one behind another.
+fn put(borders: &[[i32; 5]], m: u32, out: &mut [u8])
+    requires few { length borders.now ≤ 16 }
+    requires accepted { Accepted (walked m (length borders.now) 0 (map border_from borders.now) (length out.old)) }
+    ensures { out.new ≡ film_bytes m (length borders.now) 0 (map border_from borders.now) ++ drop (length (film_bytes m (length borders.now) 0 (map border_from borders.now))) out.old }
+{
+    let mut at = 0;
+    for (k, numbers) in borders.iter().enumerate() {
+        let x = Border::of(numbers);
+        let share = share_of(m, borders.len(), k);
+        at += put_border(x, share, &mut out[at..]);
+    }
 }
 
 // The ruler of a border that the writer takes, at the start of out; its number of bytes.
@@ -110,52 +119,22 @@ fn put_border(x: Border, m: u32, out: &mut [u8]) -> usize
     requires { Accepted (settled x m (length out.old)) }
     ensures { (result ≡ length (ruler_for m x)) × (out.new ≡ ruler_for m x ++ drop (length (ruler_for m x)) out.old) }
 {
-    let a = x.a;
-    let b = x.b;
-    let limit = x.limit;
-    match ruler::write_inside_twisted(a, b, limit, m, x.twist, out) {
-        Wrote::Bytes(size, _) => size,
-        Wrote::Refused(_) => 0,
-    }
-}
-
-// The rulers of n borders that are all taken, one behind another.
-fn put(borders: &[i32], n: usize, m: u32, out: &mut [u8])
-    requires n_nonzero { (0 < n) × (n ≤ 16) }
-    requires borders_len { length borders.now ≡ 5 * n }
-    requires accepted { Accepted (walked m n 0 (borders_of borders.now) (length out.old)) }
-    ensures { out.new ≡ film_bytes m n 0 (borders_of borders.now) ++ drop (length (film_bytes m n 0 (borders_of borders.now))) out.old }
-{
-    let mut at = 0;
-    let mut k = 0;
-    while k < n {
-        let x = border_at(borders, 5 * k);
-        let share = share_of(m, n, k);
-        at += put_border(x, share, &mut out[at..]);
-        k += 1;
+    match x.draft(m).write_twisted(x.twist, out) {
+        Ok((size, _)) => size,
+        Err(_) => 0,
     }
 }
 
 // The rulers of the borders, given as five numbers each, a, b, p, q and twist, under the mark limit m for the film: written to the start of
 // out once every border is accepted.
-pub fn write(borders: &[i32], m: u32, out: &mut [u8]) -> Wrote
-    ensures { (tell_wrote result, out.new) ≡ film_write borders.now m out.old }
+pub fn write(borders: &[i32], m: u32, out: &mut [u8]) -> Result<(usize, usize), Refusal>
+    ensures { (tell result, out.new) ≡ film_write borders.now m out.old }
 {
-    let n = borders.len() / 5;
-    if n == 0 {
-        return Wrote::Refused(Refusal::BorderCount);
+    let (fives, rest) = borders.as_chunks::<5>();
+    if fives.is_empty() || 16 < fives.len() || !rest.is_empty() {
+        return Err(Refusal::BorderCount);
     }
-    if 16 < n {
-        return Wrote::Refused(Refusal::BorderCount);
-    }
-    if borders.len() % 5 != 0 {
-        return Wrote::Refused(Refusal::BorderCount);
-    }
-    match measure(borders, n, m, out.len()) {
-        Wrote::Refused(r) => Wrote::Refused(r),
-        Wrote::Bytes(size, marks) => {
-            put(borders, n, m, out);
-            Wrote::Bytes(size, marks)
-        }
-    }
+    let (size, marks) = measure(fives, m, out.len())?;
+    put(fives, m, out);
+    Ok((size, marks))
 }

@@ -1,22 +1,27 @@
 -- The rules of the calls, by the tests that the code makes. Assumes nothing.
 use mathlib.Core.Path.{◌≡◌, refl, sym, ap, ◌∙◌}
 use mathlib.Core.Bool.{Bool, true, false, cond, not, ◌&&◌}
-use mathlib.Core.List.{List, [], ◌∷◌, ◌++◌}
+use mathlib.Core.List.{List}
 use Prim.Native.Nat.{ℕ, ◌≤◌, ◌<◌}
 use native.Mathlib.Omega.{arith}
-use borrow.Author.Tests.{le-ltb, lt-ltb, le-leb, lt-leb, leb-true, eqb-true}
-use lib.Dec.{eqb}
+use borrow.Author.Tests.{le-ltb, lt-ltb, leb-true, ltb-true, ltb-false}
+use lib.Dec.{ltb}
 use lib.IntN.{ℤ, nat_abs}
-use lib.ListN.{length, get_or, take, drop}
-use lib.Seq.{take-length}
-use Rattle.ranged1d.specs.Answer.{Answer, given, refused, list_written}
+use lib.ListN.{length}
+use Rattle.ranged1d.specs.Answer.{Answer, given, none, refused, list_written}
 use Rattle.ranged1d.specs.Admitted.{whole_admitted}
-use Rattle.ranged1d.proofs.Answers.{all-written}
-use Rattle.decimal.specs.Read.{value_of, same_bytes}
+use Rattle.ranged1d.proofs.Answers.{given_is, not_none}
+use Rattle.decimal.specs.Read.{same_bytes}
 use Rattle.decimal.proofs.Texts.{same_no}
-use Rattle.fixed.specs.Fixed.{fixed_text, unpointed, number_in, is_printed, fixed_print, fixed_read}
-use Rattle.fixed.specs.Steps.{keep_printed, keep_admitted, with_sign}
-use Rattle.fixed.proofs.Texts.{fixed_most, sign_size}
+use Rattle.fixed.specs.Fixed.{fixed_text, number_in, is_printed, fixed_print, fixed_read}
+use Rattle.fixed.specs.Steps.{decimals, printed}
+use Rattle.ranged1d.specs.Told.{tell, tell_option}
+use Rattle.ranged1d.specs.declared.Refusal.TheVariants.{NotADecimal}
+use Rattle.decimal.proofs.Reader.{then-told}
+use Rattle.std.specs.Prelude.{Option, Some, None}
+use Rattle.std.specs.Bool.{then_some}
+use Rattle.std.specs.Option.{ok_or}
+use Rattle.fixed.proofs.Texts.{fixed_most}
 
 -- ---- print
 module _ (x : ℤ) (f : ℕ) (old : List ℕ) where
@@ -38,7 +43,7 @@ module _ (s : List ℕ) (f : ℕ) where
   unfolding fixed_read
   read_24 h = rw (lt-ltb 6 f h)
 
-  pub read_by : f ≤ 6 → keep_admitted f s (number_in s) ≡ fixed_read s f
+  pub read_by : f ≤ 6 → cond (is_printed f s) (given (number_in s)) (refused 25) ≡ fixed_read s f
   unfolding fixed_read
   read_by h = rw (le-ltb 6 f h) (go (is_printed f s))
     where
@@ -47,37 +52,43 @@ module _ (s : List ℕ) (f : ℕ) where
       go false = refl
 
   -- no text is longer than twelve bytes
-  pub read_long : f ≤ 6 → 12 < length s → refused 25 ≡ fixed_read s f
-  read_long h l = sym (go (whole_admitted (number_in s)) refl) ∙ read_by h
+  pub not-printed : f ≤ 6 → 12 < length s → is_printed f s ≡ false
+  not-printed h l = go (whole_admitted (number_in s)) refl
     where
       other : whole_admitted (number_in s) ≡ true → s ≡ fixed_text f (number_in s) → ⊥
       other a e = omega (arith, ap length e, fixed_most f (number_in s) h (leb-true (nat_abs (number_in s)) 1000000000 a))
 
-      go : (t : Bool) → whole_admitted (number_in s) ≡ t → cond (t && same_bytes s (fixed_text f (number_in s))) (given (number_in s)) (refused 25) ≡ refused 25
-      go true a = rw (same_no s (fixed_text f (number_in s)) (other a))
+      go : (t : Bool) → whole_admitted (number_in s) ≡ t → (t && same_bytes s (fixed_text f (number_in s))) ≡ false
+      go true a = same_no s (fixed_text f (number_in s)) (other a)
       go false a = refl
 
-  -- a sign or none
-  pub number-minus : eqb (get_or s 0 0) 45 ≡ true → with_sign true (value_of 0 (unpointed (drop 1 s))) ≡ number_in s
-  unfolding number_in
-  number-minus e = rw e
+-- ---- how many decimals
+pub few : (f x : ℕ) → ◌≡◌ {A = Answer ℕ} (given x) (decimals f) → (f ≤ 6) × (x ≡ f)
+few f x e = go (ltb 6 f) refl e
+  where
+    go : (t : Bool) → ltb 6 f ≡ t → ◌≡◌ {A = Answer ℕ} (given x) (cond t (refused 24) (given f)) → (f ≤ 6) × (x ≡ f)
+    go true q h = cc
+    go false q h = (ltb-false 6 f q, given_is h)
 
-  pub number-plain : eqb (get_or s 0 0) 45 ≡ false → with_sign false (value_of 0 (unpointed s)) ≡ number_in s
-  unfolding number_in
-  number-plain e = rw e
+pub many : (f n : ℕ) → ◌≡◌ {A = Answer ℕ} (refused n) (decimals f) → (6 < f) × (n ≡ 24)
+many f n e = go (ltb 6 f) refl e
+  where
+    go : (t : Bool) → ltb 6 f ≡ t → ◌≡◌ {A = Answer ℕ} (refused n) (cond t (refused 24) (given f)) → (6 < f) × (n ≡ 24)
+    go true q h = let s : n ≡ 24 = cc in (ltb-true 6 f q, s)
+    go false q h = cc
 
-pub signed-some : (s : List ℕ) → eqb (get_or s 0 0) 45 ≡ true → 1 ≤ length s
-signed-some [] e = let z : ◌≡◌ {A = ℕ} 0 45 = eqb-true 0 45 e in absurd (omega arith)
-signed-some (c ∷ cs) e = omega arith
+-- ---- the reader's answer
+pub printed-by : (s : List ℕ) (f : ℕ) (x : ℤ) (b : Bool) → x ≡ number_in s → b ≡ (whole_admitted x && same_bytes s (fixed_text f x)) → tell_option (then_some b x) ≡ printed f s
+printed-by s f x b e q = then-told b x ∙ rw (q, e)
 
--- ---- the steps of the reader
-pub too_large : (f : ℕ) (s : List ℕ) (t : Bool) (n : ℕ) → 1000000000 < n → refused 25 ≡ keep_admitted f s (with_sign t n)
-too_large f s t n h = rw (lt-leb (nat_abs (with_sign t n)) 1000000000 (rw (sign_size t n) h))
-
-pub small_enough : (f : ℕ) (s : List ℕ) (t : Bool) (n : ℕ) → n ≤ 1000000000 → keep_printed f s (with_sign t n) ≡ keep_admitted f s (with_sign t n)
-small_enough f s t n h = rw (le-leb (nat_abs (with_sign t n)) 1000000000 (rw (sign_size t n) h))
-
--- ---- a text copied to the start of lent memory
-pub put_written : (l z y old : List ℕ) (n : ℕ) → length l ≡ n → z ≡ l → n ≤ length old → y ≡ take (length z) z ++ drop (length z) old → (given n, y) ≡ list_written l old
-put_written l z y old n size q h e =
-    ap (λ (r : List ℕ). (given n, r)) (e ∙ rw (q, take-length l, size) refl) ∙ all-written l old n size h
+pub or-25 : (o : Option ℤ) (f : ℕ) (s : List ℕ) → tell_option o ≡ printed f s → tell (ok_or o NotADecimal) ≡ cond (is_printed f s) (given (number_in s)) (refused 25)
+or-25 (Some x) f s e = go (is_printed f s) e
+  where
+    go : (t : Bool) → given x ≡ cond t (given (number_in s)) none → given x ≡ cond t (given (number_in s)) (refused 25)
+    go true q = q
+    go false q = absurd (not_none (sym q))
+or-25 None f s e = go (is_printed f s) e
+  where
+    go : (t : Bool) → none ≡ cond t (given (number_in s)) none → ◌≡◌ {A = Answer ℤ} (refused 25) (cond t (given (number_in s)) (refused 25))
+    go true q = absurd (not_none q)
+    go false q = refl

@@ -1,15 +1,15 @@
 -- Decimals: the last digits of a number, written from the right, and the point before them. Assumes nothing.
-use mathlib.Core.Path.{◌≡◌, refl, sym, ap, ap₂, ◌∙◌}
-use mathlib.Core.List.{List, [], ◌∷◌, ◌++◌, append_assoc}
+use mathlib.Core.Path.{◌≡◌, refl, sym, ap, ◌∙◌}
+use mathlib.Core.List.{List, [], ◌∷◌, ◌++◌, append_assoc, append-nil}
 use Prim.Native.Nat.{ℕ, zero, suc, ◌+◌, ◌-◌, ◌/◌, ◌%◌, ◌^◌, ◌≤◌, ◌<◌}
 use native.Mathlib.Nat.{pow-succ', div-div-eq-div-mul, div-one}
 use native.Mathlib.Omega.{arith}
-use lib.ListN.{length, set, take, drop, replicate, length-append, length-set, length-replicate, replicate-append-replicate, take-append-drop}
-use lib.Seq.{drop-cons, get_or-set_same, drop-set-lt, take-set-le, take_at, drop_at}
-use Rattle.decimal.specs.Print.{point, digit}
+use lib.ListN.{length, get_or, set, take, length-append}
+use Rattle.std.proofs.lemmas.List.{length-take-le}
+use Rattle.std.proofs.lemmas.Grind.{pow_more}
+use lib.Seq.{take-suc, set_at, take_all}
+use Rattle.decimal.specs.Print.{digit}
 use Rattle.fixed.specs.Fixed.{last_digits, fraction}
-use Rattle.fixed.specs.declared.Fraction.{Fraction}
-use Rattle.fixed.specs.Steps.{fraction_of, fraction_length}
 
 pub last-length : (f n : ℕ) → length (last_digits f n) ≡ f
 unfolding last_digits
@@ -20,69 +20,61 @@ last-length (suc f) n = length-append (last_digits f (n / 10)) (digit (n % 10) �
 pub tenths : (f n : ℕ) → n / 10 ^ suc f ≡ n / 10 / 10 ^ f
 tenths f n = ap (λ (k : ℕ). n / k) (pow-succ' 10 f) ∙ sym (div-div-eq-div-mul n 10 (10 ^ f))
 
--- ---- a list with the last j digits of m behind its first byte
-abbrev pub Put : List ℕ → ℕ → ℕ → List ℕ
-Put o j m = take 1 o ++ (last_digits j m ++ drop (j + 1) o)
-
-drop_set_same : (l : List ℕ) (i a : ℕ) → i < length l → drop i (set l i a) ≡ a ∷ drop (suc i) l
-drop_set_same l i a h =
-    drop-cons (set l i a) i 0 (rw (length-set l i a) h) ∙ ap₂ (λ (x : ℕ) (r : List ℕ). x ∷ r) (get_or-set_same l i a 0 h) (drop-set-lt (suc i) l i a (omega arith))
-
--- one digit is written
-pub put_step : (o : List ℕ) (j m : ℕ) → 0 < j → j < length o → Put o j m ≡ Put (set o j (48 + m % 10)) (j - 1) (m / 10)
+-- one more of the last digits stands in front of the others
+last-front : (f n : ℕ) → last_digits (suc f) n ≡ digit (n / 10 ^ f % 10) ∷ last_digits f n
 unfolding last_digits
-put_step o zero m p h = absurd (omega arith)
-put_step o (suc j) m p h =
-    let e : suc j - 1 ≡ j = omega arith in
-    let s : j + 1 ≡ suc j = omega arith in
-    let t : suc j + 1 ≡ suc (suc j) = omega arith in
-    rw (e, s, t, take-set-le 1 o (suc j) (48 + m % 10), drop_set_same o (suc j) (48 + m % 10) h, append_assoc (last_digits j (m / 10)) ((48 + m % 10) ∷ []) (drop (suc (suc j)) o))
+last-front zero n = ap (λ (k : ℕ). digit (k % 10) ∷ []) (sym (div-one n))
+last-front (suc f) n = ap (λ (l : List ℕ). l ++ (digit (n % 10) ∷ [])) (last-front f (n / 10)) ∙ ap (λ (k : ℕ). digit (k % 10) ∷ last_digits (suc f) n) (sym (tenths f n))
 
-pub put_none : (o : List ℕ) (m : ℕ) → Put o 0 m ≡ o
-unfolding last_digits
-put_none o m = take-append-drop 1 o
+-- ---- twelve bytes that end in the last digits of n: how one is put in front of them, digit or point
+put-front : (o l : List ℕ) (m d : ℕ) → m < length o → set (take (m + 1) o ++ l) m d ≡ take m o ++ (d ∷ l)
+put-front o l m d h =
+    let e : m + 1 ≡ suc m = omega arith in
+    rw (e, take-suc o m 0 h, append_assoc (take m o) (get_or o m 0 ∷ []) l) (set_at (take m o) (get_or o m 0) l d m (length-take-le m o (omega arith)))
 
-pub rest_step : (j m : ℕ) → 0 < j → m / 10 ^ j ≡ m / 10 / 10 ^ (j - 1)
-rest_step zero m p = absurd (omega arith)
-rest_step (suc j) m p = let e : suc j - 1 ≡ j = omega arith in rw e (tenths j m)
+abbrev pub Put : List ℕ → ℕ → List ℕ → List ℕ
+Put o f l = take (12 - f) o ++ l
 
-pub rest-none : (m : ℕ) → m / 10 ^ 0 ≡ m
-rest-none m = div-one m
+module _ (o : List ℕ) (twelve : length o ≡ 12) where
+  pub put-digit : (f n d : ℕ) → f < 12 → d ≡ n / 10 ^ f % 10 → set (Put o f (last_digits f n)) (11 - f) (48 + d) ≡ Put o (f + 1) (last_digits (f + 1) n)
+  put-digit f n d h e =
+      let a : 12 - f ≡ 11 - f + 1 = omega arith in
+      let b : 12 - (f + 1) ≡ 11 - f = omega arith in
+      let g : f + 1 ≡ suc f = omega arith in
+      rw (a, b, g, last-front f n, e) (put-front o (last_digits f n) (11 - f) (48 + n / 10 ^ f % 10) (omega arith))
 
--- ---- a tail as the code has it: seven points, of which the last digits of n take the place of the ones behind the first
-points_left : (f k : ℕ) → drop f (replicate (f + k) point) ≡ replicate k point
-points_left f k = ap (λ (l : List ℕ). drop f l) (sym (replicate-append-replicate {A = ℕ} f k point)) ∙ drop_at (replicate f point) (replicate k point) f (length-replicate {A = ℕ} f point)
+  pub put-point : (f n : ℕ) → (f ≡ 0 → ⊥) → f < 12 → set (Put o f (last_digits f n)) (11 - f) 46 ≡ take (11 - f) o ++ fraction f n
+  unfolding fraction
+  put-point zero n z h = absurd (z refl)
+  put-point (suc f) n z h =
+      let a : 12 - suc f ≡ 11 - suc f + 1 = omega arith in
+      rw a (put-front o (last_digits (suc f) n) (11 - suc f) 46 (omega arith))
 
-pub tail_points : (f n : ℕ) → f ≤ 6 → Put (replicate 7 point) f n ≡ (fraction_of f n).bytes
-tail_points f n h =
-    let e : f + 1 + (6 - f) ≡ 7 = omega arith in
-    ap (λ (l : List ℕ). point ∷ (last_digits f n ++ l)) (ap (λ (k : ℕ). drop (f + 1) (replicate k point)) (sym e) ∙ points_left (f + 1) (6 - f))
+  pub put-start : (n : ℕ) → o ≡ Put o 0 (last_digits 0 n)
+  unfolding last_digits
+  put-start n = sym (append-nil (take 12 o) ∙ take_all 12 o (omega arith))
 
-pub tail_long : (f n : ℕ) → f ≤ 6 → length (fraction_of f n).bytes ≡ 7
-tail_long f n h =
-    rw (length-append (last_digits f n) (replicate (6 - f) point), length-replicate {A = ℕ} (6 - f) point, last-length f n) (omega arith)
+  pub put-none : (f n : ℕ) → f ≡ 0 → o ≡ take 12 o ++ fraction f n
+  unfolding fraction
+  put-none f n e = rw (e, take_all 12 o (omega arith)) (sym (append-nil o))
 
--- what is printed of it
-pub tail_text : (f n : ℕ) → take (fraction_length f) (fraction_of f n).bytes ≡ fraction f n
+pub no-fraction : (f n : ℕ) → f ≡ 0 → length (fraction f n) ≡ 0
 unfolding fraction
-tail_text zero n = refl
-tail_text (suc f) n = ap (λ (l : List ℕ). point ∷ l) (take_at (last_digits (suc f) n) (replicate (6 - suc f) point) (suc f) (last-length (suc f) n))
+no-fraction f n e = rw e
 
-pub tail_none : (f : ℕ) → f ≡ 0 → 0 ≡ fraction_length f
-tail_none f e = rw e
-
-pub tail_some : (f : ℕ) → (f ≡ 0 → ⊥) → f + 1 ≡ fraction_length f
-tail_some zero h = absurd (h refl)
-tail_some (suc f) h = omega arith
-
-pub tail_most : (f : ℕ) → fraction_length f ≤ f + 1
-tail_most zero = omega arith
-tail_most (suc f) = omega arith
-
-pub decimals-length : (f n : ℕ) → length (fraction f n) ≡ fraction_length f
+pub fraction-length : (f n : ℕ) → (f ≡ 0 → ⊥) → length (fraction f n) ≡ f + 1
 unfolding fraction
-decimals-length zero n = refl
-decimals-length (suc f) n = ap suc (last-length (suc f) n)
+fraction-length zero n z = absurd (z refl)
+fraction-length (suc f) n z = omega (arith, last-length (suc f) n)
 
-pub tail_is : (f n : ℕ) (b : List ℕ) (r : ℕ) → f ≤ 6 → b ≡ Put (replicate 7 point) f n → r ≡ n / 10 ^ f → ◌≡◌ {A = Fraction} (record { bytes = b; rest = r }) (fraction_of f n)
-tail_is f n b r h e d = ap₂ (λ (l : List ℕ) (m : ℕ). record { bytes = l; rest = m }) (e ∙ tail_points f n h) d
+pub fraction-most : (f n : ℕ) → length (fraction f n) ≤ f + 1
+unfolding fraction
+fraction-most zero n = omega arith
+fraction-most (suc f) n = omega (arith, last-length (suc f) n)
+
+-- what is left of n without its last digits
+pub rest-one : (f n : ℕ) → n / 10 ^ f / 10 ≡ n / 10 ^ (f + 1)
+rest-one f n = div-div-eq-div-mul n (10 ^ f) 10 ∙ ap (λ (k : ℕ). n / k) (sym (pow_more 10 f))
+
+pub rest-none : (f n : ℕ) → f ≡ 0 → n ≡ n / 10 ^ f
+rest-none f n e = rw e (sym (div-one n))

@@ -3,3 +3,4 @@ pub mod Texts
 pub mod Calls
 pub mod Theorems
 pub mod Worked
+pub mod Written

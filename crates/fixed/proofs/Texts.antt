@@ -1,78 +1,30 @@
 -- Texts with a point: how they are put together, how long they are, and what number they stand for. Assumes nothing.
-use mathlib.Core.Path.{◌≡◌, refl, sym, ap, ap₂, ◌∙◌, subst}
-use mathlib.Core.Bool.{Bool, true, false, cond}
+use mathlib.Core.Path.{◌≡◌, refl, sym, ap, ap₂, ◌∙◌}
+use mathlib.Core.Bool.{Bool, true, false, true≢false, cond, ◌&&◌}
+use lib.Pointwise.{pointwise}
+use Rattle.std.specs.Fmt.{decimal as written}
+use Rattle.std.proofs.lemmas.Grind.{pow_more}
+use native.Mathlib.Numerals.{add-one}
 use mathlib.Core.List.{List, [], ◌∷◌, ◌++◌}
-use mathlib.Core.Logic.{◌⊎◌, inl, inr}
 use Prim.Native.Nat.{ℕ, zero, suc, ◌+◌, ◌-◌, ◌*◌, ◌/◌, ◌%◌, ◌^◌, ◌≤◌, ◌<◌}
 use native.Mathlib.Nat.{div-one, div-add-mod', div-lt_iff_lt-mul, pow-le-pow_right, zero-lt-suc, lt_of_lt_of_le}
 use lib.Pow.{pow-add}
 use native.Mathlib.Omega.{arith}
 use borrow.Author.Tests.{le-ltb, eq-eqb, ne_eqb}
-use borrow.Rule.Slice.PartMut.{put_mid}
 use lib.Dec.{eqb}
 use lib.IntN.{ℤ, pos, negsuc, neg_ℤ, nat_abs}
 use lib.Signed.{lt_z}
-use lib.ListN.{length, get_or, take, drop, replicate, length-append, length-drop, length-replicate, replicate-append-replicate, drop_of_length-le, get_or-append}
-use lib.Seq.{take-length, take_at, drop_at, drop-cons}
-use Rattle.ranged1d.proofs.Bools.{le_or}
-use Rattle.ranged1d.proofs.Pieces.{put_more}
-use Rattle.decimal.specs.Print.{point, digit, minus, digits, natural, signed_digits}
+use lib.ListN.{length, get_or, take, drop, replicate, length-append, length-replicate, drop_of_length-le, get_or-append}
+use Rattle.std.proofs.lemmas.List.{take-replicate}
+use lib.Seq.{drop-cons, drop_at, take-append-le}
+use Rattle.ranged1d.proofs.Bools.{both_true}
+use Rattle.decimal.specs.Print.{point, digit, minus, digits, natural}
 use Rattle.decimal.specs.Read.{value_of}
-use Rattle.decimal.proofs.Digits.{digits_by, digits_fuel, digits-few, digits-most}
+use Rattle.decimal.proofs.Digits.{digits_by, digits-few}
+use Rattle.fixed.proofs.Written.{digits-written}
 use Rattle.decimal.proofs.Reader.{digits_head, value-append, value-digits}
-use Rattle.fixed.specs.declared.Spelt.{Spelt}
 use Rattle.fixed.specs.Fixed.{last_digits, fraction, size_text, fixed_text, unpointed, number_in}
-use Rattle.decimal.proofs.Texts.{Room, room_anti}
-use Rattle.fixed.specs.Steps.{spelt_of, fraction_length, with_sign}
-use Rattle.fixed.proofs.Fractions.{tenths, decimals-length, tail_most}
-
-pub empty-plain : (s : List ℕ) → length s ≡ 0 → false ≡ eqb (get_or s 0 0) 45
-empty-plain [] e = refl
-empty-plain (c ∷ cs) e = absurd (omega arith)
-
--- ---- two pieces copied into twelve bytes, one behind the other
-zeros_left : (k : ℕ) → k ≤ 12 → drop k (replicate {A = ℕ} 12 0) ≡ replicate (12 - k) 0
-zeros_left k h =
-    let e : k + (12 - k) ≡ 12 = omega arith in
-    ap (λ (n : ℕ). drop k (replicate {A = ℕ} n 0)) (sym e)
-    ∙ ap (λ (l : List ℕ). drop k l) (sym (replicate-append-replicate {A = ℕ} k (12 - k) 0))
-    ∙ drop_at (replicate k 0) (replicate (12 - k) 0) k (length-replicate {A = ℕ} k 0)
-
-pub joined : (r d z₁ z₂ y₁ y₂ : List ℕ) (k n : ℕ) → z₁ ≡ r → z₂ ≡ d → k ≡ length z₁ → n ≡ length d → length r + length d ≤ 12
-    → y₁ ≡ take (length z₁) z₁ ++ drop (length z₁) (replicate 12 0)
-    → y₂ ≡ take (length z₂) z₂ ++ drop (length z₂) (take (12 - k) (drop k y₁))
-    → ◌≡◌ {A = Spelt} (record { bytes = put_mid k (12 - k) y₁ y₂; long = k + n }) (spelt_of (r ++ d))
-joined r d z₁ z₂ y₁ y₂ k n p q ek en h e₁ e₂ = ap₂ (λ (b : List ℕ) (m : ℕ). record { bytes = b; long = m }) bytes-are long_is
-  where
-    k_is : length r ≡ k
-    k_is = sym (ek ∙ ap length p)
-
-    first : y₁ ≡ r ++ drop k (replicate 12 0)
-    first = e₁ ∙ rw (p, take-length r, k_is) refl
-
-    whole : length y₁ ≡ 12
-    whole = ap length first ∙ length-append r (drop k (replicate 12 0)) ∙ (let e : length (drop k (replicate {A = ℕ} 12 0)) ≡ 12 - k = length-drop k (replicate {A = ℕ} 12 0) in omega (arith, k_is, h))
-
-    second : y₂ ≡ d ++ drop n (take (length y₁ - k) (drop k y₁))
-    second = e₂ ∙ rw (q, take-length d, whole, en) refl
-
-    long_is : k + n ≡ length (r ++ d)
-    long_is = rw (length-append r d) (omega (arith, k_is, en))
-
-    bytes-are : put_mid k (12 - k) y₁ y₂ ≡ (r ++ d) ++ replicate (12 - length (r ++ d)) 0
-    bytes-are =
-        ap (λ (m : ℕ). put_mid k (m - k) y₁ y₂) (sym whole)
-        ∙ put_more k n r d (replicate 12 0) y₁ y₂ k_is first second
-        ∙ ap (λ (l : List ℕ). (r ++ d) ++ l) (ap (λ (m : ℕ). drop m (replicate {A = ℕ} 12 0)) long_is ∙ zeros_left (length (r ++ d)) (rw (length-append r d) h))
-
--- ---- more room for digits than a number needs changes nothing
-pub fuel : (f g n : ℕ) → f ≤ g → n < 10 ^ suc f → digits f n ≡ digits g n
-fuel f zero n h s = let e : f ≡ 0 = omega arith in rw e
-fuel f (suc g) n h s = go (le_or f g) (fuel f g n)
-  where
-    go : (f ≤ g) ⊎ (g < f) → (f ≤ g → n < 10 ^ suc f → digits f n ≡ digits g n) → digits f n ≡ digits (suc g) n
-    go (inl l) r = r l s ∙ digits_fuel g n (lt_of_lt_of_le s (pow-le-pow_right (zero-lt-suc 9) (omega arith)))
-    go (inr l) r = let e : f ≡ suc g = omega arith in rw e
+use Rattle.fixed.proofs.Fractions.{tenths, fraction-most}
 
 -- ---- how long a text is
 pub tens_pos : (f : ℕ) → 0 < 10 ^ f
@@ -91,29 +43,55 @@ module _ (f n : ℕ) (few : f ≤ 6) (small : n ≤ 1000000000) where
   size-most : length (size_text f n) ≤ 11
   unfolding size_text
   size-most =
-      rw (length-append (natural (n / 10 ^ f)) (fraction f n), decimals-length f n)
-      (omega (arith, digits-few 9 (9 - f) (n / 10 ^ f) whole_small, tail_most f))
+      rw (length-append (natural (n / 10 ^ f)) (fraction f n))
+      (omega (arith, digits-few 9 (9 - f) (n / 10 ^ f) whole_small, fraction-most f n))
 
 pub fixed_most : (f : ℕ) (z : ℤ) → f ≤ 6 → nat_abs z ≤ 1000000000 → length (fixed_text f z) ≤ 12
 fixed_most f (pos n) h s = omega (arith, size-most f n h s)
 fixed_most f (negsuc n) h s = omega (arith, size-most f (suc n) h s)
 
--- ---- the text from its sign, the digits in front and the tail
-pub front-text : (f : ℕ) (z : ℤ) → f ≤ 6 → nat_abs z ≤ 1000000000 → signed_digits (lt_z z (pos 0)) 19 (nat_abs z / 10 ^ f) ++ fraction f (nat_abs z) ≡ fixed_text f z
-unfolding size_text
-front-text f (pos n) h s = rw (le-ltb n 0 (omega arith)) (ap (λ (l : List ℕ). l ++ fraction f n) (sym (fuel 9 19 (n / 10 ^ f) (omega arith) (whole-under f n h s))))
-front-text f (negsuc n) h s = ap (λ (l : List ℕ). minus ∷ (l ++ fraction f (suc n))) (sym (fuel 9 19 (suc n / 10 ^ f) (omega arith) (whole-under f (suc n) h s)))
+-- ---- the text by its sign and size
+pub text-signed : (f : ℕ) (z : ℤ) (n : ℕ) → n ≡ nat_abs z → cond (lt_z z (pos 0)) (minus ∷ size_text f n) (size_text f n) ≡ fixed_text f z
+text-signed f (pos k) n e = rw (le-ltb k 0 (omega arith), e) refl
+text-signed f (negsuc k) n e = rw e refl
 
-pub front-most : (t : Bool) (n : ℕ) → length (signed_digits t 19 n) ≤ 21
-front-most true n = omega (arith, digits-most 19 n)
-front-most false n = omega (arith, digits-most 19 n)
+-- ---- twelve bytes with a fraction at their end, and what stands in front of it
+module _ (f n r e : ℕ) (few : f ≤ 6) (small : n ≤ 1000000000) (rest : r ≡ n / 10 ^ f) (ends : e + length (fraction f n) ≡ 12) where
+  size-is : size_text f n ≡ written r ++ fraction f n
+  unfolding size_text
+  size-is =
+      ap (λ (l : List ℕ). l ++ fraction f n) (digits-written 9 (n / 10 ^ f) (whole-under f n few small) (omega (arith, whole-under f n few small)))
+      ∙ ap (λ (k : ℕ). written k ++ fraction f n) (sym rest)
 
--- front and tail have room in twelve bytes
-pub front_room : (f : ℕ) (z : ℤ) → f ≤ 6 → nat_abs z ≤ 1000000000 → length (signed_digits (lt_z z (pos 0)) 19 (nat_abs z / 10 ^ f)) + fraction_length f ≤ 12
-front_room f z h s =
-    let l = signed_digits (lt_z z (pos 0)) 19 (nat_abs z / 10 ^ f) in
-    let e : length l + length (fraction f (nat_abs z)) ≡ length (fixed_text f z) = sym (length-append l (fraction f (nat_abs z))) ∙ ap length (front-text f z h s) in
-    omega (arith, e, decimals-length f (nat_abs z), fixed_most f z h s)
+  size-length : length (size_text f n) ≡ length (written r) + length (fraction f n)
+  size-length = ap length size-is ∙ length-append (written r) (fraction f n)
+
+  -- the digits and a sign have room
+  pub digits-room : length (written r) + 1 ≤ e
+  digits-room = omega (arith, size-length, size-most f n few small)
+
+  module _ (b t : List ℕ) (i : ℕ) (bytes : b ≡ take e (replicate 12 32) ++ fraction f n) (start : i + length (written r) ≡ e) (behind : drop i t ≡ written r ++ drop e b) (before : take i t ≡ take i b) where
+    front : b ≡ replicate e 32 ++ fraction f n
+    front = bytes ∙ ap (λ (l : List ℕ). l ++ fraction f n) (take-replicate e 12 32 (omega arith))
+
+    begins : i + length (size_text f n) ≡ 12
+    begins = omega (arith, size-length)
+
+    some-left : 0 < i
+    some-left = omega (arith, digits-room)
+
+    text-behind : drop i t ≡ size_text f n
+    text-behind = behind ∙ ap (λ (l : List ℕ). written r ++ drop e l) front ∙ ap (λ (l : List ℕ). written r ++ l) (drop_at (replicate e 32) (fraction f n) e (length-replicate {A = ℕ} e 32)) ∙ sym size-is
+
+    blanks-before : take i t ≡ replicate i 32
+    blanks-before =
+        let l : i ≤ e = omega arith in
+        let m : i ≤ length (replicate {A = ℕ} e 32) = omega (arith, length-replicate {A = ℕ} e 32) in
+        before ∙ ap (λ (l : List ℕ). take i l) front ∙ take-append-le i (replicate e 32) (fraction f n) m ∙ take-replicate i e 32 l
+
+    -- where the text begins, that a blank is left there, what stands from there on, and what before
+    pub stands : (i + length (size_text f n) ≡ 12) × (0 < i) × (drop i t ≡ size_text f n) × (take i t ≡ replicate i 32)
+    stands = (begins, some-left, text-behind, blanks-before)
 
 -- ---- the number that a text stands for
 unpoint_append : (l k : List ℕ) → unpointed (l ++ k) ≡ unpointed l ++ unpointed k
@@ -175,57 +153,34 @@ number-text f (pos n) = rw (ne_eqb (get_or (size_text f n) 0 0) 45 (λ e. omega 
 number-text f (negsuc n) = ap (λ (k : ℕ). neg_ℤ (pos k)) (value-size f (suc n))
 
 -- ---- one byte more
-pub on_point : (n c : ℕ) → c ≡ point → n ≡ value_of n (unpointed (c ∷ []))
+module _ (s : List ℕ) (i n : ℕ) (h : i < length s) where
+  pub value-point : get_or s i 0 ≡ 46 → value_of n (unpointed (drop i s)) ≡ value_of n (unpointed (drop (i + 1) s))
+  unfolding unpointed
+  value-point e = rw (add-one, drop-cons s i 0 h, eq-eqb (get_or s i 0) 46 e)
+
+  pub value-digit : (get_or s i 0 ≡ 46 → ⊥) → value_of n (unpointed (drop i s)) ≡ value_of (n * 10 + (get_or s i 0 - 48)) (unpointed (drop (i + 1) s))
+  unfolding unpointed value_of
+  value-digit e = rw (add-one, drop-cons s i 0 h, ne_eqb (get_or s i 0) 46 e)
+
+pub value-end : (s : List ℕ) (n : ℕ) → value_of n (unpointed (drop (length s) s)) ≡ n
 unfolding value_of unpointed
-on_point n c e = rw (eq-eqb c 46 e)
+value-end s n = rw (drop_of_length-le s {i = length s} (omega arith))
 
-pub on_digit : (n c : ℕ) → (c ≡ point → ⊥) → n * 10 + (c - 48) ≡ value_of n (unpointed (c ∷ []))
-unfolding value_of unpointed
-on_digit n c h = rw (ne_eqb c 46 h)
+-- a point leaves the value below the bound of one byte more
+pub value-stays : (i n : ℕ) → n + 23 ≤ 23 * 10 ^ i → n + 23 ≤ 23 * 10 ^ (i + 1)
+value-stays i n h = omega (arith, pow_more 10 i)
 
-pub value_on : (s : List ℕ) (i n : ℕ) → i < length s → value_of n (unpointed (drop i s)) ≡ value_of (value_of n (unpointed (get_or s i 0 ∷ []))) (unpointed (drop (i + 1) s))
-value_on s i n h =
-    let e : i + 1 ≡ suc i = omega arith in
-    ap (λ (l : List ℕ). value_of n (unpointed l)) (drop-cons s i 0 h)
-    ∙ ap (λ (l : List ℕ). value_of n l) (unpoint_append (get_or s i 0 ∷ []) (drop (suc i) s))
-    ∙ value-append n (unpointed (get_or s i 0 ∷ [])) (unpointed (drop (suc i) s))
-    ∙ ap (λ (k : ℕ). value_of (value_of n (unpointed (get_or s i 0 ∷ []))) (unpointed (drop k s))) (sym e)
+-- ---- the number behind a minus sign, or without one
+pub number-minus : (s : List ℕ) → pointwise eqb (take 1 s) (45 ∷ []) ≡ true → number_in s ≡ neg_ℤ (pos (value_of 0 (unpointed (drop 1 s))))
+unfolding number_in
+number-minus [] h = absurd (true≢false (sym h))
+number-minus (c ∷ cs) h = rw ((both_true (eqb c 45) true h).0)
 
-pub value-end : (s : List ℕ) (i n : ℕ) → length s ≤ i → value_of n (unpointed (drop i s)) ≡ n
-unfolding value_of unpointed
-value-end s i n h = rw (drop_of_length-le s h)
-
--- the value of twelve bytes stays small
-pub room_start : (at : ℕ) → at ≤ 1 → Room (12 - at) 0
-room_start zero h = omega arith
-room_start (suc zero) h = omega arith
-room_start (suc (suc k)) h = absurd (omega arith)
-
-pub room_step : (i n r : ℕ) → i < 12 → r ≤ n * 10 + 207 → Room (12 - i) n → Room (12 - (i + 1)) r
-room_step i n r h l s =
-    let e : 12 - i ≡ suc (12 - (i + 1)) = omega arith in
-    room_anti (12 - (i + 1)) l (subst (λ (k : ℕ). Room k n) e s)
-
--- ---- a text in twelve bytes
-pub record Spells (t : List ℕ) (s : Spelt) : Type 0 where
-  pub low : s.long ≤ 12
-  pub whole : length s.bytes ≡ 12
-  pub text : take s.long s.bytes ≡ t
-  pub long : s.long ≡ length t
-
-pub spells : (t : List ℕ) → length t ≤ 12 → {s : Spelt} → s ≡ spelt_of t → Spells t s
-spells t h e = subst (λ (s : Spelt). Spells t s) (sym e) told
+pub number-plain : (s : List ℕ) → pointwise eqb (take 1 s) (45 ∷ []) ≡ false → number_in s ≡ pos (value_of 0 (unpointed s))
+unfolding number_in
+number-plain [] h = refl
+number-plain (c ∷ cs) h = go (eqb c 45) h
   where
-    told : Spells t (spelt_of t)
-    told = record {
-      low = h;
-      whole = rw (length-append t (replicate (12 - length t) 0), length-replicate {A = ℕ} (12 - length t) 0) (omega arith);
-      text = take_at t (replicate (12 - length t) 0) (length t) refl;
-      long = refl;
-    }
-
--- ---- a number by its sign and size
-pub sign_size : (t : Bool) (n : ℕ) → nat_abs (with_sign t n) ≡ n
-sign_size true zero = refl
-sign_size true (suc n) = refl
-sign_size false n = refl
+    go : (t : Bool) → (t && true) ≡ false → cond t (neg_ℤ (pos (value_of 0 (unpointed cs)))) (pos (value_of 0 (unpointed (c ∷ cs)))) ≡ pos (value_of 0 (unpointed (c ∷ cs)))
+    go true k = absurd (true≢false k)
+    go false k = refl

@@ -22,7 +22,6 @@ use Rattle.decimal.proofs.Digits.{tenth_small, digits-one}
 use Rattle.decimal.proofs.Texts.{same_self, same-equal}
 use Rattle.decimal.proofs.Reader.{digits_head}
 use Rattle.fixed.specs.Fixed.{fraction, size_text, fixed_text, number_in, is_printed, fixed_reasons, fixed_print, fixed_read}
-use Rattle.fixed.specs.Steps.{keep_admitted}
 use Rattle.fixed.specs.Theorems.{Undone, Shaped, NoPoint}
 use Rattle.fixed.proofs.Texts.{tens_pos, number-text, fixed_most}
 use Rattle.fixed.proofs.Fractions.{last-length}
@@ -32,10 +31,7 @@ module _ (f : ℕ) where
   -- what is printed of an admitted number is read as that number
   reads : f ≤ 6 → (z : ℤ) → whole_admitted z ≡ true → fixed_read (fixed_text f z) f ≡ given z
   reads h z a =
-      let s = fixed_text f z in
-      sym (read_by s f h)
-      ∙ ap (λ (y : ℤ). keep_admitted f s y) (number-text f z)
-      ∙ rw (a, same_self (fixed_text f z))
+      sym (read_by (fixed_text f z) f h) ∙ rw (number-text f z, a, same_self (fixed_text f z))
 
   -- what is_printed holds of is what is printed of the number that is given
   printed : (s : List ℕ) (z : ℤ) → fixed_read s f ≡ given z → (f ≤ 6) × (whole_admitted z ≡ true) × (s ≡ fixed_text f z)

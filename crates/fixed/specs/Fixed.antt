@@ -1,24 +1,10 @@
 -- 02 (k): a whole number whose last f digits are taken as decimals, as a text, and the reader of such texts. A text is a list of bytes. f is a variable
 -- throughout: no rule has a case for each f, but that 0 has no point. Assumes nothing.
 use Rattle.std.specs.Prelude.{ℕ, zero, suc, ◌/◌, ◌%◌, ◌^◌, Bool, cond, not, ◌&&◌, List, [], ◌∷◌, ◌++◌, ltb, eqb, ℤ, pos, negsuc, neg_ℤ, length, get_or, drop}
-use Rattle.ranged1d.specs.Answer.{Answer, given, refused, Reason, ◌when◌, lowest, written}
-use Rattle.ranged1d.specs.Refusals.{number_of}
+use Rattle.ranged1d.specs.Answer.{Answer, given, Reason, ◌when◌, lowest, written}
 use Rattle.ranged1d.specs.Admitted.{whole_admitted}
 use Rattle.decimal.specs.Print.{digit, minus, point, natural}
 use Rattle.decimal.specs.Read.{value_of, same_bytes}
-use Rattle.fixed.specs.declared.Printed.{Printed}
-use Rattle.fixed.specs.declared.Printed.TheVariants as printed_is
-use Rattle.fixed.specs.declared.Number.{Number}
-use Rattle.fixed.specs.declared.Number.TheVariants as number_is
-
--- ---- the answers' cases, by values and numbers: how many bytes were written; the number that was read
-abbrev pub tell_printed : Printed → Answer ℕ
-tell_printed (printed_is.Written n) = given n
-tell_printed (printed_is.Refused r) = refused (number_of r)
-
-abbrev pub tell_number : Number → Answer ℤ
-tell_number (number_is.Whole z) = given z
-tell_number (number_is.Refused r) = refused (number_of r)
 
 -- ---- the text
 -- the last f digits of n; where n has fewer, zeros stand in front

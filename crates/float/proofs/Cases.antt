@@ -1,21 +1,24 @@
 -- The definitions, opened case by case. Assumes nothing.
 use mathlib.Core.Path.{◌≡◌, refl, sym, ap, ◌∙◌}
-use mathlib.Core.Bool.{Bool, cond, ◌&&◌, and-false}
+use mathlib.Core.Bool.{Bool, true, false, not, cond, ◌&&◌}
+use mathlib.Core.List.{List}
 use Prim.Native.Nat.{ℕ, zero, suc, ◌+◌, ◌-◌, ◌*◌, ◌/◌, ◌%◌, ◌^◌, ◌≤◌, ◌<◌}
 use native.Mathlib.Nat.{pow-suc, pow-le-pow_right, zero-lt-suc}
 use native.Mathlib.Numerals.{add-one, sub-one}
 use native.Mathlib.Omega.{arith}
-use lib.Dec.{eqb}
+use lib.Dec.{eqb, leb}
 use lib.Ieee.{Float, binary64, sub, mul, lt, le}
-use borrow.Author.Tests.{eq-eqb, ne_eqb, le-leb, lt-leb}
+use borrow.Author.Tests.{eq-eqb, ne_eqb, le-leb, lt-leb, leb-true}
 use Rattle.rounding.specs.Integral.{floor_of, ceil_of}
-use Rattle.ranged1d.proofs.Bools.{chosen}
+use Rattle.ranged1d.proofs.Bools.{chosen, both_true}
 use Rattle.decimal.proofs.Digits.{tenth_small}
 use Rattle.float.specs.declared.Shortened.{Shortened}
-use Rattle.float.specs.declared.Parts.{Parts}
 use Rattle.float.specs.Shorten.{shorten, one, ten, plain, inner, outer}
 use Rattle.float.specs.Text.{sign_of, whole_part, decimals_of}
-use Rattle.float.specs.Steps.{trimmed, parts, parts_of, tail_length}
+use Rattle.ranged1d.specs.Answer.{Answer, given, refused, written}
+use Rattle.ranged1d.proofs.Answers.{given_is}
+use Rattle.float.specs.Calls.{printable}
+use Rattle.float.specs.Steps.{Taken, trimmed, parts, parts_of, tail_length, decimals_for}
 
 -- ---- powers of ten
 pub pow_more : (k : ℕ) → 10 ^ k * 10 ≡ 10 ^ (k + 1)
@@ -67,11 +70,16 @@ unfolding trimmed
 trim_last s w zero d h e = absurd (h refl)
 trim_last s w (suc j) d h e = rw (ne_eqb (d % 10) 0 e)
 
+-- one digit fewer
+pub tenth_less : (p d : ℕ) → (p ≡ 0 → ⊥) → d < 10 ^ p → d / 10 < 10 ^ (p - 1)
+tenth_less zero d h l = absurd (h refl)
+tenth_less (suc p) d h l = let e : suc p - 1 ≡ p = omega arith in rw e (tenth_small d p l)
+
 -- at most k places, and a number that has no more digits
-abbrev pub Few : ℕ → Parts → Type 0
+abbrev pub Few : ℕ → Taken → Type 0
 Few k t = (t.places ≤ k) × (t.decimals < 10 ^ t.places)
 
-few-more : (k : ℕ) (t : Parts) → Few k t → Few (suc k) t
+few-more : (k : ℕ) (t : Taken) → Few k t → Few (suc k) t
 few-more k t f = let l = f.0 in (omega arith, f.1)
 
 pub trim_few : (s : Bool) (w p d : ℕ) → d < 10 ^ p → Few p (trimmed s w p d)
@@ -97,14 +105,59 @@ parts_trim n zero h l = absurd (h refl)
 parts_trim n (suc p) h l = rw (lt-leb (10 ^ suc p) (decimals_of n (suc p)) l)
 
 -- ---- how long the tail is
-pub length-e : (k e : ℕ) → k < e → tail_length k e ≡ 1 + e
-length-e k e h = rw (ne_eqb e 0 (λ z. omega arith), and-false (eqb k 0)) (omega arith)
-
-pub length_0 : (k e : ℕ) → e ≤ k → k ≡ 0 → tail_length k e ≡ 0
-length_0 k e h z = let w : e ≡ 0 = omega arith in rw (eq-eqb k 0 z, eq-eqb e 0 w)
-
-pub length-k : (k e : ℕ) → e ≤ k → (k ≡ 0 → ⊥) → tail_length k e ≡ 1 + k
-length-k k e h z = rw (ne_eqb k 0 z) (omega arith)
-
 pub tail_le : (k e : ℕ) → k ≤ 10 → e ≤ 20 → tail_length k e ≤ 21
 tail_le k e h l = chosen (λ (n : ℕ). n ≤ 21) (eqb k 0 && eqb e 0) (omega arith) (omega arith)
+
+-- ---- the decimals that are admitted
+module _ (n : Float) (h e : ℕ) where
+  pub decimals_none : printable n ≡ false → decimals_for n h e ≡ refused 11
+  unfolding decimals_for
+  decimals_none a = rw a
+
+  module _ (a : printable n ≡ true) where
+    pub decimals_h : 10 < h → decimals_for n h e ≡ refused 12
+    unfolding decimals_for
+    decimals_h l = rw (a, lt-leb h 10 l)
+
+    module _ (l : h ≤ 10) where
+      pub decimals_e : 20 < e → decimals_for n h e ≡ refused 12
+      unfolding decimals_for
+      decimals_e k = rw (a, le-leb h 10 l, lt-leb e 20 k)
+
+      pub decimals-some : e ≤ 20 → decimals_for n h e ≡ given h
+      unfolding decimals_for
+      decimals-some k = rw (a, le-leb h 10 l, le-leb e 20 k)
+
+-- a call goes no further than they do
+module _ (k h : ℕ) (a b : Bool) where
+  pub stops : (rest : Answer ℕ) (text old : List ℕ) → ◌≡◌ {A = Answer ℕ} (refused k) (cond (not a) (refused 11) (cond (not b) (refused 12) (given h)))
+      → ◌≡◌ {A = Answer ℕ × List ℕ} (refused k, old) (written (cond (not a) (refused 11) (cond (not b) (refused 12) rest)) text old)
+  stops rest text old q = go a b q
+    where
+      go : (x y : Bool) → ◌≡◌ {A = Answer ℕ} (refused k) (cond (not x) (refused 11) (cond (not y) (refused 12) (given h)))
+          → ◌≡◌ {A = Answer ℕ × List ℕ} (refused k, old) (written (cond (not x) (refused 11) (cond (not y) (refused 12) rest)) text old)
+      go false y e = ap (λ (r : Answer ℕ). written r text old) e
+      go true false e = ap (λ (r : Answer ℕ). written r text old) e
+      go true true e = cc
+
+  pub passes : ◌≡◌ {A = Answer ℕ} (given k) (cond (not a) (refused 11) (cond (not b) (refused 12) (given h))) → (a ≡ true) × (b ≡ true) × (k ≡ h)
+  passes q = go a b q
+    where
+      go : (x y : Bool) → ◌≡◌ {A = Answer ℕ} (given k) (cond (not x) (refused 11) (cond (not y) (refused 12) (given h))) → (x ≡ true) × (y ≡ true) × (k ≡ h)
+      go false y e = cc
+      go true false e = cc
+      go true true e = (refl, refl, given_is e)
+
+-- or goes on with them
+pub record Admitted (n : Float) (h e k : ℕ) : Type 0 where
+  pub has_label : printable n ≡ true
+  pub most : h ≤ 10
+  pub least : e ≤ 20
+  pub same : k ≡ h
+
+pub admitted_from : (n : Float) (h e k : ℕ) → ◌≡◌ {A = Answer ℕ} (given k) (decimals_for n h e) → Admitted n h e k
+unfolding decimals_for
+admitted_from n h e k q =
+    let p = passes k h (printable n) (leb h 10 && leb e 20) q in
+    let b = both_true (leb h 10) (leb e 20) p.1 in
+    record { has_label = p.0; most = leb-true h 10 b.0; least = leb-true e 20 b.1; same = p.2 }

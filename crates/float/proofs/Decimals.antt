@@ -11,9 +11,8 @@ use lib.ListN.{length, replicate, length-append, replicate-append-replicate}
 use borrow.Author.Tests.{le-ltb, eqb-true, eqb-false, ltb-true, ltb-false, ne_eqb}
 use Rattle.decimal.specs.Print.{digits, long_natural}
 use Rattle.decimal.proofs.Digits.{tenth_small, digits_fuel, digits-few, digits-one, filled_long}
-use Rattle.float.specs.declared.Parts.{Parts}
 use Rattle.float.specs.Text.{padded, ahead, without_zeros, decimals}
-use Rattle.float.specs.Steps.{trimmed, parts, placed}
+use Rattle.float.specs.Steps.{Taken, trimmed, parts, placed}
 
 -- ---- zeros at the end of a text
 pub zero_dropped : (t : List ℕ) → without_zeros (t ++ (48 ∷ [])) ≡ without_zeros t
@@ -81,7 +80,7 @@ unfolding decimals without_zeros
 placed-cut zero d = refl
 placed-cut (suc p) d = refl
 
-abbrev placed_of : Parts → List ℕ
+abbrev placed_of : Taken → List ℕ
 placed_of t = placed t.places t.decimals
 
 pub decimals-kept : (s : Bool) (w p d : ℕ) → p ≤ 10 → d < 10 ^ p → decimals p d ≡ placed_of (trimmed s w p d)
@@ -104,8 +103,6 @@ decimals-kept s w (suc p) d k h = go (eqb (d % 10) 0) refl (decimals-kept s w p 
         ∙ sym (placed_step p d (omega arith) h)
 
 -- ---- k decimals are k bytes
-pub placed-none : (k d : ℕ) → k ≡ 0 → placed k d ≡ []
-placed-none k d h = ap (λ (j : ℕ). placed j d) h
 
 pub placed-some : (k d : ℕ) → (k ≡ 0 → ⊥) → placed k d ≡ padded k (long_natural d)
 placed-some zero d h = absurd (h refl)

@@ -2,12 +2,16 @@
 use mathlib.Core.Path.{◌≡◌, refl, sym, ap, ◌∙◌}
 use mathlib.Core.Bool.{true, false}
 use mathlib.Core.List.{List, [], ◌∷◌, ◌++◌}
-use Prim.Native.Nat.{ℕ, suc, ◌+◌, ◌-◌, ◌≤◌, ◌<◌}
+use Prim.Native.Nat.{ℕ, ◌+◌, ◌-◌, ◌≤◌, ◌<◌}
 use native.Mathlib.Numerals.{add-one}
 use native.Mathlib.Omega.{arith}
-use lib.ListN.{length, take, set, get_or}
-use lib.Seq.{take-suc, take-suc-set}
-use lib.Ieee.{Float, nan, binary64, add, sub, mul, div, lt, le}
+use lib.ListN.{length, take, set}
+use lib.Seq.{take-suc-set}
+use lib.Ieee.{Float, binary64, add, sub, mul, div, lt, le}
+use Rattle.std.proofs.Common.{reverse}
+use Rattle.std.specs.List.{fold}
+use Rattle.std.proofs.lemmas.List.Sums.{fold-append}
+use Rattle.std.proofs.lemmas.Grind.{reverse_onto}
 use Rattle.rounding.specs.Integral.{floor_of, ceil_of}
 use Rattle.float.specs.declared.Shortened.{Shortened}
 use Rattle.float.specs.Shorten.{shorten, one, ten, plain, inner}
@@ -56,22 +60,17 @@ module _ (l : List Float) (left k : ℕ) (x t : Float) (s : Shortened) (e : back
         ∙ ap (λ (i : ℕ). back (take k l) (above (floor_of x) (shorten i (inner x) (mul binary64 t ten)))) j
         ∙ rw (p, q, r) at at_level
 
--- ---- the way back: k floors are to go
+-- ---- the way back
 abbrev pub found : Float → ℕ → Shortened
 found v n = record { value = v; levels = n }
 
-pub back_more : (l : List Float) (k n : ℕ) (v : Float) (s : Shortened) → 0 < k → k ≤ length l → k ≤ n → back (take k l) (found v (n - k)) ≡ s
-    → back (take (k - 1) l) (found (add binary64 (get_or l (k - 1) nan) (div binary64 v ten)) (n - (k - 1))) ≡ s
-back_more l k n v s h u w e =
-    let j : suc (k - 1) ≡ k = omega arith in
-    let i : n - (k - 1) ≡ n - k + 1 = omega arith in
-    ap (λ (m : ℕ). back (take (k - 1) l) (found (add binary64 (get_or l (k - 1) nan) (div binary64 v ten)) m)) i
-    ∙ sym (back_last (take (k - 1) l) (get_or l (k - 1) nan) (found v (n - k)))
-    ∙ ap (λ (m : List Float). back m (found v (n - k))) (sym (take-suc l (k - 1) nan (omega arith)))
-    ∙ ap (λ (m : ℕ). back (take m l) (found v (n - k))) j
-    ∙ e
+-- a fold over the floors, the last one first
+abbrev pub climb : Float → Float → Float
+climb v f = add binary64 f (div binary64 v ten)
 
-pub back_out : (l : List Float) (k n : ℕ) (v : Float) (s : Shortened) → k ≡ 0 → back (take k l) (found v (n - k)) ≡ s → found v n ≡ s
-back_out l k n v s h e =
-    let i : n - 0 ≡ n = omega arith in
-    sym (ap (λ (m : ℕ). back (take m l) (found v (n - m))) h ∙ back_none (found v (n - 0)) ∙ ap (found v) i) ∙ e
+pub back_fold : (l : List Float) (v : Float) → back l (plain v) ≡ found (fold climb v (reverse l)) (length l)
+unfolding back
+back_fold [] v = refl
+back_fold (f ∷ l) v =
+    ap (above f) (back_fold l v) ∙ ap (λ (w : Float). found w (length l + 1)) (sym (fold-append climb v (reverse l) (f ∷ [])))
+    ∙ ap (λ (r : List Float). found (fold climb v r) (length l + 1)) (sym (reverse_onto l f [])) ∙ ap (found (fold climb v (reverse (f ∷ l)))) (add-one (length l))

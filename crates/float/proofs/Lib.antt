@@ -10,6 +10,7 @@ pub mod Exponents
 pub mod Shown
 pub mod Scales
 pub mod Notation
+pub mod Either
 pub mod Longest
 pub mod Mantissa
 pub mod Enough

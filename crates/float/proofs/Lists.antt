@@ -3,43 +3,45 @@ use mathlib.Core.Path.{◌≡◌, refl, sym, ap, ◌∙◌}
 use mathlib.Core.List.{List, [], ◌∷◌, ◌++◌, append-nil, append_assoc}
 use mathlib.Core.Bool.{Bool, true, false, cond, ◌&&◌}
 use Prim.Native.Nat.{ℕ, suc, ◌+◌, ◌-◌, ◌^◌, ◌≤◌, ◌<◌, max}
-use native.Mathlib.Nat.{add-zero, zero-add, add-suc, suc-add, pos_of_ne-zero}
-use native.Mathlib.Numerals.{add-one}
+use native.Mathlib.Nat.{pos_of_ne-zero}
 use native.Mathlib.Omega.{arith}
 use lib.Dec.{eqb}
-use lib.ListN.{length, set, take, drop, replicate, length-append, length-replicate, replicate-append-replicate}
-use lib.Seq.{sets, sets-eq, drop-drop}
+use lib.ListN.{length, set, take, drop, replicate, drop_of_length-le, length-append, length-replicate, length-take, length-drop}
+use lib.Seq.{take_at, drop_at, drop-drop}
+use Rattle.std.proofs.Common.{length-take-le}
 use borrow.Author.Tests.{eqb-true, eqb-false}
 use borrow.Rule.Slice.PartMut.{put_mid}
-use Rattle.decimal.specs.declared.LongText.{LongText}
-use Rattle.decimal.specs.Print.{long_natural}
-use Rattle.decimal.proofs.Digits.{digits-most, Told}
+use Rattle.decimal.specs.declared.Text.{Text}
+use Rattle.decimal.specs.Print.{long_natural, padded}
+use Rattle.decimal.proofs.Digits.{digits-most}
 use Rattle.ranged1d.specs.Answer.{Answer, given, list_written}
 use Rattle.ranged1d.proofs.Answers.{all-written}
-use Rattle.float.specs.declared.Parts.{Parts}
 use Rattle.float.specs.Text.{filled_up, pointed, front}
-use Rattle.float.specs.Steps.{placed, tail_of, tail_length, bytes_of}
+use Rattle.float.specs.Steps.{Taken, placed, tail_of, tail_length, bytes_of}
 use Rattle.float.proofs.Decimals.{placed-length, placed-some}
 
-pub sets_sets : (l : List ℕ) (i : ℕ) (a b : List ℕ) → sets (sets l i a) (i + length a) b ≡ sets l i (a ++ b)
-sets_sets l i [] b = ap (λ (k : ℕ). sets l k b) (add-zero i)
-sets_sets l i (x ∷ a) b = ap (λ (k : ℕ). sets (sets (set l i x) (suc i) a) k b) (add-suc i (length a) ∙ sym (suc-add i (length a))) ∙ sets_sets (set l i x) (suc i) a b
+-- a text that was filled with blanks, without them
+pub text_kept : (w : ℕ) (t : List ℕ) → length t ≤ w → (x : Text w) → x ≡ padded w t → (s : List ℕ) → s ≡ drop x.blanks x.bytes → s ≡ t
+text_kept w t h x e s q = q ∙ ap (λ (u : Text w). drop u.blanks u.bytes) e ∙ drop_at (replicate (w - length t) 32) t (w - length t) (length-replicate {A = ℕ} (w - length t) 32)
 
-pub in_front : (l b : List ℕ) → length b ≤ length l → sets l 0 b ≡ b ++ drop (length b) l
-in_front l b h = sets-eq b l 0 (rw (zero-add (length b)) h) ∙ ap (λ (j : ℕ). b ++ drop j l) (zero-add (length b))
+-- a write behind the head of a list
+pub put_behind : (h q zs : List ℕ) (n k : ℕ) → n ≡ length h → k ≡ length zs → put_mid n k (h ++ q) zs ≡ (h ++ zs) ++ drop k q
+put_behind h q zs n k e f =
+    rw (e, f)
+    (ap (λ (a : List ℕ). a ++ (zs ++ drop (length zs) (drop (length h) (h ++ q)))) (take_at h q (length h) refl)
+    ∙ ap (λ (a : List ℕ). h ++ (zs ++ drop (length zs) a)) (drop_at h q (length h) refl)
+    ∙ sym (append_assoc h zs (drop (length zs) q)))
 
--- one zero more
-pub zero_stored : (l : List ℕ) (i k : ℕ) → set (sets l i (replicate k 48)) (i + k) 48 ≡ sets l i (replicate (k + 1) 48)
-zero_stored l i k =
-    ap (λ (j : ℕ). set (sets l i (replicate k 48)) (i + j) 48) (sym (length-replicate {A = ℕ} k 48))
-    ∙ sets_sets l i (replicate k 48) (48 ∷ [])
-    ∙ ap (λ (r : List ℕ). sets l i r) (replicate-append-replicate k 1 48)
+-- and to its end
+pub put_end : (h q zs y : List ℕ) (n k : ℕ) → y ≡ h ++ q → n ≡ length h → length zs ≡ length q → k ≡ length y - n → put_mid n k y zs ≡ h ++ zs
+put_end h q zs y n k w e f g =
+    let l : k ≡ length zs = omega (arith, ap length w, length-append h q) in
+    let d : length q ≤ k = omega arith in
+    ap (λ (a : List ℕ). put_mid n k a zs) w ∙ put_behind h q zs n k e l ∙ ap (λ (a : List ℕ). (h ++ zs) ++ a) (drop_of_length-le q d) ∙ append-nil (h ++ zs)
 
--- a text copied to the k places from a on
-pub copy_stored : (l r y : List ℕ) (a k : ℕ) → k ≡ length r → a + k ≤ length l → y ≡ r → put_mid a (a + k - a) l y ≡ sets l a r
-copy_stored l r y a k e h q =
-    let n : a + k - a ≡ length r = omega arith in
-    rw (n, q) (ap (λ (t : List ℕ). take a l ++ (r ++ t)) (drop-drop (length r) a l) ∙ sym (append_assoc (take a l) r (drop (a + length r) l)) ∙ sym (sets-eq r l a (omega arith)))
+-- what is left of a list behind a new front
+pub rest_long : (w l : List ℕ) (n k : ℕ) → length w ≡ n → n + k ≡ length l → length (take (length (w ++ drop n l) - n) (drop n (w ++ drop n l))) ≡ k
+rest_long w l n k e f = simp (length-take, length-drop, length-append) (omega arith)
 
 -- ---- how long a number is
 pub long_most : (w : ℕ) → length (long_natural w) ≤ 21
@@ -52,16 +54,6 @@ front-most false w = omega arith
 pub front_long : (s : Bool) (w : ℕ) → length (front s w) ≤ 21
 front_long s w = omega (arith, front-most s w, digits-most 19 w)
 
--- zeros and digits
-pub decimals_stored : (l : List ℕ) (at k d : ℕ) (t : LongText) → Told 21 t.blanks t.bytes (long_natural d) → (k ≡ 0 → ⊥)
-    → sets (sets l at (replicate (k - (21 - t.blanks)) 48)) (at + (k - (21 - t.blanks))) (drop t.blanks t.bytes) ≡ sets l at (placed k d)
-decimals_stored l at k d t u z =
-    ap (λ (r : List ℕ). sets (sets l at (replicate (k - (21 - t.blanks)) 48)) (at + (k - (21 - t.blanks))) r) u.text
-    ∙ ap (λ (j : ℕ). sets (sets l at (replicate j 48)) (at + j) (long_natural d)) (ap (λ (j : ℕ). k - j) u.count)
-    ∙ ap (λ (j : ℕ). sets (sets l at (replicate (k - length (long_natural d)) 48)) (at + j) (long_natural d)) (sym (length-replicate {A = ℕ} (k - length (long_natural d)) 48))
-    ∙ sets_sets l at (replicate (k - length (long_natural d)) 48) (long_natural d)
-    ∙ ap (λ (r : List ℕ). sets l at r) (sym (placed-some k d z))
-
 -- ---- the tail
 pointed-some : (l : List ℕ) → 0 < length l → pointed l ≡ 46 ∷ l
 pointed-some [] h = absurd (omega arith)
@@ -70,39 +62,59 @@ pointed-some (c ∷ l) h = refl
 filled-length : (e : ℕ) (l : List ℕ) → length (filled_up e l) ≡ max (length l) e
 filled-length e l = rw (length-append l (replicate (e - length l) 48), length-replicate {A = ℕ} (e - length l) 48) (omega arith)
 
-pub tail_e : (k d e : ℕ) → d < 10 ^ k → k < e → tail_of k d e ≡ 46 ∷ (placed k d ++ replicate (e - k) 48)
-tail_e k d e h l =
-    pointed-some (filled_up e (placed k d)) (rw (filled-length e (placed k d)) (omega arith))
-    ∙ ap (λ (j : ℕ). 46 ∷ (placed k d ++ replicate (e - j) 48)) (placed-length k d h)
-
 pub tail_0 : (k d e : ℕ) → e ≤ k → k ≡ 0 → tail_of k d e ≡ []
 tail_0 k d e h z =
     let w : e ≡ 0 = omega arith in
     rw (z, w)
 
-pub tail_k : (k d e : ℕ) → d < 10 ^ k → e ≤ k → (k ≡ 0 → ⊥) → tail_of k d e ≡ 46 ∷ placed k d
-tail_k k d e h l z =
-    let p = placed-length k d h in
-    let w : e - length (placed k d) ≡ 0 = omega arith in
-    ap (λ (j : ℕ). pointed (placed k d ++ replicate j 48)) w
-    ∙ ap pointed (append-nil (placed k d))
-    ∙ pointed-some (placed k d) (rw p (pos_of_ne-zero z))
+-- the digits behind zeros
+pub decimals_put : (d : ℕ) (l s w x : List ℕ) → (length l ≡ 0 → ⊥) → s ≡ long_natural d → length s ≤ length l → w ≡ replicate (length l - length s) 48 → x ≡ s
+    → put_mid (length l - length s) (length (w ++ drop (length l - length s) l) - (length l - length s)) (w ++ drop (length l - length s) l) x ≡ placed (length l) d
+decimals_put d l s w x z e h f g =
+    let m : length l - length s ≡ length w = omega (arith, ap length f, length-replicate {A = ℕ} (length l - length s) 48) in
+    put_end w (drop (length l - length s) l) x _ _ _ refl m (omega (arith, ap length g, length-drop (length l - length s) l)) refl
+    ∙ rw (f, g, e) (sym (placed-some (length l) d z))
 
-pub tail_stored : (l : List ℕ) (at k d e : ℕ) → d < 10 ^ k → k < e → sets (sets (set l at 46) (at + 1) (placed k d)) (at + 1 + k) (replicate (e - k) 48) ≡ sets l at (tail_of k d e)
-tail_stored l at k d e h m =
-    ap (λ (j : ℕ). sets (sets (set l at 46) (at + 1) (placed k d)) (at + 1 + j) (replicate (e - k) 48)) (sym (placed-length k d h))
-    ∙ sets_sets (set l at 46) (at + 1) (placed k d) (replicate (e - k) 48)
-    ∙ ap (λ (j : ℕ). sets (set l at 46) j (placed k d ++ replicate (e - k) 48)) (add-one at)
-    ∙ ap (λ (r : List ℕ). sets l at r) (sym (tail_e k d e h m))
+-- the point, the digits, and zeros to the end
+long_tail : (k m : ℕ) → tail_length k m ≡ suc m → (k ≤ m) × (0 < m)
+long_tail k m t = go (eqb k 0) (eqb m 0) refl refl t
+  where
+    go : (a b : Bool) → eqb k 0 ≡ a → eqb m 0 ≡ b → cond (a && b) 0 (1 + max k m) ≡ suc m → (k ≤ m) × (0 < m)
+    go true true p q h = absurd (omega arith)
+    go true false p q h = (omega (arith, eqb-true k 0 p), pos_of_ne-zero (eqb-false m 0 q))
+    go false b p q h = (omega arith, omega (arith, pos_of_ne-zero (eqb-false k 0 p)))
 
-pub point_stored : (l : List ℕ) (at k d e : ℕ) → d < 10 ^ k → e ≤ k → (k ≡ 0 → ⊥) → sets (set l at 46) (at + 1) (placed k d) ≡ sets l at (tail_of k d e)
-point_stored l at k d e h m z =
-    ap (λ (j : ℕ). sets (set l at 46) j (placed k d)) (add-one at) ∙ ap (λ (r : List ℕ). sets l at r) (sym (tail_k k d e h m z))
+pub tail_point : (k d m : ℕ) (r p zs : List ℕ) → length r ≡ m → tail_length k m ≡ suc m → d < 10 ^ k → p ≡ placed k d → zs ≡ replicate (m - k) 48
+    → put_mid (1 + k) (length (put_mid 1 (1 + k - 1) (46 ∷ r) p) - (1 + k)) (put_mid 1 (1 + k - 1) (46 ∷ r) p) zs ≡ tail_of k d m
+tail_point k d m r p zs e t h f g =
+    put_end (46 ∷ p) (drop (1 + k - 1) r) zs (put_mid 1 (1 + k - 1) (46 ∷ r) p) (1 + k) _ refl a b refl
+    ∙ rw (f, g) (ap (λ (j : ℕ). 46 ∷ (placed k d ++ replicate (m - j) 48)) (sym (placed-length k d h)) ∙ sym (pointed-some (filled_up m (placed k d)) (rw (filled-length m (placed k d)) (omega (arith, (long_tail k m t).1)))))
+  where
+    w : length p ≡ k
+    w = ap length f ∙ placed-length k d h
+
+    a : 1 + k ≡ length (46 ∷ p)
+    a = omega (arith, w)
+
+    b : length zs ≡ length (drop (1 + k - 1) r)
+    b = omega (arith, (long_tail k m t).0, ap length g, length-replicate {A = ℕ} (m - k) 48, length-drop (1 + k - 1) r)
+
+rest_is : (n : ℕ) (l : List ℕ) → length (take (length l - n) (drop n l)) ≡ length l - n
+rest_is n l = simp (length-take, length-drop) (omega arith)
+
+pub tail_put : (k d : ℕ) (l p zs : List ℕ) → (length l ≡ 0 → ⊥) → tail_length k (length l - 1) ≡ length l → d < 10 ^ k
+    → p ≡ placed (length (take (1 + k - 1) (drop 1 (set l 0 46)))) d
+    → zs ≡ replicate (length (take (length (put_mid 1 (1 + k - 1) (set l 0 46) p) - (1 + k)) (drop (1 + k) (put_mid 1 (1 + k - 1) (set l 0 46) p)))) 48
+    → put_mid (1 + k) (length (put_mid 1 (1 + k - 1) (set l 0 46) p) - (1 + k)) (put_mid 1 (1 + k - 1) (set l 0 46) p) zs ≡ tail_of k d (length l - 1)
+tail_put k d [] p zs z t h f g = absurd (z refl)
+tail_put k d (x ∷ r) p zs z t h f g =
+    let m : length (x ∷ r) - 1 ≡ length r = omega arith in
+    let q : tail_length k (length r) ≡ suc (length r) = rw m at t in
+    let n : length (take (1 + k - 1) r) ≡ k = length-take-le (1 + k - 1) r (omega (arith, (long_tail k (length r) q).0)) ∙ omega arith in
+    let e : p ≡ placed k d = f ∙ ap (λ (j : ℕ). placed j d) n in
+    rw m (tail_point k d (length r) r p zs refl q h e (g ∙ ap (λ (j : ℕ). replicate j 48) (rest_is (1 + k) (46 ∷ (p ++ drop (1 + k - 1) r)) ∙ omega (arith, length-append p (drop (1 + k - 1) r), length-drop (1 + k - 1) r, ap length e, placed-length k d h))))
 
 -- ---- the whole label
-pub all_stored : (l s t : List ℕ) → sets (sets l 0 s) (length s) t ≡ sets l 0 (s ++ t)
-all_stored l s t = ap (λ (j : ℕ). sets (sets l 0 s) j t) (sym (zero-add (length s))) ∙ sets_sets l 0 s t
-
 tail_length_lem : (k d e : ℕ) → d < 10 ^ k → length (tail_of k d e) ≡ tail_length k e
 tail_length_lem k d e h = go (eqb k 0) (eqb e 0) refl refl
   where
@@ -117,16 +129,47 @@ tail_length_lem k d e h = go (eqb k 0) (eqb e 0) refl refl
     go true false p q = some (omega (arith, pos_of_ne-zero (eqb-false e 0 q)))
     go false b p q = some (omega (arith, pos_of_ne-zero (eqb-false k 0 p)))
 
-pub bytes-length : (t : Parts) (e : ℕ) → t.decimals < 10 ^ t.places → length (bytes_of t e) ≡ length (front t.minus t.whole) + tail_length t.places e
+pub bytes-length : (t : Taken) (e : ℕ) → t.decimals < 10 ^ t.places → length (bytes_of t e) ≡ length (front t.minus t.whole) + tail_length t.places e
 unfolding bytes_of
 bytes-length t e h =
     length-append (front t.minus t.whole) (tail_of t.places t.decimals e)
     ∙ ap (λ (n : ℕ). length (front t.minus t.whole) + n) (tail_length_lem t.places t.decimals e h)
 
-pub bytes_stored : (t : Parts) (e : ℕ) (l : List ℕ) → length (bytes_of t e) ≤ length l
-    → sets (sets l 0 (front t.minus t.whole)) (length (front t.minus t.whole)) (tail_of t.places t.decimals e) ≡ bytes_of t e ++ drop (length (bytes_of t e)) l
+-- zeros to the end of the tail are zeros to e decimals
+tail_less : (k e : ℕ) → tail_length k e - 1 - k ≡ e - k
+tail_less k e = go (eqb k 0) (eqb e 0) refl refl
+  where
+    go : (a b : Bool) → eqb k 0 ≡ a → eqb e 0 ≡ b → cond (a && b) 0 (1 + max k e) - 1 - k ≡ e - k
+    go true true p q = omega (arith, eqb-true e 0 q)
+    go true false p q = omega arith
+    go false b p q = omega arith
+
+tail_same : (k d e : ℕ) → d < 10 ^ k → tail_of k d (tail_length k e - 1) ≡ tail_of k d e
+tail_same k d e h =
+    let p = placed-length k d h in
+    let j : tail_length k e - 1 - length (placed k d) ≡ e - length (placed k d) = ap (λ (n : ℕ). tail_length k e - 1 - n) p ∙ tail_less k e ∙ sym (ap (λ (n : ℕ). e - n) p) in
+    ap (λ (n : ℕ). pointed (placed k d ++ replicate n 48)) j
+
+pub bytes_put : (t : Taken) (e : ℕ) (o w z : List ℕ) (n k : ℕ) → t.decimals < 10 ^ t.places → w ≡ front t.minus t.whole → n ≡ length w → k ≡ tail_length t.places e → n + k ≤ length o
+    → z ≡ tail_of t.places t.decimals (length (take (n + k - n) (drop n (w ++ drop n o))) - 1)
+    → put_mid n (n + k - n) (w ++ drop n o) z ≡ bytes_of t e ++ drop (length (bytes_of t e)) o
 unfolding bytes_of
-bytes_stored t e l h = all_stored l (front t.minus t.whole) (tail_of t.places t.decimals e) ∙ in_front l (bytes_of t e) h
+bytes_put t e o w z n k h a b c l g =
+    put_behind w (drop n o) z n (n + k - n) b (omega (arith, ap length q, tail_length_lem t.places t.decimals e h, c))
+    ∙ ap (λ (x : List ℕ). (w ++ z) ++ x) (ap (λ (x : ℕ). drop x (drop n o)) j ∙ drop-drop k n o ∙ ap (λ (x : ℕ). drop x o) (sym f))
+    ∙ rw (a, q)
+  where
+    j : n + k - n ≡ k
+    j = omega arith
+
+    long : length (take (n + k - n) (drop n (w ++ drop n o))) ≡ tail_length t.places e
+    long = rw (j, drop_at w (drop n o) n (sym b)) (length-take-le k (drop n o) (omega (arith, length-drop n o)) ∙ c)
+
+    q : z ≡ tail_of t.places t.decimals e
+    q = g ∙ ap (λ (x : ℕ). tail_of t.places t.decimals (x - 1)) long ∙ tail_same t.places t.decimals e h
+
+    f : length (bytes_of t e) ≡ n + k
+    f = omega (arith, bytes-length t e h, ap length a, b, c)
 
 -- ---- a text that is written
 pub text_held : (n : ℕ) (t old y : List ℕ) → n ≡ length t → length t ≤ length old → y ≡ t ++ drop (length t) old → ◌≡◌ {A = Answer ℕ × List ℕ} (given n, y) (list_written t old)

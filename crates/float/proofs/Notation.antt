@@ -1,16 +1,15 @@
 -- The rule of `print_scientific`, case by case. Assumes nothing.
 use mathlib.Core.Path.{◌≡◌, refl, sym, ap, ◌∙◌}
-use mathlib.Core.Bool.{true, false, ◌||◌}
-use mathlib.Core.List.{List, [], ◌∷◌, ◌++◌}
-use Prim.Native.Nat.{ℕ, ◌+◌, ◌-◌, ◌≤◌, ◌<◌}
+use mathlib.Core.Bool.{true, false, ◌||◌, ◌&&◌}
+use mathlib.Core.List.{List, [], ◌∷◌, ◌++◌, append_assoc}
+use Prim.Native.Nat.{ℕ, suc, ◌+◌, ◌-◌, ◌≤◌}
 use native.Mathlib.Omega.{arith}
-use lib.Dec.{ltb}
+use lib.Dec.{ltb, leb}
 use lib.IntN.{nat_abs}
-use lib.ListN.{length, drop, set, length-append, length-drop}
-use lib.Seq.{sets}
-use native.Mathlib.Numerals.{add-one}
+use lib.ListN.{length, get_or, drop, set, length-append}
+use lib.Seq.{drop-drop, drop-cons, set_at}
 use lib.Ieee.{Float, binary64, of_bits, mul, div, lt, eq}
-use borrow.Author.Tests.{le-leb, lt-leb}
+use borrow.Author.Tests.{le-leb}
 use Rattle.ranged1d.specs.Answer.{Answer, refused, list_written}
 use Rattle.ranged1d.proofs.Answers.{all-written}
 use Rattle.decades.specs.Powers.{power}
@@ -21,33 +20,26 @@ use Rattle.float.specs.Shorten.{shorten, tolerance, ten}
 use Rattle.float.specs.Text.{size_of, nought, shown_of, plotters_text, label_of}
 use Rattle.float.specs.Scientific.{zero_float, letter, comes_to_ten, table_index, scale_of, exponent_of, mantissa_of, scientific_text, prefers, scientific_of}
 use Rattle.float.specs.Calls.{printable, too_small, label_scientific}
-use Rattle.float.proofs.Lists.{in_front, all_stored}
+use Rattle.float.specs.Steps.{decimals_for}
+use borrow.Rule.Slice.PartMut.{put_mid}
+use Rattle.float.proofs.Cases.{stops}
+use Rattle.float.proofs.Lists.{put_behind}
 use Rattle.float.proofs.Scales.{tolerance-five}
 
 -- ---- the refusals
 module _ (n : Float) (h e : ℕ) (old : List ℕ) where
-  pub stops_11 : printable n ≡ false → ◌≡◌ {A = Answer ℕ × List ℕ} (refused 11, old) (label_scientific n h e old)
-  unfolding label_scientific
-  stops_11 a = rw a
+  pub scientific_stops : (k : ℕ) → ◌≡◌ {A = Answer ℕ} (refused k) (decimals_for n h e) → ◌≡◌ {A = Answer ℕ × List ℕ} (refused k, old) (label_scientific n h e old)
+  unfolding decimals_for label_scientific
+  scientific_stops k q = stops k h (printable n) (leb h 10 && leb e 20) _ (scientific_of n h e) old q
 
-  module _ (a : printable n ≡ true) where
-    pub stops_12h : 10 < h → ◌≡◌ {A = Answer ℕ × List ℕ} (refused 12, old) (label_scientific n h e old)
+  module _ (a : printable n ≡ true) (l : h ≤ 10) (k : e ≤ 20) where
+    pub stops_28 : too_small n ≡ true → ◌≡◌ {A = Answer ℕ × List ℕ} (refused 28, old) (label_scientific n h e old)
     unfolding label_scientific
-    stops_12h l = rw (a, lt-leb h 10 l)
+    stops_28 t = rw (a, le-leb h 10 l, le-leb e 20 k, t)
 
-    module _ (l : h ≤ 10) where
-      pub stops_12e : 20 < e → ◌≡◌ {A = Answer ℕ × List ℕ} (refused 12, old) (label_scientific n h e old)
-      unfolding label_scientific
-      stops_12e k = rw (a, le-leb h 10 l, lt-leb e 20 k)
-
-      module _ (k : e ≤ 20) where
-        pub stops_28 : too_small n ≡ true → ◌≡◌ {A = Answer ℕ × List ℕ} (refused 28, old) (label_scientific n h e old)
-        unfolding label_scientific
-        stops_28 t = rw (a, le-leb h 10 l, le-leb e 20 k, t)
-
-        pub goes_on_lem : too_small n ≡ false → label_scientific n h e old ≡ list_written (scientific_of n h e) old
-        unfolding label_scientific
-        goes_on_lem t = rw (a, le-leb h 10 l, le-leb e 20 k, t)
+    pub goes_on_lem : too_small n ≡ false → label_scientific n h e old ≡ list_written (scientific_of n h e) old
+    unfolding label_scientific
+    goes_on_lem t = rw (a, le-leb h 10 l, le-leb e 20 k, t)
 
 -- ---- zero, and what is too small
 pub zero_large : (n : Float) → eq n zero_float ≡ true → too_small n ≡ false
@@ -101,17 +93,22 @@ mantissa_is n = ap (shorten 5 (div binary64 n (scale_of (size_of n)))) tolerance
 pub held : (b old y : List ℕ) (a : Answer ℕ) → length b ≤ length old → ◌≡◌ {A = Answer ℕ × List ℕ} (a, y) (list_written b old) → y ≡ b ++ drop (length b) old
 held b old y a h e = ap (λ (p : Answer ℕ × List ℕ). p.1) (e ∙ sym (all-written b old (length b) refl h))
 
-pub long_stored : (b x l : List ℕ) → length (b ++ (letter ∷ x)) ≤ length l
-    → sets (set (b ++ drop (length b) l) (length b) letter) (length b + 1) x ≡ (b ++ (letter ∷ x)) ++ drop (length (b ++ (letter ∷ x))) l
-long_stored b x l h =
-    let m : length b ≤ length l = omega (arith, length-append b (letter ∷ x)) in
-    ap (λ (y : List ℕ). sets (set y (length b) letter) (length b + 1) x) (sym (in_front l b m))
-    ∙ ap (λ (j : ℕ). sets (set (sets l 0 b) (length b) letter) j x) (add-one (length b))
-    ∙ all_stored l b (letter ∷ x)
-    ∙ in_front l (b ++ (letter ∷ x)) h
+pub long_stored : (b x y l z : List ℕ) (n k : ℕ) → length (b ++ (letter ∷ x)) ≤ length l → y ≡ b ++ drop (length b) l → n ≡ length b → z ≡ x → k ≡ n + 1 + length x - (n + 1)
+    → put_mid (n + 1) k (set y n letter) z ≡ (b ++ (letter ∷ x)) ++ drop (length (b ++ (letter ∷ x))) l
+long_stored b x y l z n k h e f g i =
+    ap (λ (r : List ℕ). put_mid (n + 1) k r z) stored
+    ∙ put_behind (b ++ (letter ∷ [])) (drop (suc n) l) z (n + 1) k (omega (arith, f, length-append b (letter ∷ []))) (omega (arith, i, ap length g))
+    ∙ ap (λ (r : List ℕ). r ++ drop k (drop (suc n) l)) (append_assoc b (letter ∷ []) z ∙ ap (λ (r : List ℕ). b ++ (letter ∷ r)) g)
+    ∙ ap (λ (r : List ℕ). (b ++ (letter ∷ x)) ++ r) (drop-drop k (suc n) l ∙ ap (λ (j : ℕ). drop j l) (omega (arith, f, i, long)))
+  where
+    long : length (b ++ (letter ∷ x)) ≡ length b + suc (length x)
+    long = length-append b (letter ∷ x)
 
-pub long_length : (b t : List ℕ) (k : ℕ) → length t ≡ 21 → length (b ++ (letter ∷ drop k t)) ≡ length b + 1 + (21 - k)
-long_length b t k h = omega (arith, length-append b (letter ∷ drop k t), length-drop k t)
+    stored : set y n letter ≡ (b ++ (letter ∷ [])) ++ drop (suc n) l
+    stored =
+        ap (λ (r : List ℕ). set r n letter) (e ∙ ap (λ (j : ℕ). b ++ drop j l) (sym f) ∙ ap (λ (r : List ℕ). b ++ r) (drop-cons l n 0 (omega (arith, f, long))))
+        ∙ set_at b (get_or l n 0) (drop (suc n) l) letter n (sym f)
+        ∙ sym (append_assoc b (letter ∷ []) (drop (suc n) l))
 
 -- ---- the choice, and the text that is written
 module _ (n : Float) (h e : ℕ) where

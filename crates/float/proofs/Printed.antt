@@ -1,41 +1,32 @@
 -- The rule of `print`, case by case; that the parts are written as the rule says; and that plotters' text has at most 38 bytes. Assumes nothing.
 use mathlib.Core.Path.{◌≡◌, refl}
-use mathlib.Core.Bool.{Bool, true, false, cond}
+use mathlib.Core.Bool.{Bool, true, false, cond, ◌&&◌}
 use mathlib.Core.List.{List, []}
 use Prim.Native.Nat.{ℕ, zero, suc, ◌+◌, ◌/◌, ◌%◌, ◌^◌, ◌≤◌, ◌<◌}
 use native.Mathlib.Omega.{arith}
-use lib.Dec.{eqb}
+use lib.Dec.{eqb, leb}
 use lib.ListN.{length}
 use lib.Ieee.{Float, binary64, fits}
-use borrow.Author.Tests.{le-leb, lt-leb, leb-false}
+use borrow.Author.Tests.{le-leb, leb-false}
 use Rattle.ranged1d.specs.Answer.{Answer, refused, list_written}
 use Rattle.ranged1d.proofs.Bools.{chosen}
 use Rattle.rounding.specs.Within.{AtMost}
 use Rattle.decimal.specs.Print.{long_natural}
 use Rattle.decimal.proofs.Digits.{digits-few}
-use Rattle.float.specs.declared.Parts.{Parts}
 use Rattle.float.specs.Shorten.{shorten, tolerance}
 use Rattle.float.specs.Text.{sign_of, whole_part, decimals_of, fills_up, decimals, composed, shown, plotters_text, label_of}
 use Rattle.float.specs.Calls.{printable, label_print}
-use Rattle.float.specs.Steps.{parts, parts_of, trimmed, bytes_of}
-use Rattle.float.proofs.Cases.{Few, trim_few, tail_le, shorten-few}
+use Rattle.float.specs.Steps.{Taken, parts, parts_of, trimmed, bytes_of, decimals_for}
+use Rattle.float.proofs.Cases.{stops, Few, trim_few, tail_le, shorten-few}
 use Rattle.float.proofs.Decimals.{decimals-kept}
 use Rattle.float.proofs.Lists.{front-most, bytes-length}
 use Rattle.float.proofs.Bounds.{near, stays_near, printable_at_most}
 use Rattle.float.proofs.Casts.{whole-most}
 
 -- ---- the refusals
-pub print_11 : (n : Float) (h e : ℕ) (old : List ℕ) → printable n ≡ false → ◌≡◌ {A = Answer ℕ × List ℕ} (refused 11, old) (label_print n h e old)
-unfolding label_print
-print_11 n h e old a = rw a
-
-pub print_12h : (n : Float) (h e : ℕ) (old : List ℕ) → printable n ≡ true → 10 < h → ◌≡◌ {A = Answer ℕ × List ℕ} (refused 12, old) (label_print n h e old)
-unfolding label_print
-print_12h n h e old a l = rw (a, lt-leb h 10 l)
-
-pub print_12e : (n : Float) (h e : ℕ) (old : List ℕ) → printable n ≡ true → h ≤ 10 → 20 < e → ◌≡◌ {A = Answer ℕ × List ℕ} (refused 12, old) (label_print n h e old)
-unfolding label_print
-print_12e n h e old a l k = rw (a, le-leb h 10 l, lt-leb e 20 k)
+pub print_stops : (n : Float) (h e k : ℕ) (old : List ℕ) → ◌≡◌ {A = Answer ℕ} (refused k) (decimals_for n h e) → ◌≡◌ {A = Answer ℕ × List ℕ} (refused k, old) (label_print n h e old)
+unfolding decimals_for label_print
+print_stops n h e k old q = stops k h (printable n) (leb h 10 && leb e 20) _ (label_of n h e) old q
 
 pub print-some : (n : Float) (h e : ℕ) (old : List ℕ) → printable n ≡ true → h ≤ 10 → e ≤ 20 → label_print n h e old ≡ list_written (label_of n h e) old
 unfolding label_print
@@ -56,7 +47,7 @@ trim_keeps : (s : Bool) (w p d : ℕ) → ((trimmed s w p d).minus ≡ s) × ((t
 unfolding trimmed
 trim_keeps s w zero d = (refl, refl)
 trim_keeps s w (suc p) d =
-    chosen (λ (t : Parts). (t.minus ≡ s) × (t.whole ≡ w)) (eqb (d % 10) 0) (trim_keeps s w p (d / 10)) (refl, refl)
+    chosen (λ (t : Taken). (t.minus ≡ s) × (t.whole ≡ w)) (eqb (d % 10) 0) (trim_keeps s w p (d / 10)) (refl, refl)
 
 bytes-kept : (s : Bool) (w p d e : ℕ) → p ≤ 10 → d < 10 ^ p → bytes_of (trimmed s w p d) e ≡ composed s w (decimals p d) e
 unfolding bytes_of
@@ -76,7 +67,7 @@ bytes-shown x (suc p) e l = go (fills_up x (suc p)) refl
 -- ---- plotters' text has at most 38 bytes: a sign, 16 digits, and 21 bytes of the point and the decimals
 pub whole_grows : (x : Float) (p : ℕ) → (parts_of x p).whole ≤ whole_part x + 1
 unfolding parts_of
-whole_grows x p = chosen (λ (t : Parts). t.whole ≤ whole_part x + 1) (fills_up x p) (omega arith) kept
+whole_grows x p = chosen (λ (t : Taken). t.whole ≤ whole_part x + 1) (fills_up x p) (omega arith) kept
   where
     kept : (trimmed (sign_of x) (whole_part x) p (decimals_of x p)).whole ≤ whole_part x + 1
     kept = rw (trim_keeps (sign_of x) (whole_part x) p (decimals_of x p)).1 (omega arith)

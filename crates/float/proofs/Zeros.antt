@@ -12,11 +12,10 @@ use Rattle.ranged1d.proofs.Bools.{chosen}
 use Rattle.rounding.specs.Within.{AtMost}
 use Rattle.decimal.specs.Print.{digits, digit}
 use Rattle.decimal.proofs.Digits.{tenth_small, digits-one}
-use Rattle.float.specs.declared.Parts.{Parts}
 use Rattle.float.specs.Shorten.{shorten, tolerance}
 use Rattle.float.specs.Text.{sign_of, whole_part, decimals_of, fills_up, decimals, filled_up, pointed, front, shown, plotters_text, is_nonzero, all_zero, has_minus, without_minus, zero_unsigned, label_of}
 use Rattle.float.specs.Calls.{printable}
-use Rattle.float.specs.Steps.{parts, trimmed, parts_of, unsigned_parts, placed, tail_of, bytes_of}
+use Rattle.float.specs.Steps.{Taken, parts, trimmed, parts_of, unsigned_parts, placed, tail_of, bytes_of}
 use Rattle.float.proofs.Cases.{Few}
 use Rattle.float.proofs.Decimals.{placed_step}
 use Rattle.float.proofs.Bounds.{near}
@@ -24,21 +23,17 @@ use Rattle.float.proofs.Casts.{whole_le}
 use Rattle.float.proofs.Printed.{parts-few, bytes-shown, whole_grows, text-short}
 
 -- ---- the parts, case by case
-pub parts_zero : (t : Parts) → t.whole ≡ 0 → t.places ≡ 0 → unsigned_parts t ≡ parts false 0 0 0
+pub parts_zero : (t : Taken) → t.whole ≡ 0 → t.places ≡ 0 → unsigned_parts t ≡ parts false 0 0 0
 unfolding unsigned_parts
 parts_zero t h k = rw (eq-eqb t.whole 0 h, eq-eqb t.places 0 k)
 
-pub parts_whole : (t : Parts) → (t.whole ≡ 0 → ⊥) → unsigned_parts t ≡ t
+pub parts_whole : (t : Taken) → (t.whole ≡ 0 → ⊥) → unsigned_parts t ≡ t
 unfolding unsigned_parts
 parts_whole t h = rw (ne_eqb t.whole 0 h)
 
-pub parts-places : (t : Parts) → (t.places ≡ 0 → ⊥) → unsigned_parts t ≡ t
+pub parts-places : (t : Taken) → (t.places ≡ 0 → ⊥) → unsigned_parts t ≡ t
 unfolding unsigned_parts
 parts-places t h = rw (ne_eqb t.places 0 h, and-false (eqb t.whole 0))
-
-pub parts_unsigned_few : (k : ℕ) (t : Parts) → Few k t → Few k (unsigned_parts t)
-unfolding unsigned_parts
-parts_unsigned_few k t f = chosen (Few k) (eqb t.whole 0 && eqb t.places 0) (omega arith, omega arith) f
 
 -- ---- digits that are not zero
 count-digit : (d : ℕ) → d < 10 → (d ≡ 0 → ⊥) → is_nonzero (digit d) ≡ true
@@ -70,7 +65,7 @@ front-some true w h z = digits-some 19 w h z
 front-some false w h z = digits-some 19 w h z
 
 -- ---- decimals whose last is no zero
-abbrev Cut : Parts → Type 0
+abbrev Cut : Taken → Type 0
 Cut t = (t.places ≡ 0 → ⊥) → t.decimals % 10 ≡ 0 → ⊥
 
 trim_cut : (s : Bool) (w p d : ℕ) → Cut (trimmed s w p d)
@@ -115,23 +110,23 @@ kept : (t : List ℕ) → all_zero t ≡ false → t ≡ zero_unsigned t
 unfolding zero_unsigned
 kept t h = rw h
 
-unsigned_bytes : (t : Parts) (e : ℕ) → t.whole < 10 ^ 20 → Few 10 t → Cut t → bytes_of (unsigned_parts t) e ≡ zero_unsigned (bytes_of t e)
+unsigned_bytes : (t : Taken) (e : ℕ) → t.whole < 10 ^ 20 → Few 10 t → Cut t → bytes_of (unsigned_parts t) e ≡ zero_unsigned (bytes_of t e)
 unfolding bytes_of
 unsigned_bytes t e l f c = go (eqb t.whole 0) (eqb t.places 0) refl refl
   where
     go : (a b : Bool) → eqb t.whole 0 ≡ a → eqb t.places 0 ≡ b → bytes_of (unsigned_parts t) e ≡ zero_unsigned (bytes_of t e)
     go true true p q =
-        ap (λ (u : Parts). bytes_of u e) (parts_zero t (eqb-true t.whole 0 p) (eqb-true t.places 0 q))
+        ap (λ (u : Taken). bytes_of u e) (parts_zero t (eqb-true t.whole 0 p) (eqb-true t.places 0 q))
         ∙ zero_text t.minus t.decimals e
         ∙ ap (λ (w : ℕ). zero_unsigned (front t.minus w ++ tail_of 0 t.decimals e)) (sym (eqb-true t.whole 0 p))
         ∙ ap (λ (k : ℕ). zero_unsigned (front t.minus t.whole ++ tail_of k t.decimals e)) (sym (eqb-true t.places 0 q))
     go true false p q =
         let z = eqb-false t.places 0 q in
-        ap (λ (u : Parts). bytes_of u e) (parts-places t z)
+        ap (λ (u : Taken). bytes_of u e) (parts-places t z)
         ∙ kept (bytes_of t e) (not_right (front t.minus t.whole) (tail_of t.places t.decimals e) (pointed_counts (filled_up e (placed t.places t.decimals)) (not_left (placed t.places t.decimals) (replicate (e - length (placed t.places t.decimals)) 48) (placed_counts t.places t.decimals f.0 f.1 z (c z)))))
     go false b p q =
         let z = eqb-false t.whole 0 p in
-        ap (λ (u : Parts). bytes_of u e) (parts_whole t z)
+        ap (λ (u : Taken). bytes_of u e) (parts_whole t z)
         ∙ kept (bytes_of t e) (not_left (front t.minus t.whole) (tail_of t.places t.decimals e) (front-some t.minus t.whole l z))
 
 pub bytes_unsigned : (x : Float) (p e : ℕ) → p ≤ 10 → AtMost near x → bytes_of (unsigned_parts (parts_of x p)) e ≡ zero_unsigned (shown x p e)

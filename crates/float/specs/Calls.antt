@@ -3,18 +3,10 @@
 use Rattle.std.specs.Prelude.{Bool, false, not, ◌&&◌, List, [], ◌∷◌, ℕ, ◌*◌, ◌^◌, ltb, leb, length, Float}
 use Rattle.std.specs.Float.{nan, inf, fin}
 use Rattle.std.specs.Float.Ieee.{up, down, lt, eq}
-use Rattle.ranged1d.specs.Answer.{Answer, given, refused, ◌when◌, lowest, written, Reason}
-use Rattle.ranged1d.specs.Refusals.{number_of}
-use Rattle.float.specs.declared.Label.{Label}
-use Rattle.float.specs.declared.Label.TheVariants as Label-is
+use Rattle.ranged1d.specs.Answer.{Answer, given, ◌when◌, lowest, written, Reason}
 use Rattle.decades.specs.Powers.{power}
 use Rattle.float.specs.Text.{size_of, label_of}
 use Rattle.float.specs.Scientific.{zero_float, scientific_of}
-
--- the answer's cases, by 01's numbers and values: how many bytes were written
-abbrev pub tell_label : Label → Answer ℕ
-tell_label (Label-is.Written k) = given k
-tell_label (Label-is.Refused r) = refused (number_of r)
 
 -- a number that has a label: it is finite, and its size is below 2 ^ 53
 unfoldable pub printable : Float → Bool

@@ -7,12 +7,12 @@ use native.Mathlib.Numerals.{add-one}
 use native.Mathlib.Omega.{arith}
 use borrow.Author.Tests.{lt-ltb, le-ltb}
 use lib.Dec.{ltb}
-use lib.ListN.{length, get_or, set, take, drop, length-take}
-use lib.Seq.{drop-cons, take-suc}
+use lib.ListN.{length, get_or, set, take, drop}
+use lib.Seq.{drop-cons, take_all}
 use lib.Ieee.{Float, nan}
-use Rattle.ranged1d.specs.Answer.{Answer, given, refused, list_written}
+use Rattle.ranged1d.specs.Answer.{given, refused, list_written}
 use Rattle.ranged1d.proofs.Answers.{too_short, all-written}
-use Rattle.ranged1d.proofs.Pieces.{put_next}
+use Rattle.std.proofs.lemmas.List.{take_more, take_more_set}
 use Rattle.rounding.specs.Operations.{◌⊕◌}
 use Rattle.keypoints.specs.Marks.{passes, shifted, marks_from, put_unless}
 use Rattle.keypoints.specs.declared.Run.{Run}
@@ -28,12 +28,11 @@ module _ (r : Run) where
   ends (suc n) x h = rw h
 
   -- ---- counting: k marks are counted, and y is the distance of the next
-  module _ (k : ℕ) (y : Float) (left : k < 2001) where
-    one_left : 2001 - k ≡ suc (2001 - (k + 1))
-    one_left = omega arith
+  pub count-more : (k : ℕ) (y : Float) → k < 2001 → passes r y ≡ true → length (marks_from r (2001 - k) y) ≡ 1 + length (marks_from r (2001 - (k + 1)) (shifted r y ⊕ r.step))
+  count-more k y left h = let e : 2001 - k ≡ suc (2001 - (k + 1)) = omega arith in rw (e, goes (2001 - (k + 1)) y h) (omega arith)
 
-    pub count-more : (z : Float) → passes r y ≡ true → z ≡ shifted r y → length (marks_from r (2001 - k) y) ≡ suc (length (marks_from r (2001 - (k + 1)) (z ⊕ r.step)))
-    count-more z h e = rw (one_left, goes (2001 - (k + 1)) y h, e)
+  pub count_ends : (k : ℕ) (y : Float) → passes r y ≡ false → length (marks_from r (2001 - k) y) ≡ 0
+  count_ends k y h = rw (ends (2001 - k) y h)
 
   pub none_left : (k : ℕ) (y : Float) → 2001 ≤ k → length (marks_from r (2001 - k) y) ≡ 0
   unfolding marks_from
@@ -63,25 +62,31 @@ module _ (r : Run) where
             let z : ◌≡◌ {A = ℕ} 0 1 = cc in
             absurd (let n : ⊥ = omega arith in n)
 
-    pub rest_again : (z : Float) → z ≡ shifted r y → drop (k + 1) l ≡ marks_from r (2001 - (k + 1)) (z ⊕ r.step)
-    rest_again z e = ap (λ (n : ℕ). drop n l) (add-one k) ∙ both.1 ∙ ap (λ (w : Float). marks_from r (2001 - (k + 1)) (w ⊕ r.step)) (sym e)
+    pub rest_again : drop (k + 1) l ≡ marks_from r (2001 - (k + 1)) (shifted r y ⊕ r.step)
+    rest_again = ap (λ (n : ℕ). drop n l) (add-one k) ∙ both.1
 
-    pub write_more : (z : Float) (o : List Float) → z ≡ shifted r y → k < length o → set (take k l ++ drop k o) k (z ⊕ r.base) ≡ take (k + 1) l ++ drop (k + 1) o
-    write_more z o e h =
-        let n : length (take k l) ≡ k = simp length-take (omega arith) in
-        put_next nan (take k l) (z ⊕ r.base) k o n h
-        ∙ ap (λ (t : List Float). t ++ drop (k + 1) o) (ap (λ (w : Float). take k l ++ (w ∷ [])) (ap (λ (w : Float). w ⊕ r.base) e ∙ sym both.0) ∙ sym (ap (λ (n : ℕ). take n l) (add-one k) ∙ take-suc l k nan inside))
+    pub write_more : (o : List Float) → k < length o → take k o ≡ take k l → take (k + 1) (set o k (shifted r y ⊕ r.base)) ≡ take (k + 1) l
+    write_more o h e = take_more_set o k (shifted r y ⊕ r.base) h ∙ rw (e, sym both.0) (sym (take_more l k nan inside))
 
--- ---- the call, for a list of n marks
-module _ (l old : List Float) (n : ℕ) (size : n ≡ length l) where
-  pub too_many : 2000 < n → ◌≡◌ {A = Answer ℕ × List Float} (refused 17, old) (put_unless (ltb 2000 (length l)) l old)
-  too_many h = rw (lt-ltb 2000 (length l) (rw size at h))
+-- as many entries as the list has, the same as its first ones, are the list
+pub all_written : (k : ℕ) (o l : List Float) → take k o ≡ take k l → length o ≤ k → length l ≤ k → o ≡ l
+all_written k o l e a b = sym (take_all k o a) ∙ e ∙ take_all k l b
 
-  few_enough : n ≤ 2000 → list_written l old ≡ put_unless (ltb 2000 (length l)) l old
-  few_enough h = rw (le-ltb 2000 (length l) (rw size at h))
+-- ---- the call, for a list l
+module _ (l old : List Float) where
+  pub too_many : 2000 < length l → put_unless (ltb 2000 (length l)) l old ≡ (refused 17, old)
+  too_many h = rw (lt-ltb 2000 (length l) h)
 
-  pub no_room : n ≤ 2000 → length old < n → ◌≡◌ {A = Answer ℕ × List Float} (refused 13, old) (put_unless (ltb 2000 (length l)) l old)
-  no_room h s = too_short l old n (sym size) s ∙ few_enough h
+  few_enough : length l ≤ 2000 → put_unless (ltb 2000 (length l)) l old ≡ list_written l old
+  few_enough h = rw (le-ltb 2000 (length l) h)
 
-  pub room : n ≤ 2000 → n ≤ length old → (given n, l ++ drop n old) ≡ put_unless (ltb 2000 (length l)) l old
-  room h s = all-written l old n (sym size) s ∙ few_enough h
+  pub no_room : length l ≤ 2000 → length old < length l → put_unless (ltb 2000 (length l)) l old ≡ (refused 13, old)
+  no_room h s = few_enough h ∙ sym (too_short l old (length l) refl s)
+
+  pub room : length l ≤ 2000 → length l ≤ length old → put_unless (ltb 2000 (length l)) l old ≡ (given (length l), l ++ drop (length l) old)
+  room h s = few_enough h ∙ sym (all-written l old (length l) refl s)
+
+-- what `count` goes by, and the answers to a list
+pub ruleset counts = (count-more, count_ends, none_left)
+
+pub ruleset by_length = (too_many, no_room, room)

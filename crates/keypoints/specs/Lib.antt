@@ -1,5 +1,4 @@
 -- The crate's specification. Assumes nothing.
 pub mod Scale
 pub mod Marks
-pub mod Steps
 pub mod Worked

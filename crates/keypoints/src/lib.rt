@@ -3,15 +3,11 @@
 #![tactic(auto)]
 
 ghost use Rattle.std.specs.Prelude.{◌≡◌, ◌++◌, ltb, ◌≤◌, length, drop};
-ghost use Rattle.ranged1d.specs.Listed.{tell_listed};
+ghost use Rattle.ranged1d.specs.Told.{tell, tell_option};
 ghost use Rattle.keypoints.specs.Scale.{is_small, unless_next, rest_of, first_mark, last_mark, points_by, start_of, chosen, most_rounds};
-ghost use Rattle.keypoints.specs.Marks.{passes, shifted, marks_from, marks_by, marks_for, most_marks, unmarked_for, end_admitted, axis_admitted, put_unless, real_key_points};
-ghost use Rattle.keypoints.specs.Steps.{tell_chosen};
+ghost use Rattle.keypoints.specs.Marks.{passes, shifted, marks_from, marks_by, marks_for, most_marks, unmarked_for, end_admitted, axis_admitted, put_unless, smaller, larger, real_key_points};
 
-use ranged1d::{Listed, Refusal};
-
-// f64::EPSILON of Rust, 2^-52.
-const EPSILON: f64 = 2.220446049250313e-16;
+use ranged1d::Refusal;
 
 // How far from zero an end may be, and how near to each other two ends.
 const FARTHEST: f64 = 1e6;
@@ -27,18 +23,18 @@ const MOST_MARKS: usize = 2000;
 
 const ONE_MORE: usize = 2001;
 
+// The ends of an axis, the smaller one first.
+#[derive(Clone, Copy)]
+struct Span {
+    lo: f64,
+    hi: f64,
+}
+
 // The step between marks, and the granularity that they are held to.
 #[derive(Clone, Copy)]
 struct Scale {
     step: f64,
     grain: f64,
-}
-
-// The scale that was chosen, or that the rounds did not come to one.
-#[derive(Clone, Copy)]
-enum Chosen {
-    Of(Scale),
-    TooFine,
 }
 
 // What the loop over the marks goes by: a mark is the base and a distance from there, which grows by the step until it passes the right
@@ -52,16 +48,15 @@ struct Run {
 }
 
 // Whether x is less than c in size.
+#[tactic(auto, unfolding(crate::specs::Scale::is_small))]
 fn is_small(c: f64, x: f64) -> bool
     ensures { result ≡ is_small c x }
 {
-    if -c < x {
-        return x < c;
-    }
-    false
+    -c < x && x < c
 }
 
 // What x is past a multiple of s, or 0 where that is s but for rounding.
+#[tactic(auto, unfolding(crate::specs::Scale::rest_of))]
 fn rem_euclid(x: f64, s: f64) -> f64
     ensures { result ≡ rest_of x s }
 {
@@ -74,13 +69,14 @@ fn rem_euclid(x: f64, s: f64) -> f64
 fn unless_next(s: f64, r: f64) -> f64
     ensures { result ≡ unless_next s r }
 {
-    if is_small(EPSILON, r - s) {
+    if is_small(f64::EPSILON, r - s) {
         return 0.0;
     }
     r
 }
 
 // The first multiple of s from lo on.
+#[tactic(auto, unfolding(crate::specs::Scale::first_mark))]
 fn first_mark(lo: f64, s: f64) -> f64
     ensures { result ≡ first_mark lo s }
 {
@@ -92,215 +88,223 @@ fn first_mark(lo: f64, s: f64) -> f64
 }
 
 // The last multiple of s up to hi.
+#[tactic(auto, unfolding(crate::specs::Scale::last_mark))]
 fn last_mark(hi: f64, s: f64) -> f64
     ensures { result ≡ last_mark hi s }
 {
     hi - rem_euclid(hi, s)
 }
 
-// How many marks there would be, by the step old / nxt.
-fn points(lo: f64, hi: f64, old: f64, nxt: f64) -> u64
-    ensures { result ≡ points_by lo hi old nxt }
-{
-    let s = old / nxt;
-    let left = first_mark(lo, s);
-    let right = last_mark(hi, s);
-    rounding::to_u64(rounding::round(1.0 + (right - left) / old * nxt))
+impl Run {
+    // Whether the mark at the distance x has not passed the right end.
+    #[tactic(auto, unfolding(crate::specs::Marks::passes))]
+    fn goes_on(self, x: f64) -> bool
+        ensures { result ≡ passes self x }
+    {
+        -f64::EPSILON <= self.right - x - self.base
+    }
+
+    // The distance x, moved up where it is below 0 once it is rounded to the granularity.
+    #[tactic(auto, unfolding(crate::specs::Marks::shifted))]
+    fn shift_rounded(self, x: f64) -> f64
+        ensures { result ≡ shifted self x }
+    {
+        let g = self.grain;
+        if rounding::round(x / g) * g < 0.0 {
+            return x + g;
+        }
+        x
+    }
+
+    // The same. A distance that is not below 0 is not below it rounded either, so that marks are spared the division, all but one at most.
+    #[tactic(auto, using(crate::proofs::Signs::stays))]
+    fn shift(self, x: f64) -> f64
+        ensures { result ≡ shifted self x }
+    {
+        if 0.0 < self.grain {
+            if x < 0.0 {
+                return self.shift_rounded(x);
+            }
+            return x;
+        }
+        self.shift_rounded(x)
+    }
+
+    // The number of marks from the distance x on, up to one more than the most. They are counted before any is written, since a refusal
+    // writes nothing.
+    #[tactic(auto, using(crate::proofs::Lists::counts))]
+    fn count(self, x: f64) -> usize
+        ensures length_value { result ≡ length (marks_from self 2001 x) }
+        ensures bound { result ≤ 2001 }
+    {
+        let mut y = x;
+        for k in 0..ONE_MORE {
+            if !self.goes_on(y) {
+                return k;
+            }
+            y = self.shift(y) + self.step;
+        }
+        ONE_MORE
+    }
+
+    // The n marks from the distance x on, written to the start of out.
+    #[tactic(auto, using(crate::proofs::Lists::few, crate::proofs::Lists::all_written))]
+    fn put(self, x: f64, n: usize, out: &mut [f64])
+        requires n_in_bounds { n ≤ length out.old }
+        requires n_value { n ≡ length (marks_from self 2001 x) }
+        ensures { out.new ≡ marks_from self 2001 x ++ drop n out.old }
+    {
+        let mut y = x;
+        for mark in out[..n].iter_mut() {
+            let z = self.shift(y);
+            *mark = z + self.base;
+            y = z + self.step;
+        }
+    }
 }
 
-// The scale that the first round begins with. One more than n is above m where m is at most n.
-fn start(lo: f64, hi: f64, m: u64) -> Scale
-    ensures { result ≡ start_of lo hi m }
-{
-    let d = hi - lo;
-    let p = decades::decade(d).value;
-    let g = p / 10.0;
-    if m <= rounding::to_u64(rounding::floor(d / p)) {
-        return Scale {
-            step: p * 10.0,
-            grain: g * 10.0,
+impl Span {
+    // The ends a and b in order; of equal ones the first counts as the smaller.
+    fn between(a: f64, b: f64) -> Span
+        ensures { result ≡ record { lo = smaller a b; hi = larger a b } }
+    {
+        if b < a {
+            return Span { lo: b, hi: a };
+        }
+        Span { lo: a, hi: b }
+    }
+
+    // How many marks there would be, by the step old / nxt.
+    #[tactic(auto, unfolding(crate::specs::Scale::points_by))]
+    fn points(self, old: f64, nxt: f64) -> u64
+        ensures { result ≡ points_by self.lo self.hi old nxt }
+    {
+        let s = old / nxt;
+        let left = first_mark(self.lo, s);
+        let right = last_mark(self.hi, s);
+        rounding::to_u64(rounding::round(1.0 + (right - left) / old * nxt))
+    }
+
+    // The scale that the first round begins with. One more than n is above m where m is at most n.
+    #[tactic(auto, using(crate::proofs::Rules::starts))]
+    fn start(self, m: u64) -> Scale
+        ensures { result ≡ start_of self.lo self.hi m }
+    {
+        let d = self.hi - self.lo;
+        let p = decades::decade(d).value;
+        let g = p / 10.0;
+        if m <= rounding::to_u64(rounding::floor(d / p)) {
+            return Scale {
+                step: p * 10.0,
+                grain: g * 10.0,
+            };
+        }
+        Scale { step: p, grain: g }
+    }
+
+    // The scale that is chosen, if the rounds begin with this one and come to one.
+    #[tactic(auto, using(crate::proofs::Rules::rounds))]
+    fn choose(self, m: u64, first: Scale) -> Option<Scale>
+        ensures { tell_option result ≡ chosen self.lo self.hi m most_rounds first.step first.grain }
+    {
+        let mut step = first.step;
+        let mut grain = first.grain;
+        for _ in 0..MOST_ROUNDS {
+            if m < self.points(step, 2.0) {
+                return Some(Scale { step, grain });
+            }
+            if m < self.points(step, 5.0) {
+                return Some(Scale {
+                    step: step / 2.0,
+                    grain,
+                });
+            }
+            if m < self.points(step, 10.0) {
+                return Some(Scale {
+                    step: step / 5.0,
+                    grain,
+                });
+            }
+            step /= 10.0;
+            grain /= 10.0;
+        }
+        None
+    }
+
+    // The marks by a scale.
+    #[tactic(auto, using(crate::proofs::Lists::by_length), unfolding(crate::specs::Marks::marks_by))]
+    fn put_scaled(self, s: Scale, out: &mut [f64]) -> Result<usize, Refusal>
+        ensures { (tell result, out.new) ≡ put_unless (ltb most_marks (length (marks_by self.lo self.hi s))) (marks_by self.lo self.hi s) out.old }
+    {
+        let left = first_mark(self.lo, s.step);
+        let base = rounding::floor(left / s.grain) * s.grain;
+        let run = Run {
+            step: s.step,
+            grain: s.grain,
+            base,
+            right: last_mark(self.hi, s.step),
         };
-    }
-    Scale { step: p, grain: g }
-}
-
-// The scale that is chosen, if the rounds begin with s and g.
-fn choose(lo: f64, hi: f64, m: u64, s: f64, g: f64) -> Chosen
-    ensures { tell_chosen result ≡ chosen lo hi m most_rounds s g }
-{
-    let mut step = s;
-    let mut grain = g;
-    let mut n: usize = 0;
-    while n < MOST_ROUNDS {
-        if m < points(lo, hi, step, 2.0) {
-            return Chosen::Of(Scale { step, grain });
+        let x = left - base;
+        let n = run.count(x);
+        if MOST_MARKS < n {
+            return Err(Refusal::RealAxisNotMarked);
         }
-        if m < points(lo, hi, step, 5.0) {
-            return Chosen::Of(Scale {
-                step: step / 2.0,
-                grain,
-            });
+        if out.len() < n {
+            return Err(Refusal::OutTooShort);
         }
-        if m < points(lo, hi, step, 10.0) {
-            return Chosen::Of(Scale {
-                step: step / 5.0,
-                grain,
-            });
+        run.put(x, n, out);
+        Ok(n)
+    }
+
+    // The marks from lo to hi.
+    #[tactic(auto, using(crate::proofs::Calls::of_span))]
+    fn put(self, m: u32, out: &mut [f64]) -> Result<usize, Refusal>
+        ensures { (tell result, out.new) ≡ put_unless (unmarked_for self.lo self.hi m) (marks_for self.lo self.hi m) out.old }
+    {
+        let d = self.lo - self.hi;
+        if is_small(f64::EPSILON, d) {
+            if out.is_empty() {
+                return Err(Refusal::OutTooShort);
+            }
+            out[0] = self.lo;
+            return Ok(1);
         }
-        step = step / 10.0;
-        grain = grain / 10.0;
-        n += 1;
-    }
-    Chosen::TooFine
-}
-
-// Whether the mark at the distance x has not passed the right end.
-fn goes_on(r: Run, x: f64) -> bool
-    ensures { result ≡ passes r x }
-{
-    -EPSILON <= r.right - x - r.base
-}
-
-// The distance x, moved up where it is below 0 once it is rounded to the granularity.
-fn shift_rounded(r: Run, x: f64) -> f64
-    ensures { result ≡ shifted r x }
-{
-    let g = r.grain;
-    if rounding::round(x / g) * g < 0.0 {
-        return x + g;
-    }
-    x
-}
-
-// The same. A distance that is not below 0 is not below it rounded either, so that marks are spared the division, all but one at most.
-fn shift(r: Run, x: f64) -> f64
-    ensures { result ≡ shifted r x }
-{
-    if 0.0 < r.grain {
-        if x < 0.0 {
-            return shift_rounded(r, x);
+        if is_small(NEAREST, d) {
+            return Err(Refusal::RealAxisNotMarked);
         }
-        return x;
-    }
-    shift_rounded(r, x)
-}
-
-// The number of marks from the distance x on, up to one more than the most. They are counted before any is written, since a refusal
-// writes nothing.
-fn count_marks(r: Run, x: f64) -> usize
-    ensures { (result ≡ length (marks_from r 2001 x)) × (result ≤ 2001) }
-{
-    let mut y = x;
-    let mut k: usize = 0;
-    while k < ONE_MORE {
-        if !goes_on(r, y) {
-            return k;
-        }
-        y = shift(r, y) + r.step;
-        k += 1;
-    }
-    k
-}
-
-// The n marks from the distance x on, written to the start of out.
-fn put_marks(out: &mut [f64], r: Run, x: f64, n: usize)
-    requires n_in_bounds { n ≤ length out.old }
-    requires n_value { n ≡ length (marks_from r 2001 x) }
-    ensures { out.new ≡ marks_from r 2001 x ++ drop n out.old }
-{
-    let mut y = x;
-    let mut k: usize = 0;
-    while k < n {
-        let z = shift(r, y);
-        out[k] = z + r.base;
-        y = z + r.step;
-        k += 1;
-    }
-}
-
-// The marks by a scale.
-fn put_scaled(lo: f64, hi: f64, s: Scale, out: &mut [f64]) -> Listed
-    ensures { (tell_listed result, out.new) ≡ put_unless (ltb most_marks (length (marks_by lo hi s))) (marks_by lo hi s) out.old }
-{
-    let step = s.step;
-    let grain = s.grain;
-    let left = first_mark(lo, step);
-    let base = rounding::floor(left / grain) * grain;
-    let run = Run {
-        step,
-        grain,
-        base,
-        right: last_mark(hi, step),
-    };
-    let x = left - base;
-    let n = count_marks(run, x);
-    if MOST_MARKS < n {
-        return Listed::Refused(Refusal::RealAxisNotMarked);
-    }
-    if out.len() < n {
-        return Listed::Refused(Refusal::OutTooShort);
-    }
-    put_marks(out, run, x, n);
-    Listed::Written(n)
-}
-
-// The marks from lo to hi.
-fn put_sorted(lo: f64, hi: f64, m: u32, out: &mut [f64]) -> Listed
-    ensures { (tell_listed result, out.new) ≡ put_unless (unmarked_for lo hi m) (marks_for lo hi m) out.old }
-{
-    let d = lo - hi;
-    if is_small(EPSILON, d) {
-        if out.len() < 1 {
-            return Listed::Refused(Refusal::OutTooShort);
-        }
-        out[0] = lo;
-        return Listed::Written(1);
-    }
-    if is_small(NEAREST, d) {
-        return Listed::Refused(Refusal::RealAxisNotMarked);
-    }
-    let k = m as u64;
-    let s = start(lo, hi, k);
-    match choose(lo, hi, k, s.step, s.grain) {
-        Chosen::TooFine => Listed::Refused(Refusal::RealAxisNotMarked),
-        Chosen::Of(t) => put_scaled(lo, hi, t, out),
+        let k = u64::from(m);
+        let s = self
+            .choose(k, self.start(k))
+            .ok_or(Refusal::RealAxisNotMarked)?;
+        self.put_scaled(s, out)
     }
 }
 
 // Whether x is admitted as an end; a NaN is not.
+#[tactic(auto, unfolding(crate::specs::Marks::end_admitted))]
 fn end_admitted(x: f64) -> bool
     ensures { result ≡ end_admitted x }
 {
-    if -FARTHEST <= x {
-        return x <= FARTHEST;
-    }
-    false
+    -FARTHEST <= x && x <= FARTHEST
 }
 
 // Whether both ends and the mark limit are admitted.
 fn axis_admitted(a: f64, b: f64, m: u32) -> bool
     ensures { result ≡ axis_admitted a b m }
 {
-    if end_admitted(a) {
-        if end_admitted(b) {
-            return m <= MOST_ASKED;
-        }
-    }
-    false
+    end_admitted(a) && end_admitted(b) && m <= MOST_ASKED
 }
 
 // The marks of the axis from a to b, in either order, written to the start of out: at most about m of them.
-pub fn compute_f64_key_points(a: f64, b: f64, m: u32, out: &mut [f64]) -> Listed
-    ensures { (tell_listed result, out.new) ≡ real_key_points a b m out.old }
+#[tactic(auto, using(crate::proofs::Calls::of_axis))]
+pub fn compute_f64_key_points(a: f64, b: f64, m: u32, out: &mut [f64]) -> Result<usize, Refusal>
+    ensures { (tell result, out.new) ≡ real_key_points a b m out.old }
 {
     if m == 0 {
-        return Listed::Written(0);
+        return Ok(0);
     }
     if !axis_admitted(a, b, m) {
-        return Listed::Refused(Refusal::RealAxisNotMarked);
+        return Err(Refusal::RealAxisNotMarked);
     }
-    if b < a {
-        return put_sorted(b, a, m, out);
-    }
-    put_sorted(a, b, m, out)
+    Span::between(a, b).put(m, out)
 }

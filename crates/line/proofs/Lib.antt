@@ -1,3 +1,3 @@
 pub mod Words
-pub mod Fields
 pub mod Exact
+pub mod Marks

@@ -4,8 +4,6 @@ use Rattle.ranged1d.specs.Answer.{Answer, given, none, and_then}
 use Rattle.decimal.specs.Print.{blank, natural, decimal}
 use Rattle.decimal.specs.Read.{same_bytes, read_i32, read_u32}
 use Rattle.line.specs.declared.Request.{Request}
-use Rattle.line.specs.declared.Line.{Line}
-use Rattle.line.specs.declared.Line.TheVariants as line_is
 
 -- the bytes of the word rule
 abbrev pub keyword : List ℕ
@@ -55,7 +53,3 @@ parse_numbers s = and_then (whole_fields 4 s) (λ r. and_then (read_u32 r.1) (λ
 -- the line; none is a bad one. `accepts` of proofs/Exact says that these are the lines `line_of` and no others.
 unfoldable pub parse_line : List ℕ → Answer Request
 parse_line s = and_then (rule_field s) parse_numbers
-
-abbrev pub tell_line : Line → Answer Request
-tell_line (line_is.Rule r) = given r
-tell_line line_is.Bad = none

@@ -16,10 +16,6 @@ use Rattle.linspace.proofs.Rules.{counts_against, counts_long, counts_all}
 use Rattle.linspace.proofs.Ways.{stepped-run}
 use Rattle.linspace.proofs.Walks.{entries-few}
 
--- the same axis told twice
-pub same-axis : {A : Type 0} (f : Float → Float → Float → A) {a a' b b' d d' : Float} → (a ≡ a') × (b ≡ b') × (d ≡ d') → f a b d ≡ f a' b' d'
-same-axis f e = rw (e.0, e.1, e.2) refl
-
 module _ (a b d : Float) where
   -- ---- the list: where it has no entry, and how long it is
   pub stepped-empty : has_entries (stepped real a b d) ≡ false → stepped real a b d ≡ []
@@ -45,6 +41,10 @@ module _ (a b d : Float) where
   walked-count n x s w = sym (stepped-total s ∙ w.rest)
 
   -- ---- `size`
+  pub size-empty : against real a b d ≡ false → has_entries (stepped real a b d) ≡ false → given 0 ≡ step_size real a b d
+  unfolding step_size
+  size-empty e s = rw (e, stepped-empty s) refl
+
   pub size-against : against real a b d ≡ true → ◌≡◌ {A = Answer ℕ} (refused 6) (step_size real a b d)
   unfolding step_size
   size-against e = counts_against real a b d e

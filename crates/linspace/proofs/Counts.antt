@@ -50,11 +50,8 @@ module _ (a b d : Float) where
   entry_of z k h = ap (λ (w : List Float). get_or w k z) stepped-are ∙ entry (λ j. after (plus_step d) j a) z (length l) k h
 
   -- ---- a count that was given, or refused
-  pub counts_are : rules.counts real a b d ≡ step_size real a b d
-  counts_are = rules.size_is real a b d refl
-
   pub sized : {n : ℕ} → step_size real a b d ≡ given n → rules.Counted real a b d n
-  sized e = rules.counted real a b d (counts_are ∙ e)
+  sized e = rules.counted_by real a b d refl e
 
   -- ---- an entry of a list that was counted, or why the list is refused
   abbrev pub told_of : ℕ → ℕ → Float → Answer Float
@@ -77,7 +74,7 @@ module _ (a b d : Float) where
         go false e false h = sym (nth_past l k (omega (arith, all, ltb-false k n h))) ∙ ap (λ (s : Answer ℕ). once_listed s (nth l k)) (counted e)
 
     pub entry_told : told_of n k x ≡ step_from_index real a b d k
-    entry_told = told_is ∙ rules.from_is real a b d refl counts_are k
+    entry_told = told_is ∙ rules.from_is real a b d refl refl k
 
   -- ---- `from_index`, of a list that is refused or empty
   pub from-against : against real a b d ≡ true → (k : ℕ) → ◌≡◌ {A = Answer Float} (refused 6) (step_from_index real a b d k)
@@ -91,7 +88,7 @@ module _ (a b d : Float) where
   -- ---- `values`
   pub values-written : (old : List Float) {n : ℕ} → step_size real a b d ≡ given n → n ≤ length old → step_values real a b d old ≡ (given n, list_of (λ k. after (plus_step d) (k * 1) a) n ++ drop n old)
   values-written old {n} e h =
-      sym (rules.values-written real a b d refl old (counts_are ∙ e) h)
+      sym (rules.values-written real a b d refl old e h)
       ∙ ap (λ (z : List Float). (given n, z ++ drop n old)) (stepped-are ∙ list_ext (λ k. after (plus_step d) k a) (λ k. after (plus_step d) (k * 1) a) (length l) (λ k g. rw (mul-one k) refl))
       ∙ ap (λ (z : ℕ). (given n, list_of (λ k. after (plus_step d) (k * 1) a) z ++ drop n old)) (sym (sized e).all)
 
@@ -99,12 +96,12 @@ module _ (a b d : Float) where
   module _ (v : Float) (limit : Limit) where
     pub place_by : {s : Answer ℕ} {r : Answer ℤ} → step_size real a b d ≡ s → real_place a b v limit ≡ r → place_listed r s ≡ step_place real a b d v limit
     unfolding real_place
-    place_by h e = rules.place_is real a b d refl (counts_are ∙ h) v limit e
+    place_by h e = rules.place_is real a b d refl h v limit e
 
   -- ---- `unmap`
   module _ (x : ℤ) (limit : Limit) (p : reading_admitted x limit ≡ true) where
     reading_by : {s : Answer ℕ} → step_size real a b d ≡ s → once_listed s (nth_of l (pixel_index x limit (length l))) ≡ step_reading real a b d x limit
-    reading_by h = rules.reading_is real a b d refl (counts_are ∙ h) x limit p
+    reading_by h = rules.reading_is real a b d refl h x limit p
 
     pub reading-against : against real a b d ≡ true → ◌≡◌ {A = Answer Float} (refused 6) (step_reading real a b d x limit)
     reading-against e = reading_by (sym (axis.size-against a b d e))

@@ -5,24 +5,24 @@ use mathlib.Core.Bool.{Bool, true, false, true≢false, ◌&&◌}
 use mathlib.Core.List.{List, [], map}
 use mathlib.Core.Logic.{◌⊎◌, inl, inr}
 use Prim.Native.Nat.{ℕ, ◌+◌, ◌-◌, ◌*◌, ◌/◌, ◌≤◌, ◌<◌}
-use native.Mathlib.Nat.{zero-mul, div-eq_of_lt, div-mul-le_self, mul-le-mul_right}
+use native.Mathlib.Nat.{div-le_self, zero-mul, div-eq_of_lt, div-mul-le_self, mul-le-mul_right}
 use native.Mathlib.Decide.{dec_lt}
 use native.Mathlib.Omega.{arith}
 use borrow.Author.Tests.{lt-ltb, le-leb, lt-leb, eqb-false}
 use lib.Dec.{leb, eqb, leb-zero}
 use lib.IntN.{ℤ, pos, nat_abs, ◌*ℤ◌}
-use lib.ListN.{length, get_or}
+use lib.ListN.{length, get_or, length-map}
 use Rattle.ranged1d.specs.Answer.{Answer, given, refused, list_written}
 use Rattle.ranged1d.proofs.Answers.{not-both, all-written}
 use Rattle.numeric.specs.declared.KeyPoints.{KeyPoints}
 use Rattle.numeric.specs.Marks.{low, high, distance, chosen, step_at, first_index, last_index, how_many, ceil_div, list_of, multiple, multiples, no_step_for, step_for, marks_for}
-use Rattle.numeric.specs.Calls.{whole_plan, plan_of}
+use Rattle.numeric.specs.Calls.{whole_plan, plan_of, index_marks}
 use Rattle.numeric.proofs.Lists.{length_of, list_ext, map_list, entry}
 use Rattle.numeric.proofs.Steps.{step_pos, step_top}
 use Rattle.numeric.proofs.Reflect.{many_pos}
 use Rattle.numeric.proofs.NoStep.{none_served}
 use Rattle.numeric.proofs.Plans.{planned_good, index_marks_are}
-use Rattle.linspace.specs.Calls.{has_entries, marks_of}
+use Rattle.linspace.specs.Calls.{Spaced, has_entries, marks_of}
 
 -- ---- the axis from 0 to h
 low_zero : (h : ℕ) → low (pos 0) (pos h) ≡ pos 0
@@ -88,6 +88,30 @@ mark-inside h m {p} e k l =
     let few : k ≤ h / s = omega (arith, l, g.count) in
     omega (arith, g.first, mul-le-mul_right s few, div-mul-le_self h s)
 
+-- they are a step apart, from index 0 on
+pub spaced : (n m : ℕ) → 0 < n → n ≤ 65536 → {p : KeyPoints} → whole_plan (pos 0) (pos (n - 1)) m ≡ given p → Spaced n m (nat_abs p.step) p.count
+spaced n m some few {p} e =
+    let g = begins (n - 1) m e in record {
+      some = some;
+      few = omega (arith, g.count, div-le_self (n - 1) (nat_abs p.step), some);
+      marks = index_marks_are 0 (n - 1) m [] e ∙ list_ext _ _ p.count (λ k h. omega (arith, g.first));
+      within = λ k h. omega (arith, mark-inside (n - 1) m e k h, some);
+    }
+
+-- the entries at such marks
+pub marks_spaced : {A : Type 0} (x : A) (l : List A) {n m by count : ℕ} → length l ≡ n → Spaced n m by count → marks_of x l m ≡ list_of (λ k. get_or l (k * by) x) count
+unfolding marks_of
+marks_spaced x l {n} {m} {by} {count} e s =
+    rw (e, lt-ltb 0 n s.some) (ap (map (λ k. get_or l k x)) s.marks ∙ map_list (λ k. get_or l k x) (λ k. k * by) count)
+
+pub marks_long : {A : Type 0} (x : A) (l : List A) (m : ℕ) {n : ℕ} → length l ≡ n → 0 < n → length (marks_of x l m) ≡ length (index_marks 0 (n - 1) m)
+unfolding marks_of
+marks_long x l m {n} e some = rw (e, lt-ltb 0 n some) (length-map (index_marks 0 (n - 1) m) (λ k. get_or l k x))
+
+-- of a list by index
+pub marks_by : {A : Type 0} (x : A) (f : ℕ → A) {n m by count : ℕ} → Spaced n m by count → marks_of x (list_of f n) m ≡ list_of (λ k. f (k * by)) count
+marks_by x f {n} {m} {by} {count} s = marks_spaced x (list_of f n) (length_of f n) s ∙ list_ext _ (λ k. f (k * by)) count (λ k h. entry f x n (k * by) (s.within k h))
+
 -- ---- the entries at the marks
 module _ {A : Type 0} (x : A) (l : List A) (m : ℕ) where
   pub marks-none : length l ≡ 0 → marks_of x l m ≡ []
@@ -107,13 +131,6 @@ module _ {A : Type 0} (x : A) (l : List A) (m : ℕ) where
       let plan = plan_is (n - 1) m (omega (arith, near)) h in
       let p = plan_of (pos 0) (pos (n - 1)) m in
       omega (arith, ap length (marks-are n e some plan), length_of (λ k. get_or l (nat_abs p.first + k * nat_abs p.step) x) p.count, (begins (n - 1) m plan).count)
-
--- of a list by index
-pub marks_list : {A : Type 0} (x : A) (f : ℕ → A) (n m : ℕ) → (n ≡ 0 → ⊥) → {p : KeyPoints} → whole_plan (pos 0) (pos (n - 1)) m ≡ given p
-    → marks_of x (list_of f n) m ≡ list_of (λ k. f (nat_abs p.first + k * nat_abs p.step)) p.count
-marks_list x f n m some {p} plan =
-    marks-are x (list_of f n) m n (length_of f n) some plan
-    ∙ list_ext _ (λ k. f (nat_abs p.first + k * nat_abs p.step)) p.count (λ k h. entry f x n (nat_abs p.first + k * nat_abs p.step) (omega (arith, mark-inside (n - 1) m plan k h, some)))
 
 -- ---- what is written
 module _ {A : Type 0} (l old : List A) where

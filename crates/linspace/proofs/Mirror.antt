@@ -20,11 +20,11 @@ use Rattle.search.proofs.RealOrder.{real-order}
 use Rattle.search.proofs.Mirror.{Opposite, Across, whole_turns, real_turns, add-alike}
 use Rattle.search.proofs.Turned.{each_map}
 use Rattle.linspace.specs.List.{Kind, whole, real, stepped, axis_admitted}
-use Rattle.linspace.specs.Calls.{step_marks, step_place}
+use Rattle.linspace.specs.Calls.{step_size, step_marks, step_place}
 use Rattle.linspace.specs.Mirror as mirror
 use Rattle.linspace.specs.Mirror.{Mirrored, WholeMirrored, RealMirrored}
-use Rattle.linspace.proofs.Turned.{KindTurns, stepped-turned, marks-turned, sizes-turned, values-turned, key_points_turned, searches-turned, admitted-turned, counts_turned}
-use Rattle.linspace.proofs.Rules.{counts, ends_place, place_listed, place-refused, place_is}
+use Rattle.linspace.proofs.Turned.{KindTurns, stepped-turned, marks-turned, sizes-turned, values-turned, key_points_turned, searches-turned, admitted-turned}
+use Rattle.linspace.proofs.Rules.{ends_place, place_listed, place-refused, place_is}
 use Rattle.linspace.proofs.WholeRules.{ends-place}
 
 -- ---- whole numbers
@@ -87,8 +87,8 @@ module _ {A : Type 0} (kind : Kind A) (R : A → A → Type 0) (K : KindTurns ki
 
       go : (t : Bool) → axis_admitted kind a b d ≡ t → step_place kind (opposite a) (opposite b) (opposite d) (opposite v) (mirrored limit) ≡ negated (step_place kind a b d v limit)
       go true h =
-          sym (place_is kind (opposite a) (opposite b) (opposite d) (admits ∙ h) (counts_turned kind R K (opposite a) (opposite b) (opposite d) a b d (opp a) (opp b) (opp d)) (opposite v) (mirrored limit) (ends a b d v limit h))
-          ∙ listed-neg (ends_place kind a b d v limit) (counts kind a b d)
+          sym (place_is kind (opposite a) (opposite b) (opposite d) (admits ∙ h) (sizes-turned kind R K (opposite a) (opposite b) (opposite d) a b d (opp a) (opp b) (opp d)) (opposite v) (mirrored limit) (ends a b d v limit h))
+          ∙ listed-neg (ends_place kind a b d v limit) (step_size kind a b d)
           ∙ ap negated (place_is kind a b d h refl v limit refl)
       go false h = sym (place-refused kind (opposite a) (opposite b) (opposite d) (admits ∙ h) (opposite v) (mirrored limit)) ∙ ap negated (place-refused kind a b d h v limit)
 

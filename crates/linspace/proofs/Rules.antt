@@ -1,6 +1,6 @@
 -- The rules of the calls, return by return, for both kinds of numbers. Assumes nothing.
 use mathlib.Core.Path.{◌≡◌, refl, sym, ap, ◌∙◌}
-use mathlib.Core.Bool.{Bool, true, false, cond, not, ◌||◌}
+use mathlib.Core.Bool.{Bool, true, false, cond, not, ◌||◌, and-false}
 use mathlib.Core.List.{List, [], ◌∷◌, ◌++◌}
 use Prim.Native.Nat.{ℕ, ◌≤◌, ◌<◌}
 use native.Mathlib.Omega.{arith}
@@ -8,6 +8,11 @@ use borrow.Author.Tests.{lt-ltb, le-ltb, ltb-false}
 use lib.Dec.{ltb}
 use lib.IntN.{ℤ}
 use lib.ListN.{length, drop}
+use Rattle.std.specs.Prelude.{Option, Some, None, MatchOption, IsSomeAnd, Result, Ok, Err, IsErr, IsErrAnd}
+use Rattle.std.proofs.Common.{rules}
+use Rattle.ranged1d.specs.Refusals.{number_of}
+use Rattle.ranged1d.specs.Told.{tell, tell_option, tell_found}
+use Rattle.ranged1d.specs.declared.Refusal.{Refusal}
 use Rattle.ranged1d.specs.Answer.{Answer, given, none, refused, Reason, ◌when◌, lowest, written, and_then, list_written}
 use Rattle.ranged1d.specs.Admitted.{reading_admitted}
 use Rattle.ranged1d.specs.declared.Limit.{Limit}
@@ -20,6 +25,25 @@ use Rattle.search.specs.Search as rule
 use Rattle.linspace.specs.List.{Kind, most, stepped, against, too_long, axis_admitted}
 use Rattle.linspace.specs.Calls.{nth, nth_of, unlisted, step_values, step_size, step_from_index, step_index_of, among, step_spot, step_place, step_reading, step_marks, step_key_points, unserved}
 
+-- ---- a refusal that is handed on
+pub handed : {A : Type 0} (r : Result A Refusal) (e : Refusal) → IsErr r × IsErrAnd r (λ x. x ≡ e) → tell r ≡ refused (number_of e)
+handed (Ok x) e h = search rules
+handed (Err x) e h = ap (λ (y : Refusal). refused (number_of y)) h.1
+
+pub handed_found : {A : Type 0} (r : Result (Option A) Refusal) (e : Refusal) → IsErr r × IsErrAnd r (λ x. x ≡ e) → tell_found r ≡ refused (number_of e)
+handed_found (Ok x) e h = search rules
+handed_found (Err x) e h = ap (λ (y : Refusal). refused (number_of y)) h.1
+
+-- ---- what is found, with something beside it
+pub told_map : {A B : Type 0} (r : Option A) (q : Option B) (g : A → B) → MatchOption r (q ≡ None) (λ x. IsSomeAnd q (λ y. y ≡ g x)) → tell_option q ≡ and_then (tell_option r) (λ x. given (g x))
+told_map None q g h = ap tell_option h
+told_map (Some x) None g h = search rules
+told_map (Some x) (Some y) g h = ap given h
+
+-- the same axis told twice
+pub same-axis : {A B : Type 0} (f : A → A → A → B) {a a' b b' d d' : A} → (a ≡ a') × (b ≡ b') × (d ≡ d') → f a b d ≡ f a' b' d'
+same-axis f e = rw (e.0, e.1, e.2) refl
+
 -- an answer once the entries are counted
 abbrev pub once_listed : {B : Type 0} → Answer ℕ → Answer B → Answer B
 once_listed counts r = and_then counts (λ n. r)
@@ -27,10 +51,6 @@ once_listed counts r = and_then counts (λ n. r)
 -- a place that is answered once the entries are counted
 abbrev pub place_listed : Answer ℤ → Answer ℕ → Answer ℤ
 place_listed place counts = and_then place (λ z. once_listed counts (given z))
-
--- an index without the number of entries
-abbrev pub index_alone : Answer (ℕ × ℕ) → Answer ℕ
-index_alone r = and_then r (λ e. given e.0)
 
 -- 7 for one reason or another
 seven : (t u : Bool) (r : Answer ℕ) → lowest (7 when (t || u) ∷ []) r ≡ lowest (7 when t ∷ 7 when u ∷ []) r
@@ -63,12 +83,6 @@ module _ {A : Type 0} (kind : Kind A) (a b d : A) where
       let g = given_tests (unlisted kind a b d) (given (length (stepped kind a b d))) h in
       let s = given_is g.1 in
       record { onward = g.0.0; short = g.0.1.0; all = sym s; few = omega (arith, s, ltb-false most (length (stepped kind a b d)) g.0.1.0) }
-
-  -- an index among the entries is that index
-  pub index-alone : (found : Answer ℕ) → index_alone (among kind a b d found) ≡ found
-  index-alone (given k) = refl
-  index-alone none = refl
-  index-alone (refused n) = refl
 
   -- an answer with 6 and 7 in front of it, by the count
   once_listed_lem : {B : Type 0} {s : Answer ℕ} → counts ≡ s → (r : Answer B) → lowest (unlisted kind a b d) r ≡ once_listed s r
@@ -113,15 +127,15 @@ module _ {A : Type 0} (kind : Kind A) (a b d : A) where
     unfolding step_key_points
     points_refused m old = rw h refl
 
+  pub index_value_refused : (v : A) (method : RoundingMethod) → kind.admitted v ≡ false → ◌≡◌ {A = Answer ℕ} (refused 1) (step_index_of kind a b d v method)
+  unfolding step_index_of
+  index_value_refused v method u = rw (u, and-false (axis_admitted kind a b d)) refl
+
   -- ---- an axis that is admitted
   module _ (h : axis_admitted kind a b d ≡ true) where
     pub size_is : counts ≡ step_size kind a b d
     unfolding step_size
     size_is = rw h refl
-
-    pub index_value_refused : (v : A) (method : RoundingMethod) → kind.admitted v ≡ false → ◌≡◌ {A = Answer ℕ} (refused 1) (step_index_of kind a b d v method)
-    unfolding step_index_of
-    index_value_refused v method u = rw (h, u) refl
 
     pub reading-outside : (x : ℤ) (limit : Limit) → reading_admitted x limit ≡ false → ◌≡◌ {A = Answer A} (refused 2) (step_reading kind a b d x limit)
     unfolding step_reading
@@ -131,8 +145,14 @@ module _ {A : Type 0} (kind : Kind A) (a b d : A) where
     unfolding step_key_points
     points_none m old e = rw (h, e) refl
 
-    -- ---- by the count
-    module _ {s : Answer ℕ} (e : counts ≡ s) where
+    -- ---- by the number of entries
+    pub counted_by : {n : ℕ} → step_size kind a b d ≡ given n → Counted n
+    counted_by q = counted (size_is ∙ q)
+
+    module _ {s : Answer ℕ} (q : step_size kind a b d ≡ s) where
+      e : counts ≡ s
+      e = size_is ∙ q
+
       pub from_is : (k : ℕ) → once_listed s (nth (stepped kind a b d) k) ≡ step_from_index kind a b d k
       unfolding step_from_index
       from_is k = rw h (sym (once_listed_lem e (nth (stepped kind a b d) k)))
@@ -168,18 +188,18 @@ module _ {A : Type 0} (kind : Kind A) (a b d : A) where
       points_by_lem m old some = rw (h, some) (ap (λ (r : Answer ℕ). written r (step_marks kind a b d m) old) (once_listed_lem e _))
 
     module _ (old : List A) where
-      pub values-stopped : {n : ℕ} → counts ≡ refused n → (refused n, old) ≡ step_values kind a b d old
+      pub values-stopped : {n : ℕ} → step_size kind a b d ≡ refused n → (refused n, old) ≡ step_values kind a b d old
       values-stopped e = sym (values_by e old)
 
-      pub values-short : {n : ℕ} → counts ≡ given n → length old < n → (refused 7, old) ≡ step_values kind a b d old
-      values-short {n} e l = sym (values_by e old ∙ rw (← (counted e).all, lt-ltb (length old) n l) refl)
+      pub values-short : {n : ℕ} → step_size kind a b d ≡ given n → length old < n → (refused 7, old) ≡ step_values kind a b d old
+      values-short {n} e l = sym (values_by e old ∙ rw (← (counted_by e).all, lt-ltb (length old) n l) refl)
 
-      pub values-written : {n : ℕ} → counts ≡ given n → n ≤ length old → (given n, stepped kind a b d ++ drop n old) ≡ step_values kind a b d old
-      values-written {n} e l = sym (values_by e old ∙ rw (← (counted e).all, le-ltb (length old) n l, ← (counted e).all) refl)
+      pub values-written : {n : ℕ} → step_size kind a b d ≡ given n → n ≤ length old → (given n, stepped kind a b d ++ drop n old) ≡ step_values kind a b d old
+      values-written {n} e l = sym (values_by e old ∙ rw (← (counted_by e).all, le-ltb (length old) n l, ← (counted_by e).all) refl)
 
     module _ (m : ℕ) (old : List A) (some : unserved kind a b d m ≡ false) where
-      pub points_stopped : {n : ℕ} → counts ≡ refused n → (refused n, old) ≡ step_key_points kind a b d m old
+      pub points_stopped : {n : ℕ} → step_size kind a b d ≡ refused n → (refused n, old) ≡ step_key_points kind a b d m old
       points_stopped e = sym (points_by_lem e m old some)
 
-      pub points_is : {n : ℕ} → counts ≡ given n → list_written (step_marks kind a b d m) old ≡ step_key_points kind a b d m old
+      pub points_is : {n : ℕ} → step_size kind a b d ≡ given n → list_written (step_marks kind a b d m) old ≡ step_key_points kind a b d m old
       points_is e = sym (points_by_lem e m old some)

@@ -1,6 +1,6 @@
 -- Runs of entries that are written side by side: what a run holds so far, that stores outside it leave it alone, and that runs which follow
 -- each other are one; and the sums that a walk has kept. Assumes nothing.
-use mathlib.Core.Path.{◌≡◌, refl, sym, ap, subst, ◌∙◌}
+use mathlib.Core.Path.{◌≡◌, refl, sym, ap, ap₂, subst, ◌∙◌}
 use mathlib.Core.Logic.{◌⊎◌, inl, inr}
 use mathlib.Core.List.{List, [], ◌∷◌, ◌++◌, append_assoc, append-nil}
 use Prim.Native.Nat.{ℕ, zero, suc, ◌+◌, ◌-◌, ◌*◌, ◌≤◌, ◌<◌}
@@ -8,14 +8,13 @@ use native.Mathlib.Nat.{zero-add, add-mul, mul_assoc}
 use native.Mathlib.Numerals.{add-one}
 use native.Mathlib.Omega.{arith}
 use native.Mathlib.Decide.{dec_lt}
-use lib.ListN.{length, set, take, drop, get_or, length-set, length-append, length-drop}
-use lib.Seq.{take_at, take-suc, length-take-le, drop-cons, drop-drop, drop-append-add, drop-set-lt, get_or-set_same, get_or-set_other, get_or-take, ext_get_or}
+use lib.ListN.{length, set, take, drop, get_or, length-set, length-append, length-drop, drop_of_length-le}
+use lib.Seq.{take_at, length-take-le, drop-cons, drop-drop, drop-append-add, drop-set-lt, get_or-set_same, get_or-set_other, get_or-take, ext_get_or}
 use borrow.Rule.Slice.PartMut.{mid_of, post_of, put_mid, mid_len, Post-is}
 use Rattle.numeric.specs.Marks.{list_of}
-use Rattle.ranged1d.proofs.Pieces.{put_next}
-use Rattle.numeric.proofs.Lists.{length_of, entry}
+use Rattle.numeric.proofs.Lists.{length_of, entry, list_cons, write_more}
 use Rattle.linspace.specs.RealSteps.{after, sums_by, Kept, one_run, four_runs}
-use Rattle.linspace.proofs.Walks.{after_more, after_on}
+use Rattle.linspace.proofs.Walks.{after_more, after_on, after_none, after_turn}
 
 -- `e` is any element: it stands where a list has none
 module _ {A : Type 0} (e : A) where
@@ -65,12 +64,6 @@ module _ {A : Type 0} {next : A → A} {a : A} {h : ℕ} {l : List A} (e : A) (w
 
       same : (i : ℕ) → i < n → get_or (take n l) i e ≡ get_or (sums_by next h a n) i e
       same i v = get_or-take n l i e v ∙ kept_at i (omega (arith, v, u)) ∙ sym (entry (λ k. after next (k * h) a) e n i v)
-
--- the first k of a list are copied to the start of another, and one more is
-pub copy_more : {A : Type 0} (e : A) (l : List A) (k : ℕ) (o : List A) → k < length l → k < length o → set (take k l ++ drop k o) k (get_or l k e) ≡ take (k + 1) l ++ drop (k + 1) o
-copy_more {A} e l k o h r =
-    put_next e (take k l) (get_or l k e) k o (length-take-le k l (omega (arith, h))) r
-    ∙ ap (λ (m : List A). m ++ drop (k + 1) o) (sym (take-suc l k e h) ∙ ap (λ (n : ℕ). take n l) (sym (add-one k)))
 
 -- a run that begins where another ends goes on with it
 pub runs_join : {A : Type 0} (next : A → A) (by : ℕ) (x : A) (m n : ℕ)
@@ -204,6 +197,18 @@ module _ {A : Type 0} (next : A → A) (by : ℕ) (a : A) where
     four-behind r q =
         let all : g * by + 3 * g * by ≡ 4 * g * by = omega (arith, mul_assoc 4 g by, mul_assoc 3 g by) in
         after_on next (g * by) (3 * g * by) a all q (begins 3 (3 * g) (omega arith) refl)
+
+  -- a, and the sums behind it one by one
+  pub put_behind : (e : A) (k : ℕ) (o l : List A) {y z : A} → k < length o → l ≡ list_of (λ k. F (suc k)) k ++ drop k o → y ≡ F k → z ≡ after next by y → set l k z ≡ list_of (λ k. F (suc k)) (k + 1) ++ drop (k + 1) o
+  put_behind e k o l h r p q =
+      ap₂ (λ (m : List A) (z : A). set m k z) r (after_turn next by k a q p ∙ ap F (add-one k)) ∙ write_more (λ k. F (suc k)) e k o h
+
+  pub all_behind : (o l m : List A) (k : ℕ) → length o ≤ k → k ≤ length o → l ≡ list_of (λ k. F (suc k)) k ++ drop k o → length m ≡ suc (length o) → a ∷ l ≡ list_of F (length m)
+  all_behind o l m k h r p q =
+      let n : length o ≡ k = omega (arith, h, r) in
+      ap₂ (λ (x : A) (l : List A). x ∷ l) (after_none next by a) (p ∙ ap (λ (z : List A). list_of (λ k. F (suc k)) k ++ z) (drop_of_length-le o (omega (arith, n))) ∙ append-nil (list_of (λ k. F (suc k)) k))
+      ∙ sym (list_cons F k)
+      ∙ ap (list_of F) (sym (q ∙ ap suc n))
 
   -- the first m are there, and those from m to n are put behind them
   pub rest_put : (m n : ℕ) (o l y : List A) (x : A) → m ≤ n → n ≤ length o → l ≡ list_of F m ++ drop m o → x ≡ after next (m * by) a

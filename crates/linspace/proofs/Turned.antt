@@ -92,9 +92,6 @@ module _ {A : Type 0} (kind : Kind A) (R : A → A → Type 0) (K : KindTurns ki
   pub admitted-turned : axis_admitted kind a b d ≡ axis_admitted kind a' b' d'
   admitted-turned = rw (K.admitted_turns ra, K.admitted_turns rb, K.admitted_turns rd) refl
 
-  pub counts_turned : counts kind a b d ≡ counts kind a' b' d'
-  counts_turned = rw (against-turned, same_length) refl
-
   pub marks-turned : (m : ℕ) → Each R (step_marks kind a b d m) (step_marks kind a' b' d' m)
   unfolding marks_of
   marks-turned m = rw (same_length) (go (has_entries (stepped kind a' b' d')))

@@ -1,12 +1,17 @@
 -- Which way a stepped axis runs, of either kind of numbers: when its step leads away, and when its list has an entry. Assumes nothing.
-use mathlib.Core.Path.{◌≡◌, refl, sym, ap, ◌∙◌}
+use mathlib.Core.Path.{◌≡◌, refl, sym, ap, subst, ◌∙◌}
 use mathlib.Core.Bool.{Bool, true, false, cond, true≢false, ◌||◌, or-false}
 use mathlib.Core.List.{[]}
 use Rattle.ranged1d.proofs.Bools.{both_false}
 use Rattle.search.proofs.Orders.{Order}
+use Rattle.search.specs.Search.{Numbers}
 use Rattle.linspace.specs.List.{Kind, toward, run, stepped, against}
 use Rattle.linspace.specs.Calls.{has_entries}
 use Rattle.linspace.proofs.Entries.{run-some, some_if}
+
+-- the order of a kind whose numbers compare as an entry's do
+pub ordered_by : {A : Type 0} (kind : Kind A) {n : Numbers A} → kind.numbers ≡ n → Order A n.less n.equal → Order A kind.numbers.less kind.numbers.equal
+ordered_by {A} kind e o = subst (λ (n : Numbers A). Order A n.less n.equal) (sym e) o
 
 module _ {A : Type 0} (kind : Kind A) (o : Order A kind.numbers.less kind.numbers.equal) (a b d : A) where
   -- ---- 6

@@ -1,7 +1,7 @@
 -- The index of v on a whole stepped axis: how many entries come before it, by division, is its place in the list. Assumes nothing.
 use mathlib.Core.Path.{◌≡◌, refl, sym, ap, ◌∙◌}
 use mathlib.Core.Bool.{Bool, true, false, cond, true≢false}
-use Prim.Native.Nat.{ℕ, zero, suc, ◌+◌, ◌-◌, ◌*◌, ◌/◌, ◌≤◌, ◌<◌}
+use Prim.Native.Nat.{ℕ, min, zero, suc, ◌+◌, ◌-◌, ◌*◌, ◌/◌, ◌≤◌, ◌<◌}
 use native.Mathlib.Nat.{suc-mul}
 use native.Mathlib.Omega.{arith}
 use borrow.Author.Tests.{lt-ltb, le-ltb, ltb-true, ltb-false, leb-true, leb-false, eq-eqb, ne_eqb}
@@ -10,7 +10,7 @@ use lib.IntN.{ℤ, pos, negsuc, nat_abs, ◌+ℤ◌, ◌-ℤ◌}
 use lib.ListN.{get_or}
 use lib.Signed.{lt_z, le_z}
 use Rattle.ranged1d.specs.Admitted.{whole_admitted}
-use Rattle.ranged1d.proofs.Whole.{minus-far, neg-minus, start_to}
+use Rattle.ranged1d.proofs.Whole.{minus-far, neg-minus, start_to, same_yes}
 use Rattle.numeric.specs.Marks.{list_of}
 use Rattle.numeric.specs.Calls.{element}
 use Rattle.numeric.proofs.Lists.{length_of, entry}
@@ -19,7 +19,13 @@ use Rattle.search.specs.Lists.{toward, ascends}
 use Rattle.search.specs.Settled.{settled}
 use Rattle.search.specs.Steps.{PlaceOf}
 use Rattle.search.specs.declared.RoundingMethod.{RoundingMethod}
-use Rattle.search.proofs.Rules.{whole_found}
+use Rattle.search.proofs.Orders as order
+use Rattle.search.proofs.WholeOrder.{whole-order}
+use Rattle.search.proofs.Lists.{sorted, ordinary}
+use Rattle.search.proofs.Halves.{place_any}
+use Rattle.search.proofs.Settles.{settles}
+use Rattle.ranged1d.specs.Numbers.{same, every}
+use mathlib.Core.List.{List, [], ◌∷◌}
 use Rattle.search.specs.Search as rule
 use Rattle.linspace.specs.List.{whole, axis_admitted}
 use Rattle.linspace.specs.WholeSteps.{past, cut_at, whole_position, Known}
@@ -30,13 +36,6 @@ use Rattle.linspace.proofs.WholeList.{way, rounded_up, Sloped, element-toward, e
 past_way : (rises : Bool) (a v : ℤ) → v ≡ a +ℤ way rises (cond rises (v -ℤ a) (a -ℤ v))
 past_way true a v = sym (start_to a v)
 past_way false a v = sym (ap (λ (z : ℤ). a +ℤ z) (neg-minus a v) ∙ start_to a v)
-
-pub past_near : (a b d v : ℤ) → axis_admitted whole a b d ≡ true → whole_admitted v ≡ true → nat_abs (past a b v) ≤ 2000000000
-past_near a b d v h w = go (lt_z a b)
-  where
-    go : (t : Bool) → nat_abs (cond t (v -ℤ a) (a -ℤ v)) ≤ 2000000000
-    go true = omega (arith, minus-far v a, (admitted-near a b d h).0, leb-true (nat_abs v) 1000000000 w)
-    go false = omega (arith, minus-far a v, (admitted-near a b d h).0, leb-true (nat_abs v) 1000000000 w)
 
 -- nothing that lies on the way comes before what lies at its start or behind it
 none-behind : (n : ℕ) (q : ℤ) → le_z q (pos 0) ≡ true → lt_z (pos n) q ≡ false
@@ -96,6 +95,13 @@ module _ {rises : Bool} {a b d : ℤ} {p s : ℕ} (x : Sloped rises a b d p s) (
   rises_on : ascends (toward rises lt_z) (list_of (element a d) n) ≡ true
   rises_on = ascends_list (toward rises lt_z) (element a d) n (λ k. element-toward x k (element a d (suc k)) (pos (suc k * s)) (element_is x (suc k)) ∙ lt-ltb (k * s) (suc k * s) (omega (arith, suc-mul k s, x.moves)))
 
+cut_min : (i n : ℕ) → cond (ltb i n) i n ≡ min i n
+cut_min i n = go (ltb i n) refl
+  where
+    go : (t : Bool) → ltb i n ≡ t → cond t i n ≡ min i n
+    go true e = omega (arith, ltb-true i n e)
+    go false e = omega (arith, ltb-false i n e)
+
 -- the place, by the tests that lead to it
 module _ (a b d v : ℤ) (n : ℕ) where
   pub position_behind : le_z (past a b v) (pos 0) ≡ true → 0 ≡ whole_position a b d n v
@@ -112,11 +118,8 @@ module _ (a b d v : ℤ) (n : ℕ) where
       unfolding whole_position
       by_cut = rw (h, ← far, ← size, ne_eqb s 0 some) refl
 
-      pub position_inside : (q - 1) / s + 1 < n → (q - 1) / s + 1 ≡ whole_position a b d n v
-      position_inside l = sym (rw (lt-ltb ((q - 1) / s + 1) n l) refl) ∙ by_cut
-
-      pub position_end : n ≤ (q - 1) / s + 1 → n ≡ whole_position a b d n v
-      position_end l = sym (rw (le-ltb ((q - 1) / s + 1) n l) refl) ∙ by_cut
+      pub position_inside : min ((q - 1) / s + 1) n ≡ whole_position a b d n v
+      position_inside = sym (cut_min ((q - 1) / s + 1) n) ∙ by_cut
 
 -- of no entries none comes before v
 cut-none : (q s : ℕ) → cut_at q s 0 ≡ 0
@@ -150,4 +153,14 @@ module _ {a b d : ℤ} where
       → settled wholes method (lt_z a b) n i x v y ≡ rule.search wholes v method (list_of (element a d) n)
   found {n} v method i x y known e xi yi =
       ap (λ (k : ℕ). settled wholes method (lt_z a b) k i x v y) (sym (length_of (element a d) n))
-      ∙ whole_found (lt_z a b) (list_of (element a d) n) v (pos 0) method i x y (in_order n known) (rw e (placed n v known)) xi yi
+      ∙ sym (settles wholes v whole-order r method l i x y (sorted (order.way whole-order r) v l (in_order n known)) (ordinary same v l (selves l)) (same_yes v v refl) (place_any (toward r lt_z) l (pos 0) v v i (rw e (placed n v known))) (λ h. yi) xi)
+    where
+      r : Bool
+      r = lt_z a b
+
+      l : List ℤ
+      l = list_of (element a d) n
+
+      selves : (l : List ℤ) → every (λ x. same x x) l ≡ true
+      selves [] = refl
+      selves (x ∷ xs) = rw (same_yes x x refl) (selves xs)

@@ -1,21 +1,18 @@
 -- What each call on a stepped axis (a, b, d) answers, on every input, and what the list lent to it holds afterwards: 01 "Mirroring, real
 -- reading, stepped axes" with the refusals of 01 "Why a call stops". Every rule is written once, for both kinds of numbers. Assumes
 -- nothing.
-use Rattle.std.specs.Prelude.{ℕ, zero, suc, ◌-◌, Bool, cond, not, ◌&&◌, ◌||◌, List, [], ◌∷◌, ◌++◌, map, ltb, eqb, ℤ, ◌-ℤ◌, length, get_or}
-use Rattle.ranged1d.specs.Answer.{Answer, given, none, refused, Reason, ◌when◌, lowest, written, and_then}
-use Rattle.ranged1d.specs.Refusals.{number_of}
+use Rattle.std.specs.Prelude.{◌≡◌, ℕ, zero, suc, ◌-◌, ◌*◌, ◌<◌, ◌≤◌, Bool, cond, not, ◌&&◌, ◌||◌, List, [], ◌∷◌, ◌++◌, map, ltb, eqb, ℤ, ◌-ℤ◌, length, get_or, Option}
+use Rattle.ranged1d.specs.Answer.{Answer, given, none, Reason, ◌when◌, lowest, written, and_then}
 use Rattle.ranged1d.specs.Admitted.{reading_admitted}
 use Rattle.ranged1d.specs.declared.Limit.{Limit}
-use Rattle.rounding.specs.declared.Whole.{Whole}
 use Rattle.discrete.specs.Index.{index_for}
 use Rattle.real.specs.Place.{spot, number, real_place_reasons}
+use Rattle.numeric.specs.Marks.{list_of}
 use Rattle.numeric.specs.Calls.{index_marks}
 use Rattle.search.specs.Search.{search}
 use Rattle.search.specs.Lists.{nan_target}
 use Rattle.search.specs.declared.RoundingMethod.{RoundingMethod}
 use Rattle.linspace.specs.List.{Kind, stepped, against, too_long, axis_admitted}
-use Rattle.linspace.specs.declared.Among.{Among}
-use Rattle.linspace.specs.declared.Among.TheVariants as among_is
 
 -- ---- lists: the entry at an index, none past the end; whether there is an entry; the entries at the marks of 0..count − 1
 abbrev pub nth : {A : Type 0} → List A → ℕ → Answer A
@@ -30,14 +27,15 @@ has_entries l = ltb 0 (length l)
 abbrev pub nth_of : {A : Type 0} → List A → Answer ℕ → Answer A
 nth_of l r = and_then r (nth l)
 
--- an index and the number of entries, as they are told
-abbrev pub tell_among : Among → Answer (ℕ × ℕ)
-tell_among (among_is.At k n) = given (k, n)
-tell_among among_is.Nothing = none
-tell_among (among_is.Refused r) = refused (number_of r)
-
 unfoldable pub marks_of : {A : Type 0} → A → List A → ℕ → List A
 marks_of x l m = cond (has_entries l) (map (λ k. get_or l k x) (index_marks 0 (length l - 1) m)) []
+
+-- the marks of n indices are `count`, `by` apart from the first on, for the promises of private functions
+pub record Spaced (n m by count : ℕ) : Type 0 where
+  pub some : 0 < n
+  pub few : count ≤ n
+  pub marks : index_marks 0 (n - 1) m ≡ list_of (λ k. k * by) count
+  pub within : (k : ℕ) → k < count → k * by < n
 
 module _ {A : Type 0} (kind : Kind A) (a b d : A) where
   -- ---- `values`: the list itself; 7 also where it is longer than the lent list
@@ -84,7 +82,7 @@ module _ {A : Type 0} (kind : Kind A) (a b d : A) where
   step_index_among v method = among (step_index_of v method)
 
   -- ---- `map`: the place of v, by the ends alone; 2 and 5 as on a real axis, before 6 and 7
-  abbrev pub step_spot : A → Limit → Whole
+  abbrev pub step_spot : A → Limit → Option ℤ
   step_spot v limit = spot (kind.float a) (kind.float b) (kind.float v) limit
 
   abbrev pub step_place_reasons : A → Limit → List Reason

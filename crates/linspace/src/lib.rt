@@ -3,11 +3,11 @@
 
 mod lanes;
 mod reals;
+mod steps;
 mod track;
 mod wholes;
 
 use numeric::{RangedCoordf64, RangedCoordi32};
-use ranged1d::Refusal;
 
 // A whole axis by a step.
 #[derive(Clone, Copy)]
@@ -17,16 +17,9 @@ pub struct Linspacei32 {
 }
 
 // A real axis by a step.
+// Kept: a struct for each. One over the axis and the step's type would be no plainer, since a list has a closed form here and is walked there.
 #[derive(Clone, Copy)]
 pub struct Linspacef64 {
     pub inner: RangedCoordf64,
     pub step: f64,
-}
-
-// The index of an entry, and how many entries there are.
-#[derive(Clone, Copy)]
-pub enum Among {
-    At(u64, u64),
-    Nothing,
-    Refused(Refusal),
 }

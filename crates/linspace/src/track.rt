@@ -1,18 +1,12 @@
 // Walks along the list of a real stepped axis: each entry is a sum that waits for the one before it, so that a walk takes along all that its
 // caller asks.
 ghost use Rattle.std.specs.Prelude.{◌≡◌, true, ◌+◌, ◌-◌, ◌/◌, ◌≤◌, pos, nat_abs, length};
-ghost use Rattle.std.specs.Float.Ieee.{eq};
+ghost use Rattle.std.specs.Float.Ieee.{eq, lt};
 ghost use Rattle.linspace.specs.List.{real, entries, toward};
 ghost use Rattle.linspace.specs.RealSteps.{plus_step, after, Parted, Reached, Behind, Shares, nearest};
 ghost use Rattle.linspace.specs.Walks.{Tracked, Stepped, head_of, Trails};
 
-// The ends and the step by themselves.
-#[derive(Clone, Copy)]
-pub(crate) struct Steps {
-    pub(crate) a: f64,
-    pub(crate) b: f64,
-    pub(crate) d: f64,
-}
+use crate::steps::Steps;
 
 // An entry, or the sum behind the last one, and its index.
 #[derive(Clone, Copy)]
@@ -56,23 +50,24 @@ pub(crate) struct Sides {
     pub(crate) right: f64,
 }
 
-// The track of a list that stands at x.
-fn track_at(rises: bool, s: Steps, x: f64) -> Track
-    ensures { Tracked rises s.b s.d x result }
+// The track of a list that stands at x, on the way to b by d.
+// Kept: told whether the list rises. It is asked once before a walk, which then has no branch by it; a closure would be called in each step.
+fn track_at(rises: bool, b: f64, d: f64, x: f64) -> Track
+    ensures { Tracked rises b d x result }
 {
     if rises {
         return Track {
             low: x,
-            high: s.b,
-            raise: s.d,
+            high: b,
+            raise: d,
             lower: -0.0,
         };
     }
     Track {
-        low: s.b,
+        low: b,
         high: x,
         raise: -0.0,
-        lower: s.d,
+        lower: d,
     }
 }
 
@@ -96,35 +91,28 @@ fn head(rises: bool, t: Track) -> f64
 }
 
 // The number of entries, 65,537 where there are more, of which x is entry k if there is one.
-pub(crate) fn count_on(rises: bool, s: Steps, x: f64, k: usize) -> usize
+pub(crate) fn count_on(s: Steps<f64>, x: f64, k: usize) -> usize
     requires { k ≤ 65537 }
-    ensures { result ≡ k + length (entries (toward real rises s.b) (plus_step s.d) (65537 - k) x) }
+    ensures { result ≡ k + length (entries (toward real (lt s.a s.b) s.b) (plus_step s.d) (65537 - k) x) }
 {
-    let mut n = k;
-    let mut t = track_at(rises, s, x);
-    while n < 65537 {
+    let mut t = track_at(s.rises(), s.b, s.d, x);
+    for n in k..65537 {
         if !(t.low < t.high) {
             return n;
         }
         t = step_on(t);
-        n += 1;
     }
-    n
+    65537
 }
 
 // Walks to entry k, or to the sum behind the last entry.
-pub(crate) fn reach(rises: bool, s: Steps, k: u64) -> Spot
-    ensures { Reached (toward real rises s.b) (plus_step s.d) 65537 s.a k result.n result.x }
+pub(crate) fn reach(s: Steps<f64>, k: u64) -> Spot
+    ensures { Reached (toward real (lt s.a s.b) s.b) (plus_step s.d) 65537 s.a k result.n result.x }
 {
-    let mut n = 0;
-    let mut t = track_at(rises, s, s.a);
-    while n < 65537 {
-        if n as u64 == k {
-            return Spot {
-                n,
-                x: head(rises, t),
-            };
-        }
+    let rises = s.rises();
+    let last = k.min(65537) as usize;
+    let mut t = track_at(rises, s.b, s.d, s.a);
+    for n in 0..last {
         if !(t.low < t.high) {
             return Spot {
                 n,
@@ -132,10 +120,9 @@ pub(crate) fn reach(rises: bool, s: Steps, k: u64) -> Spot
             };
         }
         t = step_on(t);
-        n += 1;
     }
     Spot {
-        n,
+        n: last,
         x: head(rises, t),
     }
 }
@@ -148,20 +135,15 @@ fn nearer(rises: bool, t: f64, b: f64) -> f64
 }
 
 // Walks to the first entry that does not come before t.
-pub(crate) fn approach(rises: bool, s: Steps, t: f64) -> Sides
+pub(crate) fn approach(s: Steps<f64>, t: f64) -> Sides
     requires b_value { eq s.b s.b ≡ true }
     requires t_value { eq t t ≡ true }
-    ensures { Parted (toward real rises s.b) (plus_step s.d) 65537 s.a (toward real rises t) result.n result.left result.right }
+    ensures { Parted (toward real (lt s.a s.b) s.b) (plus_step s.d) 65537 s.a (toward real (lt s.a s.b) t) result.n result.left result.right }
 {
-    let goal = Steps {
-        a: s.a,
-        b: nearer(rises, t, s.b),
-        d: s.d,
-    };
-    let mut n = 0;
+    let rises = s.rises();
     let mut left = t;
-    let mut y = track_at(rises, goal, s.a);
-    while n < 65537 {
+    let mut y = track_at(rises, nearer(rises, t, s.b), s.d, s.a);
+    for n in 0..65537 {
         if !(y.low < y.high) {
             return Sides {
                 n,
@@ -171,10 +153,9 @@ pub(crate) fn approach(rises: bool, s: Steps, t: f64) -> Sides
         }
         left = head(rises, y);
         y = step_on(y);
-        n += 1;
     }
     Sides {
-        n,
+        n: 65537,
         left,
         right: head(rises, y),
     }
@@ -185,10 +166,8 @@ pub(crate) fn advance(x: f64, d: f64, k: usize) -> f64
     ensures { result ≡ after (plus_step d) k x }
 {
     let mut y = x;
-    let mut i = 0;
-    while i < k {
-        y = y + d;
-        i += 1;
+    for _i in 0..k {
+        y += d;
     }
     y
 }
@@ -220,7 +199,7 @@ pub(crate) fn share(d: i32, w: i32) -> u64
     if (d < 0) != (w < 0) {
         return 0;
     }
-    part_of(ranged1d::unsigned_abs(d), ranged1d::unsigned_abs(w))
+    part_of(d.unsigned_abs(), w.unsigned_abs())
 }
 
 // The second sum, once the first has taken a step: it takes one where a whole entry more is gone. At most 65,536 shares, 2^56 parts, were gone before.
@@ -241,25 +220,26 @@ fn trail_on(y: Trail, d: f64, share: u64) -> Trail
 }
 
 // Walks along the list, with the second sum behind the first.
-pub(crate) fn walk_both(rises: bool, s: Steps, share: u64) -> Both
+pub(crate) fn walk_both(s: Steps<f64>, share: u64) -> Both
     requires { share ≤ 1099511627776 }
-    ensures { Behind (toward real rises s.b) (plus_step s.d) s.a share result.n result.k result.x }
+    ensures { Behind (toward real (lt s.a s.b) s.b) (plus_step s.d) s.a share result.n result.k result.x }
 {
-    let d = s.d;
-    let mut n = 0;
-    let mut t = track_at(rises, s, s.a);
+    let mut t = track_at(s.rises(), s.b, s.d, s.a);
     let mut y = Trail {
         gone: 0,
         k: 0,
         x: s.a,
     };
-    while n < 65537 {
+    for n in 0..65537 {
         if !(t.low < t.high) {
             return Both { n, k: y.k, x: y.x };
         }
         t = step_on(t);
-        y = trail_on(y, d, share);
-        n += 1;
+        y = trail_on(y, s.d, share);
     }
-    Both { n, k: y.k, x: y.x }
+    Both {
+        n: 65537,
+        k: y.k,
+        x: y.x,
+    }
 }

@@ -1,47 +1,23 @@
 // Prints the marks of a few axes, each beside its mirror.
 #![tactic(auto)]
 
-use numeric::{KeyPoints, Planned, Point, RangedCoordi32};
+use numeric::{KeyPoints, RangedCoordi32};
 use std::io;
 
-fn print(rt: &impl Print, v: i32) -> io::Result<()> {
-    print!(rt; "{v}")
-}
-
-fn print_mark(rt: &impl Print, p: KeyPoints, i: u32) -> io::Result<()> {
-    print!(rt; " ")?;
-    match p.get(i) {
-        Point::At(v) => print(rt, v),
-        Point::Nothing => Ok(()),
-    }
-}
-
-fn print_list(rt: &impl Print, p: KeyPoints) -> io::Result<()> {
-    let n = p.count;
-    let mut i = 0;
-    while i < n {
-        print_mark(rt, p, i)?;
-        i += 1;
-    }
-    Ok(())
-}
-
 fn print_marks(rt: &impl Print, p: KeyPoints) -> io::Result<()> {
-    print!(rt; " step ")?;
-    print(rt, p.step)?;
-    print!(rt; ", marks")?;
-    print_list(rt, p)?;
+    let step = p.step;
+    print!(rt; " step {step}, marks")?;
+    for v in (0..p.count).filter_map(|i| p.get(i)) {
+        print!(rt; " {v}")?;
+    }
     println!(rt; "")
 }
 
 fn show(rt: &impl Print, a: i32, b: i32, m: u32) -> io::Result<()> {
-    print(rt, a)?;
-    print!(rt; "..")?;
-    print(rt, b)?;
-    print!(rt; " m {m}:")?;
+    print!(rt; "{a}..{b} m {m}:")?;
     match RangedCoordi32(a, b).plan(m) {
-        Planned::Points(p) => print_marks(rt, p),
-        Planned::Refused(r) => {
+        Ok(p) => print_marks(rt, p),
+        Err(r) => {
             let number = r.number();
             println!(rt; " refused {number}")
         }

@@ -6,7 +6,7 @@ use Prim.Native.Nat.{ℕ, ◌≤◌}
 use native.Mathlib.Omega.{arith}
 use lib.IntN.{ℤ, pos, negsuc, neg_ℤ, nat_abs, ◌+ℤ◌, ◌-ℤ◌, neg_ℤ-neg_ℤ, neg_ℤ-+ℤ}
 use lib.Signed.{lt_z, le_z}
-use Rattle.ranged1d.specs.Answer.{Answer, given, none, ◌when◌, lowest, and_then}
+use Rattle.ranged1d.specs.Answer.{Answer, given, none, refused, ◌when◌, lowest, and_then}
 use Rattle.ranged1d.specs.Admitted.{ends_admitted, reading_admitted}
 use Rattle.ranged1d.specs.declared.Limit.{Limit}
 use Rattle.ranged1d.proofs.Whole.{lt_le, neg_lt, neg-far, admitted-neg, less_or_same, same_no, no_difference}
@@ -26,18 +26,15 @@ by_index a b x l e =
     let k = index a b x l in
     rw e (read_by (reading_admitted x l) (unread a b x l) k (10 when too_high a b k ∷ 19 when too_low a b k ∷ []) (directed_at a b k) (directed_from a b) refl)
 
+pub no_directed_off : (a b x : ℤ) (l : Limit) → ends_admitted a b ≡ false → ◌≡◌ {A = Answer ℤ} (refused 1) (whole_directed a b x l)
+unfolding whole_directed
+no_directed_off a b x l e = rw e refl
+
 -- ---- one that descends: 10 is not met
 pub not_too_high : (a : ℤ) (k : ℕ) → nat_abs a ≤ 1000000000 → lt_z (pos 2147483647) (a -ℤ pos k) ≡ false
 not_too_high a k near =
     ap (λ (z : ℤ). lt_z (pos 2147483647) (z -ℤ pos k)) (sym (neg_ℤ-neg_ℤ a)) ∙ ap (lt_z (pos 2147483647)) (sym (neg_ℤ-+ℤ (neg_ℤ a) (pos k)))
     ∙ neg_lt (negsuc 2147483646) (neg_ℤ a +ℤ pos k) ∙ not_too_low 2147483646 (neg_ℤ a) k (rw (neg-far a) (omega arith))
-
-abbrev pub from_below : ℤ → ℕ → Answer ℤ
-from_below a k = lowest (19 when (is_index k && lt_z (a -ℤ pos k) (negsuc 2147483646)) ∷ []) (cond (is_index k) (given (a -ℤ pos k)) none)
-
-pub from_below_lem : (a b : ℤ) (k : ℕ) → nat_abs a ≤ 1000000000 → lt_z b a ≡ true → directed_from a b k ≡ from_below a k
-unfolding directed_from directed_value
-from_below_lem a b k near down = rw (down, not_too_high a k near, and-false (is_index k))
 
 -- ---- one that does not: 19 is not met
 pub ascending : (a b x : ℤ) (l : Limit) → lt_z b a ≡ false → whole_directed a b x l ≡ whole_reading a b x l

@@ -14,9 +14,7 @@ use Rattle.numeric.specs.Marks.{low, high, ceil_div, first_index, last_index, la
 use Rattle.numeric.specs.Calls.{plan_reasons, whole_plan, inside_plan, plan_with, plan_by}
 use Rattle.numeric.proofs.Lists.{length_of}
 use Rattle.numeric.proofs.Bounds.{first-far}
-use Rattle.ranged1d.proofs.Whole.{neg-far, quotient-far, other_way}
-use lib.Signed.{le_z}
-use mathlib.Core.Bool.{false}
+use Rattle.ranged1d.proofs.Whole.{neg-far, quotient-far}
 
 -- ---- either choice by its last multiple
 pub marks_by_lem : (c : Choice) (a b : ℤ) (m : ℕ) → marks_by c a b m ≡ multiples (first_index (low a b) (step_of a b m)) (last_by c (high a b) (step_of a b m)) (step_of a b m)
@@ -32,15 +30,13 @@ unfolding whole_plan inside_plan
 plan_by_lem Cut a b m = refl
 plan_by_lem Inside a b m = refl
 
--- the ends in either order
-pub turned-plan : (c : Choice) (a b : ℤ) (m : ℕ) → le_z a b ≡ false → plan_with c b a m ≡ plan_with c a b m
-turned-plan Cut a b m e = rw (e, other_way a b e)
-turned-plan Inside a b m e = rw (e, other_way a b e)
-
 -- ---- how the two last multiples lie
 pub last-far : (c : Choice) (z : ℤ) (s : ℕ) → 0 < s → nat_abs (last_by c z s) ≤ nat_abs z
 last-far Cut z s h = quotient-far z (pos s)
 last-far Inside z s h = rw (neg-far (first_index (neg_ℤ z) s)) (omega (arith, first-far (neg_ℤ z) s h, neg-far z))
+
+pub last_near_hi : (c : Choice) (z : ℤ) (s : ℕ) → 0 < s → nat_abs z ≤ 1000000000 → nat_abs (last_by c z s) ≤ 1000000000
+last_near_hi c z s h b = omega (arith, last-far c z s h, b)
 
 module _ (s : ℕ) (hs : 0 < s) where
   pub inside-above : (n : ℕ) → last_inside (pos n) s ≡ pos (n / s)

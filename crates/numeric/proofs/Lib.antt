@@ -1,9 +1,10 @@
 pub mod Lists
 pub mod First
 pub mod Steps
-pub mod Signs
 pub mod Bounds
 pub mod Inside
+pub mod Points
+pub mod Planned
 pub mod Plans
 pub mod Worked
 pub mod Reflect

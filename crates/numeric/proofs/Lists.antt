@@ -8,6 +8,7 @@ use native.Mathlib.Numerals.{add-one}
 use native.Mathlib.Decide.{dec_le}
 use lib.ListN.{length, set, drop, get_or, length-append, get_or-append}
 use lib.Seq.{get_or_at}
+use Rattle.std.proofs.lemmas.List.{append-nil, drop_all}
 use Rattle.ranged1d.proofs.Pieces.{put_next}
 use Rattle.numeric.specs.Marks.{list_of}
 
@@ -19,6 +20,12 @@ module _ {A : Type 0} (f : ℕ → A) where
   -- `d` is any element: it stands where a list has none
   pub write_more : (d : A) (k : ℕ) (o : List A) → k < length o → set (list_of f k ++ drop k o) k (f k) ≡ list_of f (k + 1) ++ drop (k + 1) o
   write_more d k o h = put_next d (list_of f k) (f k) k o (length_of k) h ∙ ap (λ (n : ℕ). list_of f n ++ drop (k + 1) o) (sym (add-one k))
+
+  -- once it is written to the end
+  pub write_all : (k : ℕ) (o : List A) → k ≤ length o → length o ≤ k → list_of f k ++ drop k o ≡ list_of f (length o)
+  write_all k o h m =
+      let e : k ≡ length o = omega (arith, h, m) in
+      rw (drop_all k o m, append-nil (list_of f k)) (ap (list_of f) e)
 
   pub entry : (d : A) (n i : ℕ) → i < n → get_or (list_of f n) i d ≡ f i
   entry d zero i h = absurd (omega arith)

@@ -1,23 +1,28 @@
 -- Places of whole axes: by the tests that lead to each answer, and that every mark has one. Assumes nothing.
-use mathlib.Core.Path.{◌≡◌, sym, ap, ◌∙◌}
-use mathlib.Core.Bool.{Bool, true, false, not, ◌&&◌, ◌||◌, not-eq-not}
-use mathlib.Core.List.{[], ◌∷◌}
+use mathlib.Core.Path.{◌≡◌, refl, sym, ap, subst, ◌∙◌}
+use mathlib.Core.Bool.{true, false, true≢false, ◌&&◌, ◌||◌, not-eq-not}
 use Prim.Native.Nat.{ℕ, ◌≤◌, ◌<◌}
 use lib.IntN.{ℤ, pos, nat_abs, ◌-ℤ◌}
 use lib.Signed.{quot_z}
 use lib.Ieee.{binary64, div, eq, of_int}
 use native.Mathlib.Omega.{arith}
 use borrow.Author.Tests.{le-leb}
-use Rattle.ranged1d.specs.Answer.{given, ◌when◌, lowest}
+use Rattle.ranged1d.specs.Answer.{given, refused}
 use Rattle.ranged1d.specs.Admitted.{whole_admitted, limit_admitted}
 use Rattle.ranged1d.specs.declared.Limit.{Limit}
-use Rattle.rounding.specs.declared.Whole.TheVariants.{Number}
+use Rattle.std.specs.Prelude.{Some, None}
+use Rattle.ranged1d.proofs.Bools.{both_false}
+use Rattle.ranged1d.proofs.Whole.{fits32, length-near, same_yes, some_size, no_difference}
+use Rattle.real.proofs.Error.{between-share}
 use Rattle.ranged1d.specs.Numbers.{same}
 use Rattle.real.specs.Reading.{outside}
-use Rattle.real.specs.Exact.{quotient, remainder, whole_exact}
-use Rattle.real.specs.Place.{along, spot, real_place, whole_spot, whole_place, spot_answer}
+use Rattle.real.specs.Place.{along, spot, whole_spot, whole_place, number}
 use Rattle.real.proofs.Exact.{int_self, same_int, whole-share}
-use Rattle.real.proofs.Placed.{Placed, whole_is_real, whole-placed}
+use Rattle.real.proofs.Placed.{Placed, spot-near, whole-placed}
+use Rattle.real.proofs.Wraps.{wide}
+use mir.Syntax.{w32, w64}
+use mir.Val.{SFits, to_z, of_z}
+use mir.Facts.{to_z-of_z}
 use Rattle.numeric.specs.declared.Choice.{Choice}
 use Rattle.numeric.specs.declared.KeyPoints.{KeyPoints}
 use Rattle.numeric.specs.Calls.{plan_by, element}
@@ -25,24 +30,47 @@ use Rattle.numeric.specs.Whole.{ends_admitted}
 use Rattle.numeric.proofs.Plans.{planned_good_by}
 use Rattle.numeric.proofs.Near.{mark-near}
 
--- what a call answers once the ends, and then the value, are tested
-pub by_tests : (a b v : ℤ) (limit : Limit) (t u : Bool) → t ≡ ends_admitted a b → u ≡ whole_admitted v
-    → whole_place a b v limit ≡ lowest (1 when not (t && u) ∷ []) (real_place (of_int binary64 a) (of_int binary64 b) (of_int binary64 v) limit)
-by_tests a b v limit t u e f = whole_is_real a b v limit ∙ rw (e, f)
+-- ---- what `map` answers, case by case
+module _ (a b v : ℤ) (limit : Limit) where
+  pub no_whole : (ends_admitted a b && whole_admitted v) ≡ false → whole_place a b v limit ≡ refused 1
+  unfolding whole_place
+  no_whole e = rw e refl
 
--- past all tests it is the place of the rule, or 5
-pub past_tests : (a b v : ℤ) (limit : Limit) → true ≡ ends_admitted a b → true ≡ whole_admitted v → limit_admitted limit ≡ true → whole_place a b v limit ≡ spot_answer (whole_spot a b v limit)
-unfolding real_place
-past_tests a b v limit e f h = by_tests a b v limit true true e f ∙ rw h
+  module _ (e : (ends_admitted a b && whole_admitted v) ≡ true) where
+    pub no_limit : limit_admitted limit ≡ false → whole_place a b v limit ≡ refused 2
+    unfolding whole_place
+    no_limit h = rw (e, h) refl
 
--- the exact place, by the tests of its call
-pub exact_tests : (a b v : ℤ) (limit : Limit) (t u w o : Bool) → t ≡ ends_admitted a b → u ≡ whole_admitted v → w ≡ limit_admitted limit → o ≡ (same a b || outside v a b)
-    → whole_exact a b v limit ≡ lowest (1 when not (t && u) ∷ 2 when not w ∷ 18 when o ∷ []) (given (quotient a b v limit, remainder a b v limit))
-unfolding whole_exact
-exact_tests a b v limit t u w o e f g h = rw (e, f, g, h)
+    module _ (h : limit_admitted limit ≡ true) where
+      pub too_far : whole_spot a b v limit ≡ None → whole_place a b v limit ≡ refused 5
+      unfolding whole_place
+      too_far s = rw (e, h, s) refl
+
+      module _ (z : ℤ) (s : whole_spot a b v limit ≡ Some z) where
+        near : nat_abs z ≤ 1_001_000_000
+        near = subst (λ w. nat_abs (number w) ≤ 1_001_000_000) s (spot-near (of_int binary64 a) (of_int binary64 b) (of_int binary64 v) limit h)
+
+        z32 : SFits w32 z
+        z32 = fits32 z (omega (arith, near))
+
+        pub whole_fits : SFits w32 (to_z w64 (of_z w64 z))
+        whole_fits = rw (wide z z32) z32
+
+        pub whole_given : whole_place a b v limit ≡ given (to_z w32 (of_z w32 (to_z w64 (of_z w64 z))))
+        unfolding whole_place
+        whole_given = rw (wide z z32, to_z-of_z z32, e, h, s) refl
+
+pub ruleset places = (no_whole, no_limit, too_far, whole_fits, whole_given)
+
+-- ---- the sizes that the exact place is made of, where the axis has length and v lies on it
+pub exact_sizes : (a b v : ℤ) (limit : Limit) → limit_admitted limit ≡ true → (same a b || outside v a b) ≡ false
+    → (nat_abs (limit.1 -ℤ limit.0) ≤ 2000000) × (nat_abs (v -ℤ a) ≤ nat_abs (b -ℤ a)) × (0 < nat_abs (b -ℤ a))
+exact_sizes a b v limit film h =
+    let off = both_false (same a b) (outside v a b) h in
+    (length-near limit film, (between-share a b v off.1).1, some_size (b -ℤ a) (λ z. true≢false (sym (same_yes a b (no_difference a b z)) ∙ off.0)))
 
 -- ---- the rule's place: of ends that are equal, and by the whole differences of others
-pub level-spot : (a b v : ℤ) (limit : Limit) → nat_abs a ≤ 1000000000 → a ≡ b → whole_spot a b v limit ≡ Number (quot_z (limit.1 -ℤ limit.0) (pos 2))
+pub level-spot : (a b v : ℤ) (limit : Limit) → nat_abs a ≤ 1000000000 → a ≡ b → whole_spot a b v limit ≡ Some (quot_z (limit.1 -ℤ limit.0) (pos 2))
 unfolding spot
 level-spot a b v limit h e = rw (ap (λ (z : ℤ). eq (of_int binary64 a) (of_int binary64 z)) (sym e) ∙ int_self a (omega arith))
 

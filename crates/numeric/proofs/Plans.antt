@@ -1,13 +1,13 @@
 -- A plan of an axis: the list that `key_points` writes is read off it, and every number on the way fits. Assumes nothing.
 use mathlib.Core.Path.{◌≡◌, refl, sym, ap, ◌∙◌, subst}
 use mathlib.Core.Bool.{Bool, cond}
-use mathlib.Core.List.{List, [], ◌∷◌, ◌++◌, map}
+use mathlib.Core.List.{List, [], ◌∷◌, ◌++◌, map, map-id}
 use Prim.Native.Nat.{ℕ, suc, ◌+◌, ◌*◌, ◌≤◌, ◌<◌}
 use native.Mathlib.Omega.{arith}
-use lib.Dec.{T, leb, ltb}
+use lib.Dec.{leb, ltb}
 use lib.IntN.{ℤ, pos, negsuc, nat_abs, ◌*ℤ◌, pos-ne-negsuc}
-use lib.ListN.{length, drop, length-map}
-use lib.Signed.{le_z, non_neg}
+use lib.ListN.{length, drop}
+use lib.Signed.{le_z}
 use borrow.Author.Tests.{leb-false, lt-ltb, le-ltb, not-false}
 use Rattle.ranged1d.specs.Answer.{Answer, given, refused, ◌when◌, lowest, written, and_then}
 use Rattle.ranged1d.specs.Admitted.{ends_admitted}
@@ -19,7 +19,7 @@ use Rattle.numeric.specs.declared.Choice.{Choice}
 use Rattle.numeric.specs.declared.Choice.TheVariants.{Cut}
 use Rattle.numeric.specs.declared.KeyPoints.{KeyPoints}
 use Rattle.numeric.specs.Marks.{low, high, distance, chosen, step_at, first_index, last_by, how_many, list_of, multiple, no_step_for, step_for, step_of, marks, marks_by}
-use Rattle.numeric.specs.Calls.{plan_reasons, key_points_by, whole_key_points, whole_plan, plan_of, plan_with, plan_by, element, index_marks, index_key_points}
+use Rattle.numeric.specs.Calls.{plan_reasons, key_points_by, whole_key_points, whole_plan, plan_of, plan_with, plan_by, element, key_points_as, index_marks, index_key_points}
 use Rattle.numeric.proofs.Lists.{list_ext, map_list}
 use Rattle.numeric.proofs.Steps.{step_pos, step_top}
 use Rattle.numeric.proofs.Bounds.{multiple-element, marks-near, count-near}
@@ -106,20 +106,19 @@ module _ {A : Type 0} (f : ℤ → A) (a b : ℤ) (m : ℕ) (new old : List A) (
         let n_is : length new ≡ p.count = same ∙ ap (λ (q : KeyPoints). q.count) (planned_good a b m e).plan in
         by_plan_lem ∙ ap by_plan e ∙ rw (le-ltb (length old) p.count h, n_is)
 
--- on a whole axis
-module _ (a b : ℤ) (m : ℕ) (old : List ℤ) where
-  pub whole-refused : {n : ℕ} → whole_plan a b m ≡ refused n → whole_key_points a b m old ≡ (refused n, old)
-  unfolding whole_key_points
-  whole-refused e = plan-refused (λ z. z) a b m (marks a b m) old refl e
+-- the marks as f has them, read off the plan
+pub marks_as : {A : Type 0} (f : ℤ → A) (a b : ℤ) (m : ℕ) {p : KeyPoints} → whole_plan a b m ≡ given p → map f (marks a b m) ≡ list_of (λ k. f (element p.first p.step k)) p.count
+marks_as f a b m {p} e = ap (map f) (planned_good a b m e).marks-are ∙ map_list f (element p.first p.step) p.count
 
-  module _ {p : KeyPoints} (e : whole_plan a b m ≡ given p) where
-    pub whole-short : length old < p.count → whole_key_points a b m old ≡ (refused 13, old)
-    unfolding whole_key_points
-    whole-short h = plan-short (λ z. z) a b m (marks a b m) old refl e h
+-- the marks as they are
+pub whole-as : (a b : ℤ) (m : ℕ) (old : List ℤ) → key_points_as (λ z. z) a b m old ≡ whole_key_points a b m old
+unfolding whole_key_points
+whole-as a b m old = ap (λ (l : List ℤ). key_points_by (ends_admitted a b) (pos (step_of a b m)) a b m l old) (map-id (marks a b m))
 
-    pub whole-written : p.count ≤ length old → whole_key_points a b m old ≡ (given (p.step, p.count), list_of (element p.first p.step) p.count ++ drop p.count old)
-    unfolding whole_key_points
-    whole-written h = plan-written (λ z. z) a b m (marks a b m) old refl e h ∙ ap (λ (l : List ℤ). (given (p.step, p.count), l ++ drop p.count old)) (planned_good a b m e).marks-are
+-- and as naturals, on an index axis
+pub index-as : (a b : ℕ) {x y : ℤ} (m : ℕ) (old : List ℕ) → x ≡ pos a → y ≡ pos b → key_points_as nat_abs x y m old ≡ index_key_points a b m old
+unfolding index_key_points
+index-as a b m old e f = rw (e, f) refl
 
 -- On an index axis: a plan of its ends as whole numbers has nothing below zero.
 pub low_pos : (a b : ℕ) → pos (nat_abs (low (pos a) (pos b))) ≡ low (pos a) (pos b)
@@ -134,36 +133,15 @@ natural-element (pos x) (pos y) k ef es = refl
 natural-element (pos x) (negsuc y) k ef es = absurd (pos-ne-negsuc (suc y) y es)
 natural-element (negsuc x) s k ef es = absurd (pos-ne-negsuc (suc x) x ef)
 
-pub natural : {z : ℤ} → pos (nat_abs z) ≡ z → T (non_neg z)
-natural e = subst (λ (z : ℤ). T (non_neg z)) e tt
-
 module _ (a b m : ℕ) (old : List ℕ) where
-  pub index-refused : {n : ℕ} → whole_plan (pos a) (pos b) m ≡ refused n → index_key_points a b m old ≡ (refused n, old)
-  unfolding index_key_points
-  index-refused e = plan-refused nat_abs (pos a) (pos b) m (index_marks a b m) old (length-map (marks (pos a) (pos b) m) nat_abs) e
-
   module _ {p : KeyPoints} (e : whole_plan (pos a) (pos b) m ≡ given p) where
-    pub first-natural : pos (nat_abs p.first) ≡ p.first
+    first-natural : pos (nat_abs p.first) ≡ p.first
     first-natural = subst (λ (q : KeyPoints). pos (nat_abs q.first) ≡ q.first) (planned_good (pos a) (pos b) m e).plan (first_pos (low (pos a) (pos b)) (step_of (pos a) (pos b) m) (low_pos a b))
 
-    pub step_natural : pos (nat_abs p.step) ≡ p.step
+    step_natural : pos (nat_abs p.step) ≡ p.step
     step_natural = subst (λ (q : KeyPoints). pos (nat_abs q.step) ≡ q.step) (planned_good (pos a) (pos b) m e).plan refl
 
     pub index_marks_are : index_marks a b m ≡ list_of (λ k. nat_abs p.first + k * nat_abs p.step) p.count
     index_marks_are =
-        ap (λ (l : List ℤ). map nat_abs l) (planned_good (pos a) (pos b) m e).marks-are
-        ∙ map_list nat_abs (element p.first p.step) p.count
+        marks_as nat_abs (pos a) (pos b) m e
         ∙ list_ext (λ k. nat_abs (element p.first p.step k)) (λ k. nat_abs p.first + k * nat_abs p.step) p.count (λ k l. natural-element p.first p.step k first-natural step_natural)
-
-    pub index-near : (k : ℕ) → k < p.count → nat_abs p.first + k * nat_abs p.step ≤ 2000000000
-    index-near k h = rw (← natural-element p.first p.step k first-natural step_natural) ((planned_good (pos a) (pos b) m e).near k h).1
-
-    pub index_short : length old < p.count → index_key_points a b m old ≡ (refused 13, old)
-    unfolding index_key_points
-    index_short h = plan-short nat_abs (pos a) (pos b) m (index_marks a b m) old (length-map (marks (pos a) (pos b) m) nat_abs) e h
-
-    pub index-written : p.count ≤ length old → index_key_points a b m old ≡ (given (nat_abs p.step, p.count), list_of (λ k. nat_abs p.first + k * nat_abs p.step) p.count ++ drop p.count old)
-    unfolding index_key_points
-    index-written h =
-        plan-written nat_abs (pos a) (pos b) m (index_marks a b m) old (length-map (marks (pos a) (pos b) m) nat_abs) e h
-        ∙ ap (λ (l : List ℕ). (given (nat_abs p.step, p.count), l ++ drop p.count old)) index_marks_are

@@ -47,3 +47,7 @@ unfolding whole_reading value_from pixel_index index_for
 by_index a b x l e =
     let k = read_index a b x l in
     rw e (read_by (reading_admitted x l) (no_reading a b x l) k (10 when above_i32 a k ∷ []) (value_at a k) (value_from a) refl)
+
+pub no_reading_off : (a b x : ℤ) (l : Limit) → ends_admitted a b ≡ false → ◌≡◌ {A = Answer ℤ} (refused 1) (whole_reading a b x l)
+unfolding whole_reading
+no_reading_off a b x l e = rw e refl

@@ -1,39 +1,13 @@
 -- What each call of numeric answers, on every input, and what the list lent to it holds afterwards: 01 "Marks on a whole axis" with the
 -- refusals of 01 "Why a call stops". Assumes nothing.
-use Rattle.std.specs.Prelude.{ℕ, Bool, cond, not, ◌&&◌, List, [], ◌∷◌, ◌++◌, map, ltb, ℤ, pos, nat_abs, ◌+ℤ◌, ◌*ℤ◌, length}
-use Rattle.ranged1d.specs.Answer.{Answer, given, none, refused, Reason, ◌when◌, lowest, written}
-use Rattle.ranged1d.specs.Refusals.{number_of}
+use Rattle.std.specs.Prelude.{◌≡◌, ℕ, Bool, cond, not, ◌&&◌, List, [], ◌∷◌, ◌++◌, map, ltb, ℤ, pos, nat_abs, ◌+ℤ◌, ◌*ℤ◌, length}
+use Rattle.ranged1d.specs.Answer.{Answer, given, none, Reason, ◌when◌, lowest, written}
 use Rattle.ranged1d.specs.Admitted.{ends_admitted, index_admitted}
 use Rattle.ranged1d.specs.Numbers.{is_i32}
 use Rattle.numeric.specs.declared.Choice.{Choice}
 use Rattle.numeric.specs.declared.Choice.TheVariants.{Cut, Inside}
 use Rattle.numeric.specs.declared.KeyPoints.{KeyPoints}
-use Rattle.numeric.specs.declared.Marks.{Marks}
-use Rattle.numeric.specs.declared.Marks.TheVariants as marks-are
-use Rattle.numeric.specs.declared.IndexMarks.{IndexMarks}
-use Rattle.numeric.specs.declared.IndexMarks.TheVariants as index_marks_are
-use Rattle.numeric.specs.declared.Planned.{Planned}
-use Rattle.numeric.specs.declared.Planned.TheVariants as planned_is
-use Rattle.numeric.specs.declared.Point.{Point}
-use Rattle.numeric.specs.declared.Point.TheVariants as point_is
 use Rattle.numeric.specs.Marks.{low, first_index, no_step, step_of, marks, marks_by}
-
--- ---- the answers' cases, by 01's numbers and values: step and count; step and count; first mark, step and count; the mark
-abbrev pub tell_marks : Marks → Answer (ℤ × ℕ)
-tell_marks (marks-are.Written s n) = given (s, n)
-tell_marks (marks-are.Refused r) = refused (number_of r)
-
-abbrev pub tell_index_marks : IndexMarks → Answer (ℕ × ℕ)
-tell_index_marks (index_marks_are.Written s n) = given (s, n)
-tell_index_marks (index_marks_are.Refused r) = refused (number_of r)
-
-abbrev pub tell_planned : Planned → Answer KeyPoints
-tell_planned (planned_is.Points p) = given p
-tell_planned (planned_is.Refused r) = refused (number_of r)
-
-abbrev pub tell_point : Point → Answer ℤ
-tell_point (point_is.At v) = given v
-tell_point point_is.Nothing = none
 
 -- ---- why an axis has no marks, from whether its ends are admitted: 1 where they are not, 3 where no step serves
 abbrev pub plan_reasons : Bool → ℤ → ℤ → ℕ → List Reason
@@ -48,6 +22,14 @@ abbrev pub key_points_by : {A : Type 0} → Bool → A → ℤ → ℤ → ℕ �
 key_points_by admitted step a b m new old = written (lowest (key_points_reasons admitted a b m new old) (given (step, length new))) new old
 
 -- ---- RangedCoordi32
+-- the marks as f has them
+abbrev pub key_points_as : {A : Type 0} → (ℤ → A) → ℤ → ℤ → ℕ → List A → Answer (A × ℕ) × List A
+key_points_as f a b m old = key_points_by (ends_admitted a b) (f (pos (step_of a b m))) a b m (map f (marks a b m)) old
+
+-- a closure that answers nothing but what f does, by what may be its result at each argument
+abbrev pub Computes : {A B : Type 0} → (A → B → Type 0) → (A → B) → Type 0
+Computes {A} {B} post f = (x : A) (r : B) → post x r → r ≡ f x
+
 unfoldable pub whole_key_points : ℤ → ℤ → ℕ → List ℤ → Answer (ℤ × ℕ) × List ℤ
 whole_key_points a b m old = key_points_by (ends_admitted a b) (pos (step_of a b m)) a b m (marks a b m) old
 

@@ -3,26 +3,11 @@
 -- Assumes nothing.
 use Rattle.std.specs.Prelude.{ℕ, ◌+◌, Bool, cond, not, ◌&&◌, List, [], ◌∷◌, leb, ℤ, pos, nat_abs, ◌+ℤ◌, ◌-ℤ◌}
 use Rattle.std.specs.Int.Signed.{lt_z}
-use Rattle.ranged1d.specs.Answer.{Answer, given, none, refused, ◌when◌, lowest, Reason}
-use Rattle.ranged1d.specs.Refusals.{number_of}
+use Rattle.ranged1d.specs.Answer.{Answer, given, none, ◌when◌, lowest, Reason}
 use Rattle.ranged1d.specs.Admitted.{whole_admitted, reading_admitted}
 pub use Rattle.ranged1d.specs.Admitted.{ends_admitted}
 use Rattle.ranged1d.specs.declared.Limit.{Limit}
 use Rattle.discrete.specs.Index.{no_index, index_by}
-use Rattle.numeric.specs.declared.whole.Count.{Count}
-use Rattle.numeric.specs.declared.whole.Count.TheVariants as count_is
-use Rattle.numeric.specs.declared.whole.Value.{Value}
-use Rattle.numeric.specs.declared.whole.Value.TheVariants as value_is
-
--- ---- the answers' cases, by 01's values and numbers
-abbrev pub tell_count : Count → Answer ℕ
-tell_count (count_is.Of n) = given n
-tell_count (count_is.Refused r) = refused (number_of r)
-
-abbrev pub tell_value : Value → Answer ℤ
-tell_value (value_is.At v) = given v
-tell_value value_is.Nothing = none
-tell_value (value_is.Refused r) = refused (number_of r)
 
 -- ---- `size`: an axis that descends has no value; any other has its two ends and all between them
 unfoldable pub count_of : ℤ → ℤ → ℕ

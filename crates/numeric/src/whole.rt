@@ -1,53 +1,29 @@
 // The whole axis as a discrete one, after `impl_discrete_trait` of types/numeric.rs and `unmap` of discrete.rs: its count, the index of
 // a value, the value at an index, the place of a value, and the value that a pixel is read as.
-ghost use Rattle.std.specs.Prelude.{◌≡◌, true, ◌*◌, ◌/◌, ◌%◌, ◌≤◌, ◌<◌, nat_abs, ◌-ℤ◌};
+ghost use Rattle.std.specs.Prelude.{◌≡◌, true, ◌&&◌, ◌||◌, ◌*◌, ◌/◌, ◌%◌, ◌≤◌, ◌<◌, nat_abs, ◌-ℤ◌};
 ghost use Rattle.std.specs.Int.Signed.{lt_z};
-ghost use Rattle.ranged1d.specs.Answer.{given};
 ghost use Rattle.ranged1d.specs.Admitted.{whole_admitted, limit_admitted};
-ghost use Rattle.discrete.specs.Index.{tell_index};
-ghost use Rattle.real.specs.Place.{tell_place, whole_spot, whole_place};
-ghost use Rattle.real.specs.Exact.{tell_exact, whole_exact};
-ghost use Rattle.numeric.specs.Directed.{directed_from, whole_directed};
-ghost use Rattle.numeric.specs.Whole.{ends_admitted, tell_count, tell_value, whole_size, whole_index_of, whole_from_index, whole_reading, count_of, value_from};
+ghost use Rattle.ranged1d.specs.Told.{tell, tell_found};
+ghost use Rattle.real.specs.Place.{whole_spot, whole_place};
+ghost use Rattle.real.specs.Exact.{whole_exact};
+ghost use Rattle.real.specs.Reading.{outside};
+ghost use Rattle.ranged1d.specs.Numbers.{same};
+ghost use Rattle.numeric.specs.Directed.{directed_count, directed_from, whole_directed};
+ghost use Rattle.numeric.specs.Whole.{ends_admitted, whole_size, whole_index_of, whole_from_index, whole_reading, count_of, value_from};
 
-use crate::{RangedCoordi32, span};
-use discrete::Index;
+use crate::RangedCoordi32;
 use ranged1d::{Limit, Refusal};
-use real::{ExactPlace, Place};
-use rounding::Whole;
-
-#[derive(Clone, Copy)]
-pub enum Count {
-    Of(u64),
-    Refused(Refusal),
-}
-
-#[derive(Clone, Copy)]
-pub enum Value {
-    At(i32),
-    Nothing,
-    Refused(Refusal),
-}
-
-// How far y lies from x.
-fn apart(x: i32, y: i32) -> u32
-    requires x_bound { nat_abs x ≤ 1000000000 }
-    requires y_bound { nat_abs y ≤ 1000000000 }
-    ensures { result ≡ nat_abs (y -ℤ x) }
-{
-    ranged1d::unsigned_abs(y - x)
-}
 
 // n times w by d, and what remains: w is a part of d, so that the quotient is no more than n.
-fn exact_of(n: u32, w: u32, d: u32) -> ExactPlace
+fn exact_of(n: u32, w: u32, d: u32) -> (u32, u32)
     requires n_bound { n ≤ 2000000 }
     requires w_le_d { w ≤ d }
     requires d_nonzero { 0 < d }
-    ensures { tell_exact result ≡ given (n * w / d, n * w % d) }
+    ensures { result ≡ (n * w / d, n * w % d) }
 {
     let x = (n as u64) * (w as u64);
     let y = d as u64;
-    ExactPlace::At((x / y) as u32, (x % y) as u32)
+    ((x / y) as u32, (x % y) as u32)
 }
 
 impl RangedCoordi32 {
@@ -55,13 +31,25 @@ impl RangedCoordi32 {
     pub fn admitted(self) -> bool
         ensures { result ≡ ends_admitted self.0 self.1 }
     {
-        if ranged1d::whole_admitted(self.0) {
-            return ranged1d::whole_admitted(self.1);
-        }
-        false
+        ranged1d::whole_admitted(self.0) && ranged1d::whole_admitted(self.1)
+    }
+
+    // Whether they are, and v too.
+    fn admits(self, v: i32) -> bool
+        ensures { result ≡ (ends_admitted self.0 self.1 && whole_admitted v) }
+    {
+        self.admitted() && ranged1d::whole_admitted(v)
+    }
+
+    // Whether v lies off the axis, or the axis has no length.
+    fn is_off(self, v: i32) -> bool
+        ensures { result ≡ (same self.0 self.1 || outside v self.0 self.1) }
+    {
+        self.0 == self.1 || real::outside_limit(v, self.0, self.1)
     }
 
     // How many values there are: at most 2,000,000,001.
+    #[tactic(auto, unfolding(crate::specs::Whole::count_of))]
     fn len(self) -> u32
         requires { ends_admitted self.0 self.1 ≡ true }
         ensures { result ≡ count_of self.0 self.1 }
@@ -71,82 +59,93 @@ impl RangedCoordi32 {
         if b < a {
             return 0;
         }
-        span(a, b) + 1
+        b.abs_diff(a) + 1
+    }
+
+    // How many there are whichever way the axis runs: at most 2,000,000,001 too.
+    fn directed_len(self) -> u32
+        requires { ends_admitted self.0 self.1 ≡ true }
+        ensures { result ≡ directed_count self.0 self.1 }
+    {
+        self.1.abs_diff(self.0) + 1
     }
 
     // The value at index k. An i64 has room for the sum, an i32 has not.
-    fn value_at(self, k: u64) -> Value
+    // Kept: by i32::try_from and checked_add a value took 6.6 ns, against 3.6 so.
+    #[tactic(auto, unfolding(crate::specs::Whole::value_from))]
+    fn value_at(self, k: u64) -> Result<Option<i32>, Refusal>
         requires { ends_admitted self.0 self.1 ≡ true }
-        ensures { tell_value result ≡ value_from self.0 k }
+        ensures { tell_found result ≡ value_from self.0 k }
     {
         if 2147483647 < k {
-            return Value::Nothing;
+            return Ok(None);
         }
         let a = self.0;
         let v = (a as i64) + (k as i64);
         if 2147483647 < v {
-            return Value::Refused(Refusal::AboveI32);
+            return Err(Refusal::AboveI32);
         }
-        Value::At(v as i32)
+        Ok(Some(v as i32))
     }
 
     // The value at index i of an axis that descends: i below a. An i64 has room for the difference, an i32 has not.
-    fn value_below(self, i: u64) -> Value
+    #[tactic(auto, unfolding(crate::specs::Directed::directed_from, crate::specs::Directed::directed_value))]
+    fn value_below(self, i: u64) -> Result<Option<i32>, Refusal>
         requires self_value { ends_admitted self.0 self.1 ≡ true }
         requires self_value_2 { lt_z self.1 self.0 ≡ true }
-        ensures { tell_value result ≡ directed_from self.0 self.1 i }
+        ensures { tell_found result ≡ directed_from self.0 self.1 i }
     {
         if 2147483647 < i {
-            return Value::Nothing;
+            return Ok(None);
         }
         let from = self.0;
         let v = (from as i64) - (i as i64);
         if v < -2147483647 {
-            return Value::Refused(Refusal::BelowI32);
+            return Err(Refusal::BelowI32);
         }
-        Value::At(v as i32)
+        Ok(Some(v as i32))
     }
 
     // The count of the values.
-    pub fn size(self) -> Count
-        ensures { tell_count result ≡ whole_size self.0 self.1 }
+    #[tactic(auto, unfolding(crate::specs::Whole::whole_size))]
+    pub fn size(self) -> Result<u64, Refusal>
+        ensures { tell result ≡ whole_size self.0 self.1 }
     {
         if !self.admitted() {
-            return Count::Refused(Refusal::WholeNotAdmitted);
+            return Err(Refusal::WholeNotAdmitted);
         }
-        Count::Of(self.len() as u64)
+        Ok(self.len() as u64)
     }
 
     // Which value v is, counted from 0; it may lie past the end.
-    pub fn index_of(self, v: i32) -> Index
-        ensures { tell_index result ≡ whole_index_of self.0 self.1 v }
+    #[tactic(auto, unfolding(crate::specs::Whole::whole_index_of))]
+    pub fn index_of(self, v: i32) -> Result<Option<u64>, Refusal>
+        ensures { tell_found result ≡ whole_index_of self.0 self.1 v }
     {
-        if !self.admitted() {
-            return Index::Refused(Refusal::WholeNotAdmitted);
-        }
-        if !ranged1d::whole_admitted(v) {
-            return Index::Refused(Refusal::WholeNotAdmitted);
+        if !self.admits(v) {
+            return Err(Refusal::WholeNotAdmitted);
         }
         let a = self.0;
         if v < a {
-            return Index::Nothing;
+            return Ok(None);
         }
-        Index::At((v - a) as u64)
+        Ok(Some((v - a) as u64))
     }
 
     // The value at index k, past the end too.
-    pub fn from_index(self, k: u64) -> Value
-        ensures { tell_value result ≡ whole_from_index self.0 self.1 k }
+    #[tactic(auto, unfolding(crate::specs::Whole::whole_from_index, crate::specs::Whole::value_from))]
+    pub fn from_index(self, k: u64) -> Result<Option<i32>, Refusal>
+        ensures { tell_found result ≡ whole_from_index self.0 self.1 k }
     {
         if !self.admitted() {
-            return Value::Refused(Refusal::WholeNotAdmitted);
+            return Err(Refusal::WholeNotAdmitted);
         }
         self.value_at(k)
     }
 
     // The place of v on the film, or that it is too far, by the rule of the real axis. Differences of whole numbers are exact as f64,
     // so they are taken before the numbers become f64.
-    fn spot_of(self, v: i32, limit: Limit) -> Whole
+    fn spot_of(self, v: i32, limit: Limit) -> Option<i64>
         requires self_value { ends_admitted self.0 self.1 ≡ true }
         requires v_value { whole_admitted v ≡ true }
         requires limit_value { limit_admitted limit ≡ true }
@@ -158,75 +157,65 @@ impl RangedCoordi32 {
         let q = limit.1;
         let l = q - p;
         if a == b {
-            return Whole::Number((l / 2) as i64);
+            return Some((l / 2) as i64);
         }
         let t = real::as_f64(v - a) / real::as_f64(b - a);
         real::place_along(p, q, l, t)
     }
 
     // The place of v on the film.
-    pub fn map(self, v: i32, limit: Limit) -> Place
-        ensures { tell_place result ≡ whole_place self.0 self.1 v limit }
+    #[tactic(auto, using(crate::proofs::Places::places))]
+    pub fn map(self, v: i32, limit: Limit) -> Result<i32, Refusal>
+        ensures { tell result ≡ whole_place self.0 self.1 v limit }
     {
-        if !self.admitted() {
-            return Place::Refused(Refusal::WholeNotAdmitted);
-        }
-        if !ranged1d::whole_admitted(v) {
-            return Place::Refused(Refusal::WholeNotAdmitted);
+        if !self.admits(v) {
+            return Err(Refusal::WholeNotAdmitted);
         }
         if !limit.admitted() {
-            return Place::Refused(Refusal::LimitNotAdmitted);
+            return Err(Refusal::LimitNotAdmitted);
         }
-        match self.spot_of(v, limit) {
-            Whole::Number(z) => Place::At(z as i32),
-            Whole::Beyond => Place::Refused(Refusal::TooFar),
-        }
+        let z = self.spot_of(v, limit).ok_or(Refusal::TooFar)?;
+        Ok(z as i32)
     }
 
     // How many pixels v lies from p, and how many parts of one more, of which the length of the axis makes a pixel.
-    pub fn map_exact(self, v: i32, limit: Limit) -> ExactPlace
-        ensures { tell_exact result ≡ whole_exact self.0 self.1 v limit }
+    #[tactic(auto, unfolding(real::specs::Exact::whole_exact))]
+    pub fn map_exact(self, v: i32, limit: Limit) -> Result<(u32, u32), Refusal>
+        ensures { tell result ≡ whole_exact self.0 self.1 v limit }
     {
-        if !self.admitted() {
-            return ExactPlace::Refused(Refusal::WholeNotAdmitted);
-        }
-        if !ranged1d::whole_admitted(v) {
-            return ExactPlace::Refused(Refusal::WholeNotAdmitted);
+        if !self.admits(v) {
+            return Err(Refusal::WholeNotAdmitted);
         }
         if !limit.admitted() {
-            return ExactPlace::Refused(Refusal::LimitNotAdmitted);
+            return Err(Refusal::LimitNotAdmitted);
         }
-        let a = self.0;
-        let b = self.1;
-        if a == b {
-            return ExactPlace::Refused(Refusal::NotOnAxis);
+        if self.is_off(v) {
+            return Err(Refusal::NotOnAxis);
         }
-        if real::outside_limit(v, a, b) {
-            return ExactPlace::Refused(Refusal::NotOnAxis);
-        }
-        let p = limit.0;
-        let q = limit.1;
-        exact_of(apart(p, q), apart(a, v), apart(a, b))
+        let RangedCoordi32(a, b) = self;
+        let Limit(p, q) = limit;
+        Ok(exact_of(q.abs_diff(p), v.abs_diff(a), b.abs_diff(a)))
     }
 
     // The value that pixel x is read as.
-    pub fn unmap(self, x: i32, limit: Limit) -> Value
-        ensures { tell_value result ≡ whole_reading self.0 self.1 x limit }
+    #[tactic(auto, using(crate::proofs::Readings::by_index, crate::proofs::Readings::no_reading_off))]
+    pub fn unmap(self, x: i32, limit: Limit) -> Result<Option<i32>, Refusal>
+        ensures { tell_found result ≡ whole_reading self.0 self.1 x limit }
     {
         if !self.admitted() {
-            return Value::Refused(Refusal::WholeNotAdmitted);
+            return Err(Refusal::WholeNotAdmitted);
         }
-        match discrete::pixel_index(x, limit, self.len()) {
-            Index::Refused(r) => Value::Refused(r),
-            Index::Nothing => Value::Nothing,
-            Index::At(k) => self.value_at(k),
+        match discrete::pixel_index(x, limit, self.len())? {
+            Some(k) => self.value_at(k),
+            None => Ok(None),
         }
     }
 
     // The value that pixel x is read as on the axis as it runs: as `unmap` has it where the axis does not descend; where it does, among
     // the values from a down to b, at most 2,000,000,001.
-    pub fn unmap_directed(self, x: i32, limit: Limit) -> Value
-        ensures { tell_value result ≡ whole_directed self.0 self.1 x limit }
+    #[tactic(auto, using(crate::proofs::Directed::by_index, crate::proofs::Directed::no_directed_off))]
+    pub fn unmap_directed(self, x: i32, limit: Limit) -> Result<Option<i32>, Refusal>
+        ensures { tell_found result ≡ whole_directed self.0 self.1 x limit }
     {
         let a = self.0;
         let b = self.1;
@@ -234,12 +223,11 @@ impl RangedCoordi32 {
             return self.unmap(x, limit);
         }
         if !self.admitted() {
-            return Value::Refused(Refusal::WholeNotAdmitted);
+            return Err(Refusal::WholeNotAdmitted);
         }
-        match discrete::pixel_index(x, limit, apart(a, b) + 1) {
-            Index::Refused(r) => Value::Refused(r),
-            Index::Nothing => Value::Nothing,
-            Index::At(k) => self.value_below(k),
+        match discrete::pixel_index(x, limit, self.directed_len())? {
+            Some(k) => self.value_below(k),
+            None => Ok(None),
         }
     }
 }

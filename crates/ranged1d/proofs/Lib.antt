@@ -2,7 +2,6 @@ pub mod Bools
 pub mod Answers
 pub mod Whole
 pub mod Parts
-pub mod Bits
 pub mod Lowest
 pub mod Table
 pub mod Pieces

@@ -1,5 +1,5 @@
 pub mod Answer
 pub mod Refusals
-pub mod Listed
+pub mod Told
 pub mod Admitted
 pub mod Numbers

@@ -11,102 +11,60 @@ ghost use Rattle.ranged1d.specs.Admitted.{whole_admitted, index_admitted, pixel_
 #[derive(Clone, Copy)]
 pub struct Limit(pub i32, pub i32);
 
-// Why a call is refused. specs/Refusals has the number of each, and specs/Answer its place in the order. A later refusal is a new last
-// case here, a line in each of the two, an arm of `number` and two needs of its proof: no other function goes by these cases, and no
-// other proof does.
+// Why a call is refused, each case with its number. specs/Refusals has the numbers too, and specs/Answer the place of each in the order: a
+// later refusal is a case here and a line in each of the two.
 #[derive(Clone, Copy)]
 pub enum Refusal {
-    WholeNotAdmitted,
-    LimitNotAdmitted,
-    NoStep,
-    NoSegments,
-    TooFar,
-    StepAgainstAxis,
-    ListTooLong,
-    NotMonotone,
-    NanTarget,
-    AboveI32,
-    NotPrintable,
-    TooManyDecimals,
-    OutTooShort,
-    NotARuler,
-    UnknownTwist,
-    TwistLost,
-    RealAxisNotMarked,
-    NotOnAxis,
-    BelowI32,
-    TooManyDigits,
-    NotADecimal,
-    BadWeek,
-    BadMinute,
-    TooSmall,
-    NoChartEntry,
-    CountFull,
-    CountEmpty,
-    BorderCount,
-}
-
-// How many entries or marks were written to a lent list.
-#[derive(Clone, Copy)]
-pub enum Listed {
-    Written(usize),
-    Refused(Refusal),
+    WholeNotAdmitted = 1,
+    LimitNotAdmitted = 2,
+    NoStep = 3,
+    NoSegments = 4,
+    TooFar = 5,
+    StepAgainstAxis = 6,
+    ListTooLong = 7,
+    NotMonotone = 8,
+    NanTarget = 9,
+    AboveI32 = 10,
+    NotPrintable = 11,
+    TooManyDecimals = 12,
+    OutTooShort = 13,
+    NotARuler = 14,
+    UnknownTwist = 15,
+    TwistLost = 16,
+    RealAxisNotMarked = 17,
+    NotOnAxis = 18,
+    BelowI32 = 19,
+    TooManyDigits = 24,
+    NotADecimal = 25,
+    BadWeek = 26,
+    BadMinute = 27,
+    TooSmall = 28,
+    NoChartEntry = 20,
+    CountFull = 21,
+    CountEmpty = 22,
+    BorderCount = 23,
 }
 
 impl Refusal {
     pub fn number(self) -> u8
         ensures { result ≡ number_of self }
     {
-        match self {
-            Refusal::WholeNotAdmitted => 1,
-            Refusal::LimitNotAdmitted => 2,
-            Refusal::NoStep => 3,
-            Refusal::NoSegments => 4,
-            Refusal::TooFar => 5,
-            Refusal::StepAgainstAxis => 6,
-            Refusal::ListTooLong => 7,
-            Refusal::NotMonotone => 8,
-            Refusal::NanTarget => 9,
-            Refusal::AboveI32 => 10,
-            Refusal::NotPrintable => 11,
-            Refusal::TooManyDecimals => 12,
-            Refusal::OutTooShort => 13,
-            Refusal::NotARuler => 14,
-            Refusal::UnknownTwist => 15,
-            Refusal::TwistLost => 16,
-            Refusal::RealAxisNotMarked => 17,
-            Refusal::NotOnAxis => 18,
-            Refusal::BelowI32 => 19,
-            Refusal::TooManyDigits => 24,
-            Refusal::NotADecimal => 25,
-            Refusal::BadWeek => 26,
-            Refusal::BadMinute => 27,
-            Refusal::TooSmall => 28,
-            Refusal::NoChartEntry => 20,
-            Refusal::CountFull => 21,
-            Refusal::CountEmpty => 22,
-            Refusal::BorderCount => 23,
-        }
+        self as u8
     }
 }
 
-// How far z lies from zero, as Rust's method of that name; by way of i64, since the negation of the least i32 is no i32.
+// How far z lies from zero.
 pub fn unsigned_abs(z: i32) -> u32
     ensures { result ≡ nat_abs z }
 {
-    let w = z as i64;
-    if w < 0 { (0 - w) as u32 } else { w as u32 }
+    z.unsigned_abs()
 }
 
 // The number that has the bits x in two's complement.
 pub fn signed(x: u32) -> i32
     ensures { result ≡ to_z w32 x }
 {
-    if x < 2147483648 {
-        x as i32
-    } else {
-        0 - ((4294967295 - x) as i32) - 1
-    }
+    x.cast_signed()
 }
 
 // Whether z is admitted as a whole end, value, step or list entry. Two comparisons, which compile to one.

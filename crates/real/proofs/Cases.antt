@@ -1,4 +1,5 @@
 -- The rules case by case, from the tests that the code makes. Assumes nothing.
+use Rattle.std.specs.Prelude.{Option, Some, None}
 use mathlib.Core.Path.{◌≡◌, refl, sym, ap, ◌∙◌}
 use mathlib.Core.Bool.{Bool, true, false, true≢false}
 use Prim.Native.Nat.{ℕ, ◌*◌, ◌^◌, ◌≤◌, ◌<◌, zero-le}
@@ -17,8 +18,6 @@ use Rattle.ranged1d.proofs.Bools.{both_false, chosen}
 use Rattle.ranged1d.proofs.Whole.{not_lt, both_near, between-far}
 use Rattle.rounding.specs.Integral.{Way}
 use Rattle.rounding.specs.Within.{within}
-use Rattle.rounding.specs.declared.Whole.{Whole}
-use Rattle.rounding.specs.declared.Whole.TheVariants.{Number, Beyond}
 use Rattle.rounding.proofs.Bounds.{Held, within_held}
 use Rattle.rounding.proofs.Signs.{negated}
 use Rattle.real.specs.Place.{farthest, along, product, is_beyond, number}
@@ -26,37 +25,37 @@ use Rattle.real.specs.Reading.{outside}
 use Rattle.real.proofs.Signs.{int_value}
 
 -- ---- `along`
-pub along-none : (p q l : ℤ) (t : Float) → l ≡ pos 0 → along p q l t ≡ Number q
+pub along-none : (p q l : ℤ) (t : Float) → l ≡ pos 0 → along p q l t ≡ Some q
 unfolding along
 along-none p q l t e = rw e
 
 -- The steps of a film of length l, from those of one that runs upward; and by the test that the code makes
-abbrev pub facing : ℤ → Whole → Whole
+abbrev pub facing : ℤ → Option ℤ → Option ℤ
 facing (pos l) w = w
 facing (negsuc l) w = negated w
 
-pub facing_up : (l : ℤ) (w : Whole) → lt_z l (pos 0) ≡ false → facing l w ≡ w
+pub facing_up : (l : ℤ) (w : Option ℤ) → lt_z l (pos 0) ≡ false → facing l w ≡ w
 facing_up (pos n) w h = refl
 facing_up (negsuc n) w h = absurd (true≢false h)
 
-pub facing_down : (l : ℤ) (w : Whole) → lt_z l (pos 0) ≡ true → facing l w ≡ negated w
+pub facing_down : (l : ℤ) (w : Option ℤ) → lt_z l (pos 0) ≡ true → facing l w ≡ negated w
 facing_down (pos n) w h = absurd (omega (arith, ltb-true n 0 h))
 facing_down (negsuc n) w h = refl
 
-pub facing_beyond : (l : ℤ) → facing l Beyond ≡ Beyond
+pub facing_beyond : (l : ℤ) → facing l None ≡ None
 facing_beyond (pos n) = refl
 facing_beyond (negsuc n) = refl
 
 -- ---- The whole number that is added to p, within a bound b: w is `floors` and d a thousandth, or w is `ceils` and d minus that
-abbrev pub steps : Way → ℕ → Float → ℤ → Float → Whole
+abbrev pub steps : Way → ℕ → Float → ℤ → Float → Option ℤ
 steps w b d l t = within w b (add binary64 (product l t) d)
 
 pub steps_near : (w : Way) (b : ℕ) (x : Float) → b ≤ farthest → nat_abs (number (within w b x)) ≤ farthest
 steps_near w b x l = go (within w b x) (within_held w b x)
   where
-    go : (v : Whole) → Held b v → nat_abs (number v) ≤ farthest
-    go (Number z) h = omega arith
-    go Beyond h = zero-le
+    go : (v : Option ℤ) → Held b v → nat_abs (number v) ≤ farthest
+    go (Some z) h = omega arith
+    go None h = zero-le
 
 -- an infinite t leads beyond, unless L is 0
 times_inf : (x : Float) (s : Bool) (k : ℕ) (u : Bool) → HasValue x s k 1 → 0 < k → (v : Bool) × (mul binary64 x (inf u) ≡ inf v)

@@ -1,6 +1,7 @@
 -- The place of a whole value on an axis with whole ends, counted exactly: |L| * |v - a| / |b - a| pixels from p, cut, or one more where
 -- the remainder is nearly all of |b - a|. Each rounding's bound is a multiple of h = 2 ^ 1014 units; 2 ^ 60 * h of them make 1.
 -- Assumes nothing.
+use Rattle.std.specs.Prelude.{Some}
 use mathlib.Core.Path.{◌≡◌, refl, sym, ap, ◌∙◌}
 use mathlib.Core.Logic.{◌⊎◌, inl, inr}
 use mathlib.Core.Bool.{Bool, true, false, cond, not-eq-not}
@@ -21,7 +22,6 @@ use Rattle.ranged1d.proofs.Bools.{both_false}
 use Rattle.ranged1d.proofs.Whole.{minus-far, length-near, some_size, no_difference, not_lt}
 use Rattle.ranged1d.proofs.Parts.{Parts, over, under, abs_parts, diff_parts, le_parts}
 use Rattle.rounding.specs.Within.{signed}
-use Rattle.rounding.specs.declared.Whole.TheVariants.{Number}
 use Rattle.rounding.proofs.Bounds.{kept_in}
 use Rattle.rounding.proofs.Steps.{signed_abs}
 use Rattle.rounding.proofs.Errors.{Near, Off}
@@ -144,7 +144,7 @@ milli_is true = refl
 
 module _ (s : Bool) (l : ℤ) (t : Float) (w D : ℕ) (few : nat_abs l ≤ 2_000_000) (value : HasValue (of_int binary64 l) s (nat_abs l) 1)
     (dp : 0 < D) (wd : w ≤ D) (pt : Part binary64 t w D (2 ^ 1022)) where
-  steps_counted : (k : ℕ) × (steps (to_zero s) farthest (facing_milli s) l t ≡ Number (signed s k)) × Counts (nat_abs l) w D k
+  steps_counted : (k : ℕ) × (steps (to_zero s) farthest (facing_milli s) l t ≡ Some (signed s k)) × Counts (nat_abs l) w D k
   steps_counted =
       let N = nat_abs l in
       let (g, i, n) = pt in
@@ -163,9 +163,9 @@ not_inf (inf _) u v c s i = elim i [ ]
 not_inf (fin r m e) u v c s i = refl
 
 along-counted : (p q l : ℤ) (t : Float) (w D : ℕ) → q -ℤ p ≡ l → nat_abs l ≤ 2_000_000 → 0 < D → w ≤ D → Part binary64 t w D (2 ^ 1022)
-    → (k : ℕ) × (along p q l t ≡ Number (p +ℤ toward l k)) × Counts (nat_abs l) w D k
+    → (k : ℕ) × (along p q l t ≡ Some (p +ℤ toward l k)) × Counts (nat_abs l) w D k
 unfolding along rising falling sub
-along-counted p q (pos zero) t w D e few dp wd pt = (0, ap Number (sym (no_difference p q e) ∙ sym (+ℤ_idr p)), inl (sym (rw (zero-mul w) (zero-div D))))
+along-counted p q (pos zero) t w D e few dp wd pt = (0, ap Some (sym (no_difference p q e) ∙ sym (+ℤ_idr p)), inl (sym (rw (zero-mul w) (zero-div D))))
 along-counted p q (pos (suc n)) t w D e few dp wd pt =
     let (k, is, c) = steps_counted false (pos (suc n)) t w D few (int_signed binary64 (pos (suc n)) (omega arith)) dp wd pt in
     (k, rw (not_inf t _ _ _ false pt.1, not_inf t _ _ _ true pt.1) (ap (plus p) is), c)
@@ -247,6 +247,6 @@ module _ (fa fb fv : Float) (a b v : ℤ) (limit : Limit) (ha : Holds fa a) (hb 
   unequal : eq fa fb ≡ false
   unequal = (not-eq-not {b = false}).0 (λ e. ne (equal_held fa fb a b ha hb e))
 
-  pub spot-counted : (k : ℕ) × (spot fa fb fv limit ≡ Number (away limit k)) × Counts (pixels limit) (distance a v) D k
+  pub spot-counted : (k : ℕ) × (spot fa fb fv limit ≡ Some (away limit k)) × Counts (pixels limit) (distance a v) D k
   unfolding spot
   spot-counted = rw unequal (along-counted limit.0 limit.1 (limit.1 -ℤ limit.0) (share fa fb fv) (distance a v) D refl (length-near limit ok) long (between-share a b v inside).1 share_part)

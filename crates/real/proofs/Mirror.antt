@@ -1,4 +1,5 @@
 -- The mirror theorem for places, and, with the readings of `Readings`, the whole of it. Assumes nothing.
+use Rattle.std.specs.Prelude.{Option, Some, None}
 use mathlib.Core.Path.{◌≡◌, refl, sym, ap, ◌∙◌}
 use mathlib.Core.Logic.{inl, inr}
 use mathlib.Core.Bool.{Bool, true, false, not, cond, ◌&&◌, true≢false}
@@ -14,8 +15,6 @@ use Rattle.ranged1d.specs.declared.Limit.{Limit}
 use Rattle.ranged1d.proofs.Whole.{neg-far, admitted-neg, some_size, no_difference, quot_neg}
 use Rattle.rounding.specs.Integral.{Way, floors, ceils}
 use Rattle.rounding.specs.Within.{whole_of, within, floor_within, ceil_within}
-use Rattle.rounding.specs.declared.Whole.{Whole}
-use Rattle.rounding.specs.declared.Whole.TheVariants.{Number, Beyond}
 use Rattle.rounding.proofs.Signs as whole
 use Rattle.real.specs.Place.{farthest, milli, share, rising, falling, plus, or_end, along, spot, is_beyond, real_place, whole_place, whole_spot, spot_answer}
 use Rattle.real.specs.Mirror.{mirrored, negated, Mirrored}
@@ -54,26 +53,26 @@ along_facing : (p q l : ℤ) (t : Float) → (l ≡ pos 0 → ⊥) → along p q
 unfolding along
 along_facing p q (pos zero) t n = absurd (n refl)
 along_facing p q (pos (suc l)) t n = refl
-along_facing p q (negsuc l) t n = ap (λ (w : Whole). or_end p q t (plus p w)) (falls l t)
+along_facing p q (negsuc l) t n = ap (λ (w : Option ℤ). or_end p q t (plus p w)) (falls l t)
 
 module _ (p q l : ℤ) (t : Float) (some : l ≡ pos 0 → ⊥) where
-  pub along-number : (n k : ℤ) → nat_abs l ≤ 2 ^ 53 → rising (pos (nat_abs l)) t ≡ Number n → facing l (Number n) ≡ Number k → along p q l t ≡ Number (p +ℤ k)
+  pub along-number : (n k : ℤ) → nat_abs l ≤ 2 ^ 53 → rising (pos (nat_abs l)) t ≡ Some n → facing l (Some n) ≡ Some k → along p q l t ≡ Some (p +ℤ k)
   unfolding rising of_bits
   along-number n k held e f =
       let finite = no_end floors farthest _ _ _ (pos (nat_abs l)) held (some_size l some) t (ap is_beyond e) in
       along_facing p q l t some ∙ rw (finite false, finite true) (ap (plus p) (ap (facing l) e ∙ f))
 
-  pub along_beyond : rising (pos (nat_abs l)) t ≡ Beyond → along p q l t ≡ or_end p q t Beyond
-  along_beyond e = along_facing p q l t some ∙ ap (λ (w : Whole). or_end p q t (plus p w)) (ap (facing l) e ∙ facing_beyond l)
+  pub along_beyond : rising (pos (nat_abs l)) t ≡ None → along p q l t ≡ or_end p q t None
+  along_beyond e = along_facing p q l t some ∙ ap (λ (w : Option ℤ). or_end p q t (plus p w)) (ap (facing l) e ∙ facing_beyond l)
 
-plus-neg : (p : ℤ) (w : Whole) → plus (neg_ℤ p) (whole.negated w) ≡ whole.negated (plus p w)
-plus-neg p (Number n) = ap Number (sym (neg_ℤ-+ℤ p n))
-plus-neg p Beyond = refl
+plus-neg : (p : ℤ) (w : Option ℤ) → plus (neg_ℤ p) (whole.negated w) ≡ whole.negated (plus p w)
+plus-neg p (Some n) = ap Some (sym (neg_ℤ-+ℤ p n))
+plus-neg p None = refl
 
-end-neg : (p q : ℤ) (t : Float) (w' w : Whole) → w' ≡ whole.negated w → or_end (neg_ℤ p) (neg_ℤ q) t (plus (neg_ℤ p) w') ≡ whole.negated (or_end p q t (plus p w))
+end-neg : (p q : ℤ) (t : Float) (w' w : Option ℤ) → w' ≡ whole.negated w → or_end (neg_ℤ p) (neg_ℤ q) t (plus (neg_ℤ p) w') ≡ whole.negated (or_end p q t (plus p w))
 end-neg p q t w' w e = rw (e, plus-neg p w) (go (eq t (inf false)) (eq t (inf true)))
   where
-    go : (b c : Bool) → cond b (Number (neg_ℤ q)) (cond c (Number (neg_ℤ p)) (whole.negated (plus p w))) ≡ whole.negated (cond b (Number q) (cond c (Number p) (plus p w)))
+    go : (b c : Bool) → cond b (Some (neg_ℤ q)) (cond c (Some (neg_ℤ p)) (whole.negated (plus p w))) ≡ whole.negated (cond b (Some q) (cond c (Some p) (plus p w)))
     go true c = refl
     go false true = refl
     go false false = refl
@@ -85,17 +84,17 @@ along-neg p q (pos (suc n)) t = end-neg p q t (falling (negsuc n) t) (rising (po
 along-neg p q (negsuc n) t = end-neg p q t (rising (pos (suc n)) t) (falling (negsuc n) t) (rises n t)
 
 -- ---- a share that is a zero of either sign
-tiny-up : (s : Bool) → floor_within farthest (add binary64 (zero_of s) milli) ≡ Number (pos 0)
+tiny-up : (s : Bool) → floor_within farthest (add binary64 (zero_of s) milli) ≡ Some (pos 0)
 unfolding within whole_of add of_bits
 tiny-up true = refl
 tiny-up false = refl
 
-tiny-down : (s : Bool) → ceil_within farthest (sub binary64 (zero_of s) milli) ≡ Number (pos 0)
+tiny-down : (s : Bool) → ceil_within farthest (sub binary64 (zero_of s) milli) ≡ Some (pos 0)
 unfolding within whole_of sub of_bits
 tiny-down true = refl
 tiny-down false = refl
 
-steps_zero : (w : Way) (d : Float) → ((s : Bool) → within w farthest (add binary64 (zero_of s) d) ≡ Number (pos 0)) → (l : ℤ) (s t : Bool) → steps w farthest d l (zero_of s) ≡ steps w farthest d l (zero_of t)
+steps_zero : (w : Way) (d : Float) → ((s : Bool) → within w farthest (add binary64 (zero_of s) d) ≡ Some (pos 0)) → (l : ℤ) (s t : Bool) → steps w farthest d l (zero_of s) ≡ steps w farthest d l (zero_of t)
 steps_zero w d tiny l s t =
     same_through (λ (y : Float). within w farthest (add binary64 y d)) (λ u v. tiny u ∙ sym (tiny v)) (mul_right (of_int binary64 l) s t)
 
@@ -112,17 +111,17 @@ unfolding spot
 spot-neg limit a b v a' b' v' ends alike = rw (ends, length-neg limit.0 limit.1) (go limit.0 limit.1 (limit.1 -ℤ limit.0) (eq a b) refl)
   where
     go : (p q l : ℤ) (e : Bool) → eq a b ≡ e
-        → cond e (Number (quot_z (neg_ℤ l) (pos 2))) (along (neg_ℤ p) (neg_ℤ q) (neg_ℤ l) (share a' b' v'))
-        ≡ whole.negated (cond e (Number (quot_z l (pos 2))) (along p q l (share a b v)))
-    go p q l true h = ap Number (quot_neg l 2)
+        → cond e (Some (quot_z (neg_ℤ l) (pos 2))) (along (neg_ℤ p) (neg_ℤ q) (neg_ℤ l) (share a' b' v'))
+        ≡ whole.negated (cond e (Some (quot_z l (pos 2))) (along p q l (share a b v)))
+    go p q l true h = ap Some (quot_neg l 2)
     go p q l false h = same_through (along (neg_ℤ p) (neg_ℤ q) (neg_ℤ l)) (along_zero (neg_ℤ p) (neg_ℤ q) (neg_ℤ l)) (alike h) ∙ along-neg p q l (share a b v)
 
-answered_neg : (w : Whole) → spot_answer (whole.negated w) ≡ negated (spot_answer w)
-answered_neg (Number z) = refl
-answered_neg Beyond = refl
+answered_neg : (w : Option ℤ) → spot_answer (whole.negated w) ≡ negated (spot_answer w)
+answered_neg (Some z) = refl
+answered_neg None = refl
 
 -- behind the refusal 2
-behind : (c : Bool) (w' w : Whole) → w' ≡ whole.negated w → cond c (refused 2) (spot_answer w') ≡ negated (cond c (refused 2) (spot_answer w))
+behind : (c : Bool) (w' w : Option ℤ) → w' ≡ whole.negated w → cond c (refused 2) (spot_answer w') ≡ negated (cond c (refused 2) (spot_answer w))
 behind true w' w e = refl
 behind false w' w e = ap spot_answer e ∙ answered_neg w
 

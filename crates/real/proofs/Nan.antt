@@ -1,4 +1,5 @@
 -- The whole number of a NaN t is 0, and no other t makes a NaN of the sum whose floor or ceiling is taken. Assumes nothing.
+use Rattle.std.specs.Prelude.{Some}
 use mathlib.Core.Path.{◌≡◌, refl, ap}
 use mathlib.Core.Bool.{Bool, true, false, cond, ◌&&◌, beq}
 use Prim.Native.Nat.{ℕ, ◌+◌, ◌-◌, ◌*◌, ◌^◌, ◌≤◌}
@@ -9,7 +10,6 @@ use lib.Ieee.Exact.{HasValue}
 use Rattle.ranged1d.proofs.Bools.{chosen}
 use Rattle.rounding.specs.Integral.{Way, floors, ceils}
 use Rattle.rounding.specs.Within.{within}
-use Rattle.rounding.specs.declared.Whole.TheVariants.{Number}
 use Rattle.rounding.proofs.Small.{rounded}
 use Rattle.real.specs.Place.{farthest, milli, product, rising, falling}
 use Rattle.real.proofs.Cases.{steps}
@@ -22,15 +22,15 @@ times_nan nan = refl
 times_nan (inf s) = refl
 times_nan (fin s m e) = refl
 
-steps_nan : (w : Way) (d : Float) (l : ℤ) → steps w farthest d l nan ≡ Number (pos 0)
+steps_nan : (w : Way) (d : Float) (l : ℤ) → steps w farthest d l nan ≡ Some (pos 0)
 unfolding within add
 steps_nan w d l = ap (λ (y : Float). within w farthest (add binary64 y d)) (times_nan (of_int binary64 l))
 
-pub rising_nan : (l : ℤ) → rising l nan ≡ Number (pos 0)
+pub rising_nan : (l : ℤ) → rising l nan ≡ Some (pos 0)
 unfolding rising
 rising_nan = steps_nan floors milli
 
-pub falling_nan : (l : ℤ) → falling l nan ≡ Number (pos 0)
+pub falling_nan : (l : ℤ) → falling l nan ≡ Some (pos 0)
 unfolding falling sub
 falling_nan = steps_nan ceils (neg milli)
 

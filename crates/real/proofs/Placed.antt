@@ -1,5 +1,6 @@
 -- What a caller needs of places: how far from 0 they are; that a whole place is the real one behind the refusal 1; and that 5 is not met
 -- where the value lies within eleven times the axis's length of its first end. Assumes nothing.
+use Rattle.std.specs.Prelude.{Option, Some, None}
 use mathlib.Core.Path.{◌≡◌, refl, ap}
 use mathlib.Core.Bool.{Bool, true, false, not, cond, ◌&&◌}
 use mathlib.Core.List.{[], ◌∷◌}
@@ -17,8 +18,6 @@ use Rattle.ranged1d.specs.declared.Limit.{Limit}
 use Rattle.ranged1d.proofs.Whole.{add-far, minus-far, quotient-far, length-near, some_size, no_difference}
 use Rattle.rounding.specs.Within.{AtMost}
 use Rattle.rounding.specs.Integral.{Way, floors, ceils}
-use Rattle.rounding.specs.declared.Whole.{Whole}
-use Rattle.rounding.specs.declared.Whole.TheVariants.{Number, Beyond}
 use Rattle.rounding.proofs.Value.{Told}
 use Rattle.rounding.proofs.Small.{small_neg, add_small, mul_small}
 use Rattle.real.specs.Place.{farthest, milli, share, product, rising, falling, plus, or_end, along, spot, number, real_place, whole_spot, whole_place, spot_answer}
@@ -31,17 +30,17 @@ thousandth : AtMost 1 milli
 unfolding of_bits
 thousandth = lit≤ tt
 
-module _ (P : Whole → Type 0) (limit : Limit) (h : limit_admitted limit ≡ true) (near_zero : (z : ℤ) → nat_abs z ≤ 2_000_000 → P (Number z)) where
+module _ (P : Option ℤ → Type 0) (limit : Limit) (h : limit_admitted limit ≡ true) (near_zero : (z : ℤ) → nat_abs z ≤ 2_000_000 → P (Some z)) where
   abbrev p : ℤ
   p = limit.0
 
   abbrev q : ℤ
   q = limit.1
 
-  end_by : (t : Float) (w : Whole) → P w → P (or_end p q t w)
+  end_by : (t : Float) (w : Option ℤ) → P w → P (or_end p q t w)
   end_by t w x = go (eq t (inf false)) (eq t (inf true))
     where
-      go : (b c : Bool) → P (cond b (Number q) (cond c (Number p) w))
+      go : (b c : Bool) → P (cond b (Some q) (cond c (Some p) w))
       go true c = near_zero q (let n = (near-limits limit h).1 in omega arith)
       go false true = near_zero p (let n = (near-limits limit h).0 in omega arith)
       go false false = x
@@ -56,18 +55,18 @@ module _ (P : Whole → Type 0) (limit : Limit) (h : limit_admitted limit ≡ tr
   unfolding spot
   spot_by a b v x = go (eq a b) refl
     where
-      go : (e : Bool) → eq a b ≡ e → P (cond e (Number (quot_z (q -ℤ p) (pos 2))) (along p q (q -ℤ p) (share a b v)))
+      go : (e : Bool) → eq a b ≡ e → P (cond e (Some (quot_z (q -ℤ p) (pos 2))) (along p q (q -ℤ p) (share a b v)))
       go true e = near_zero (quot_z (q -ℤ p) (pos 2)) (omega (arith, quotient-far (q -ℤ p) (pos 2), length-near limit h))
       go false e = along_by (q -ℤ p) (share a b v) (x e)
 
 -- ---- how far from 0 a place can be
-plus-near : (p : ℤ) (w : Whole) → nat_abs p ≤ 1_000_000 → nat_abs (number w) ≤ 1_000_000_000 → nat_abs (number (plus p w)) ≤ 1_001_000_000
-plus-near p (Number n) hp hn = omega (arith, add-far p n)
-plus-near p Beyond hp hn = zero-le
+plus-near : (p : ℤ) (w : Option ℤ) → nat_abs p ≤ 1_000_000 → nat_abs (number w) ≤ 1_000_000_000 → nat_abs (number (plus p w)) ≤ 1_001_000_000
+plus-near p (Some n) hp hn = omega (arith, add-far p n)
+plus-near p None hp hn = zero-le
 
 pub spot-near : (a b v : Float) (limit : Limit) → limit_admitted limit ≡ true → nat_abs (number (spot a b v limit)) ≤ 1_001_000_000
 spot-near a b v limit h =
-    spot_by (λ (w : Whole). nat_abs (number w) ≤ 1_001_000_000) limit h (λ z n. omega arith) a b v
+    spot_by (λ (w : Option ℤ). nat_abs (number w) ≤ 1_001_000_000) limit h (λ z n. omega arith) a b v
     (λ e w d s. plus-near limit.0 (steps w farthest d _ _) (near-limits limit h).0 (steps_near w farthest _ (lit≤ tt)))
 
 -- ---- a whole place is the real place of the three numbers as floats
@@ -77,11 +76,11 @@ unfolding whole_place real_place
 whole_is_real a b v limit = refl
 
 -- a place that the rule has is answered
-pub real_answered : (a b v : Float) (limit : Limit) {z : ℤ} → limit_admitted limit ≡ true → spot a b v limit ≡ Number z → real_place a b v limit ≡ given z
+pub real_answered : (a b v : Float) (limit : Limit) {z : ℤ} → limit_admitted limit ≡ true → spot a b v limit ≡ Some z → real_place a b v limit ≡ given z
 unfolding real_place
 real_answered a b v limit h e = rw (h, e)
 
-pub whole_answered : (a b v : ℤ) (limit : Limit) {z : ℤ} → ends_admitted a b ≡ true → whole_admitted v ≡ true → limit_admitted limit ≡ true → whole_spot a b v limit ≡ Number z → whole_place a b v limit ≡ given z
+pub whole_answered : (a b v : ℤ) (limit : Limit) {z : ℤ} → ends_admitted a b ≡ true → whole_admitted v ≡ true → limit_admitted limit ≡ true → whole_spot a b v limit ≡ Some z → whole_place a b v limit ≡ given z
 whole_answered a b v limit ab ok h e = rw (whole_is_real a b v limit, ab, ok) (real_answered _ _ _ limit h e)
 
 -- ---- where 5 is not met: the place is answered
@@ -101,10 +100,10 @@ module _ (l : ℤ) (t : Float) (hl : nat_abs l ≤ 2_000_000) (ht : AtMost 11 t)
       small_told w farthest 22_000_001 (add binary64 (product l t) d) (lit≤ tt)
       (add_small binary64 22_000_001 (round_whole binary64 false 22_000_001 (lit≤ tt)) 22_000_000 1 (product l t) d (lit≤ tt) product_small h)
 
-plus_told : (p : ℤ) (w : Whole) → nat_abs p ≤ 1_000_000 → Told w 22_000_001 → Told (plus p w) 23_000_001
+plus_told : (p : ℤ) (w : Option ℤ) → nat_abs p ≤ 1_000_000 → Told w 22_000_001 → Told (plus p w) 23_000_001
 plus_told p w hp n = (p +ℤ n.0, ap (plus p) n.1, omega (arith, add-far p n.0, n.2))
 
-answered_at : (w : Whole) → Told w 23_000_001 → Placed (spot_answer w)
+answered_at : (w : Option ℤ) → Told w 23_000_001 → Placed (spot_answer w)
 answered_at w n = record { at = n.0; is = ap spot_answer n.1; near = n.2 }
 
 -- whole ends, which may be equal; if they are not, the value is at most eleven times their distance from the first
@@ -112,7 +111,7 @@ pub placed : (a b v : ℤ) (limit : Limit) → limit_admitted limit ≡ true →
     → ((a ≡ b → ⊥) → nat_abs (v -ℤ a) ≤ 11 * nat_abs (b -ℤ a)) → Placed (real_place (of_int binary64 a) (of_int binary64 b) (of_int binary64 v) limit)
 unfolding real_place
 placed a b v limit h ha hb hv far =
-    rw h (answered_at (spot fa fb fv limit) (spot_by (λ (w : Whole). Told w 23_000_001) limit h (λ z n. (z, refl, omega arith)) fa fb fv step))
+    rw h (answered_at (spot fa fb fv limit) (spot_by (λ (w : Option ℤ). Told w 23_000_001) limit h (λ z n. (z, refl, omega arith)) fa fb fv step))
   where
     fa : Float
     fa = of_int binary64 a

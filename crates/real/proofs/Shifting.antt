@@ -1,5 +1,6 @@
 -- 02 (i): a place, once both film limits are c further on. L and t are what they were, so that it moves by c where the ends differ; where they are equal p
 -- has no part in it. Assumes nothing.
+use Rattle.std.specs.Prelude.{Option, Some, None}
 use mathlib.Core.Path.{◌≡◌, refl, sym, ap, ap₂, ◌∙◌}
 use mathlib.Core.Bool.{Bool, true, false, not, cond, ◌&&◌}
 use Prim.Native.Nat.{zero, suc, ◌^◌, ◌≤◌}
@@ -13,8 +14,6 @@ use Rattle.ranged1d.specs.Admitted.{whole_admitted, limit_admitted}
 use Rattle.ranged1d.specs.Numbers.{same}
 use Rattle.ranged1d.specs.declared.Limit.{Limit}
 use Rattle.ranged1d.proofs.Whole.{minus_shift, same_yes, same_is}
-use Rattle.rounding.specs.declared.Whole.{Whole}
-use Rattle.rounding.specs.declared.Whole.TheVariants.{Number, Beyond}
 use Rattle.real.specs.Place.{share, rising, falling, plus, or_end, along, spot, spot_answer, whole_spot, whole_place}
 use Rattle.real.specs.Shifting.{shifted_limit}
 use Rattle.real.proofs.Exact.{differ, same_int}
@@ -25,21 +24,21 @@ shifted_place c a b x = cond (same a b) x (x +ℤ c)
 
 -- ---- the place at a share
 module _ (c p q : ℤ) (t : Float) where
-  plus-shifted : (w : Whole) → plus (p +ℤ c) w ≡ plus c (plus p w)
-  plus-shifted (Number n) = ap Number (ap (λ (z : ℤ). z +ℤ n) (+ℤ_comm p c) ∙ +ℤ_assoc c p n)
-  plus-shifted Beyond = refl
+  plus-shifted : (w : Option ℤ) → plus (p +ℤ c) w ≡ plus c (plus p w)
+  plus-shifted (Some n) = ap Some (ap (λ (z : ℤ). z +ℤ n) (+ℤ_comm p c) ∙ +ℤ_assoc c p n)
+  plus-shifted None = refl
 
-  end-shifted : (w : Whole) → or_end (p +ℤ c) (q +ℤ c) t (plus (p +ℤ c) w) ≡ plus c (or_end p q t (plus p w))
+  end-shifted : (w : Option ℤ) → or_end (p +ℤ c) (q +ℤ c) t (plus (p +ℤ c) w) ≡ plus c (or_end p q t (plus p w))
   end-shifted w = go (eq t (inf false)) (eq t (inf true))
     where
-      go : (d e : Bool) → cond d (Number (q +ℤ c)) (cond e (Number (p +ℤ c)) (plus (p +ℤ c) w)) ≡ plus c (cond d (Number q) (cond e (Number p) (plus p w)))
-      go true e = ap Number (+ℤ_comm q c)
-      go false true = ap Number (+ℤ_comm p c)
+      go : (d e : Bool) → cond d (Some (q +ℤ c)) (cond e (Some (p +ℤ c)) (plus (p +ℤ c) w)) ≡ plus c (cond d (Some q) (cond e (Some p) (plus p w)))
+      go true e = ap Some (+ℤ_comm q c)
+      go false true = ap Some (+ℤ_comm p c)
       go false false = plus-shifted w
 
   along-shifted : (l : ℤ) → along (p +ℤ c) (q +ℤ c) l t ≡ plus c (along p q l t)
   unfolding along
-  along-shifted (pos zero) = ap Number (+ℤ_comm q c)
+  along-shifted (pos zero) = ap Some (+ℤ_comm q c)
   along-shifted (pos (suc n)) = end-shifted (rising (pos (suc n)) t)
   along-shifted (negsuc n) = end-shifted (falling (negsuc n) t)
 
@@ -52,8 +51,8 @@ unfolding spot
 spot-shifted c limit a b v = rw (length-shifted c limit.0 limit.1) (go (limit.1 -ℤ limit.0) (eq a b))
   where
     go : (l : ℤ) (e : Bool)
-        → cond e (Number (quot_z l (pos 2))) (along (limit.0 +ℤ c) (limit.1 +ℤ c) l (share a b v))
-        ≡ cond e (cond e (Number (quot_z l (pos 2))) (along limit.0 limit.1 l (share a b v))) (plus c (cond e (Number (quot_z l (pos 2))) (along limit.0 limit.1 l (share a b v))))
+        → cond e (Some (quot_z l (pos 2))) (along (limit.0 +ℤ c) (limit.1 +ℤ c) l (share a b v))
+        ≡ cond e (cond e (Some (quot_z l (pos 2))) (along limit.0 limit.1 l (share a b v))) (plus c (cond e (Some (quot_z l (pos 2))) (along limit.0 limit.1 l (share a b v))))
     go l true = refl
     go l false = along-shifted c limit.0 limit.1 (share a b v) l
 
@@ -73,11 +72,11 @@ ends-equal a b ha hb =
     go false s true e fa fb = sym (same_yes a b (same_int a b fa fb e)) ∙ s
     go false s false e fa fb = refl
 
-answer-shifted : (c : ℤ) (e : Bool) (w : Whole) → spot_answer (cond e w (plus c w)) ≡ and_then (spot_answer w) (λ x. given (cond e x (x +ℤ c)))
-answer-shifted c true (Number n) = refl
-answer-shifted c true Beyond = refl
-answer-shifted c false (Number n) = ap given (+ℤ_comm c n)
-answer-shifted c false Beyond = refl
+answer-shifted : (c : ℤ) (e : Bool) (w : Option ℤ) → spot_answer (cond e w (plus c w)) ≡ and_then (spot_answer w) (λ x. given (cond e x (x +ℤ c)))
+answer-shifted c true (Some n) = refl
+answer-shifted c true None = refl
+answer-shifted c false (Some n) = ap given (+ℤ_comm c n)
+answer-shifted c false None = refl
 
 -- with admitted limits before and after, a value has its place or is refused as before
 pub place-shifted : (c : ℤ) (limit : Limit) (a b v : ℤ) → limit_admitted limit ≡ true → limit_admitted (shifted_limit c limit) ≡ true

@@ -1,21 +1,13 @@
 -- 02 (e): how far a needle of a whole axis lies from p, counted exactly in whole numbers, and what that says of the place that `map`
 -- answers. Assumes nothing.
 use Rattle.std.specs.Prelude.{◌≡◌, not, ◌&&◌, ◌||◌, List, [], ◌∷◌, ◌⊎◌, ℕ, ◌+◌, ◌*◌, ◌/◌, ◌%◌, ◌≤◌, ℤ, pos, negsuc, neg_ℤ, nat_abs, ◌+ℤ◌, ◌-ℤ◌}
-use Rattle.ranged1d.specs.Answer.{Answer, given, refused, ◌when◌, lowest, Reason}
-use Rattle.ranged1d.specs.Refusals.{number_of}
+use Rattle.ranged1d.specs.Answer.{Answer, given, ◌when◌, lowest, Reason}
 use Rattle.ranged1d.specs.Admitted.{whole_admitted, ends_admitted, limit_admitted}
 use Rattle.ranged1d.specs.Numbers.{same}
 use Rattle.ranged1d.specs.declared.Limit.{Limit}
-use Rattle.real.specs.declared.ExactPlace.{ExactPlace}
-use Rattle.real.specs.declared.ExactPlace.TheVariants as exact_is
 use Rattle.real.specs.Place.{whole_place}
 use Rattle.real.specs.Reading.{outside}
 use Rattle.real.specs.Mirror.{mirrored}
-
--- ---- the answer's cases: quotient and remainder; the number of the refusal
-abbrev pub tell_exact : ExactPlace → Answer (ℕ × ℕ)
-tell_exact (exact_is.At n r) = given (n, r)
-tell_exact (exact_is.Refused r) = refused (number_of r)
 
 -- ---- the rule. Pixels of film times how far v lies from a, which is divided by the length of the axis: so many whole pixels is v away
 -- from p, and so many parts of a pixel more, of which the length of the axis makes one.

@@ -3,19 +3,10 @@ use Rattle.std.specs.Prelude.{Bool, not, cond, ◌||◌, [], ◌∷◌, ℤ, ◌
 use Rattle.std.specs.Int.Signed.{lt_z}
 use Rattle.std.specs.Float.Ieee as Ieee
 use Rattle.std.specs.Float.{binary64}
-use Rattle.ranged1d.specs.Answer.{Answer, given, none, refused, ◌when◌, lowest}
-use Rattle.ranged1d.specs.Refusals.{number_of}
+use Rattle.ranged1d.specs.Answer.{Answer, given, none, ◌when◌, lowest}
 use Rattle.ranged1d.specs.Admitted.{reading_admitted}
 use Rattle.ranged1d.specs.declared.Limit.{Limit}
 use Rattle.ranged1d.specs.Numbers.{same, low, high}
-use Rattle.real.specs.declared.RealReading.{RealReading}
-use Rattle.real.specs.declared.RealReading.TheVariants as reading_is
-
--- ---- the answer's cases, by 01's numbers and values: the value; that there is none; the number of the refusal
-abbrev pub tell_reading : RealReading → Answer Float
-tell_reading (reading_is.At y) = given y
-tell_reading reading_is.Nothing = none
-tell_reading (reading_is.Refused r) = refused (number_of r)
 
 -- ---- 01 "Mirroring, real reading, stepped axes": which pixels can be read
 -- x lies before both limits or past both

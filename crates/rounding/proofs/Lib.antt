@@ -8,9 +8,10 @@ pub mod Sums
 pub mod Small
 pub mod Steps
 pub mod Sizes
-pub mod Cuts
 pub mod Bounds
 pub mod Value
+pub mod Rounded
+pub mod Ceilings
 pub mod Order
 pub mod Units
 pub mod Worked

@@ -1,12 +1,11 @@
 -- Negation: what leads down from x leads up from -x, and rounding half away from zero is odd; as floats and as whole numbers. Assumes nothing.
+use Rattle.std.specs.Prelude.{Option, Some, None}
 use Rattle.std.proofs.Common.{◌≡◌, ℕ, zero, suc, ◌+◌, ◌*◌, ◌^◌, ◌<◌, Bool, true, false, cond, not, ltb, leb, ℤ, pos, neg_ℤ, nat_abs, sym, refl, ap, ◌∙◌, add_comm, arith, ltb-true, le-ltb}
 use lib.IntN.{neg_ℤ-neg_ℤ}
 use lib.Ieee.{Float, nan, inf, fin, Format, prec, emax, low, up, down, odd, units, round, neg, lt}
 use Rattle.ranged1d.proofs.Whole.{neg-far}
 use Rattle.rounding.specs.Integral.{Way, floors, ceils, halves, integral, is_whole, sized}
 use Rattle.rounding.specs.Within.{signed, whole_of, kept, within}
-use Rattle.rounding.specs.declared.Whole.{Whole}
-use Rattle.rounding.specs.declared.Whole.TheVariants.{Number, Beyond}
 
 -- the way of the mirrored number
 abbrev pub turned : Way → Way
@@ -15,9 +14,9 @@ turned ceils = floors
 turned halves = halves
 
 -- the whole number of the mirrored number
-abbrev pub negated : Whole → Whole
-negated (Number z) = Number (neg_ℤ z)
-negated Beyond = Beyond
+abbrev pub negated : Option ℤ → Option ℤ
+negated (Some z) = Some (neg_ℤ z)
+negated None = None
 
 pub neg-neg : (x : Float) → neg (neg x) ≡ x
 unfolding neg
@@ -95,6 +94,8 @@ integral-neg f w (fin s m e) =
 pub integral-turned : (f : Format) (w : Way) (x : Float) → neg (integral f w (neg x)) ≡ integral f (turned w) x
 integral-turned f w x = ap neg (integral-neg f w x) ∙ neg-neg (integral f (turned w) x)
 
+pub ruleset ceilings = (integral-turned)
+
 -- ---- the whole form
 signed-neg : (s : Bool) (k : ℕ) → signed (not s) k ≡ neg_ℤ (signed s k)
 signed-neg false k = refl
@@ -103,7 +104,7 @@ signed-neg true k = sym (neg_ℤ-neg_ℤ (pos k))
 kept-neg : (b : ℕ) (z : ℤ) → kept b (neg_ℤ z) ≡ negated (kept b z)
 kept-neg b z = rw (neg-far z) (go (leb (nat_abs z) b))
   where
-    go : (t : Bool) → cond t (Number (neg_ℤ z)) Beyond ≡ negated (cond t (Number z) Beyond)
+    go : (t : Bool) → cond t (Some (neg_ℤ z)) None ≡ negated (cond t (Some z) None)
     go true = refl
     go false = refl
 
@@ -122,9 +123,9 @@ within-neg w b (fin s m e) = ap (kept b) (at s m e) ∙ kept-neg b (whole_of (tu
     at : (s : Bool) (m : ℕ) (e : ℤ) → whole_of w (fin (not s) m e) ≡ neg_ℤ (whole_of (turned w) (fin s m e))
     at s m e = whole_neg w (fin s m e)
 
-pub negated_twice : (v : Whole) → negated (negated v) ≡ v
-negated_twice (Number z) = ap Number (neg_ℤ-neg_ℤ z)
-negated_twice Beyond = refl
+pub negated_twice : (v : Option ℤ) → negated (negated v) ≡ v
+negated_twice (Some z) = ap Some (neg_ℤ-neg_ℤ z)
+negated_twice None = refl
 
 -- the way back
 pub within-turned : (w : Way) (b : ℕ) (x : Float) → within (turned w) b x ≡ negated (within w b (neg x))

@@ -1,4 +1,5 @@
 -- The tests that the code makes of x, and what they say of its floor, its nearest whole number and the whole number within a bound. Assumes nothing.
+use Rattle.std.specs.Prelude.{Some, None}
 use Rattle.std.proofs.Common.{◌≡◌, ℕ, zero, suc, ◌+◌, ◌-◌, ◌*◌, ◌/◌, ◌%◌, ◌^◌, ◌<◌, ◌≤◌, Bool, true, false, ◌&&◌, T, eqb, ltb, leb, ℤ, pos, negsuc, nat_abs, sym, refl, ap, ◌∙◌, subst, true≢false, lt_of_lt_of_le, add-zero, zero-lt-suc, mul_assoc, suc-mul, mul_comm, add-mul, lt_of_mul-lt-mul_right, mul-le-mul_left, mul-pos, one-mul, pow-suc, div-add-mod', zero-mul, mul-one, mul_left_comm, arith, lit≤, le→leb, ltb→lt, lt→ltb, pow_pos, pow_mono, shl_lt, ltb-false, eq-eqb, ne_eqb}
 use native.Mathlib.Nat.{mod-one, mul-mod_left, pow-succ'}
 use lib.Ieee.{Float, nan, inf, fin, Format, binary32, binary64, prec, emax, low, up, down, lt, ne, of_int, round, add, sum, neg, fits, to_signed, in_float, in_signed}
@@ -10,7 +11,6 @@ use lib.Ieee.Compare.{differs_from_itself}
 use borrow.Author.Tests.{lt-leb}
 use Rattle.rounding.specs.Integral.{Way, floors, halves, integral, sized, upper}
 use Rattle.rounding.specs.Within.{signed, whole_of, kept, within}
-use Rattle.rounding.specs.declared.Whole.TheVariants.{Number, Beyond}
 use Rattle.rounding.proofs.Compare.{Says, Tells, compared, own, under}
 use Rattle.rounding.proofs.Quotients.{Is, sized_of, sized-next, sized-whole, sized_le, sized_is}
 use Rattle.rounding.proofs.Signs.{zero_f, neg-neg, lt_neg}
@@ -40,7 +40,7 @@ unfolding integral
 goes f w s m e h = rw (ne_eqb (m * up e % down e) 0 h)
 
 -- ---- from 2 ^ (prec - 1) on there is none
-digits : (f : Format) (s : Bool) (m : ℕ) (e : ℤ) → T (fits f (fin s (suc m) e)) → suc m < 2 ^ prec f
+pub digits : (f : Format) (s : Bool) (m : ℕ) (e : ℤ) → T (fits f (fin s (suc m) e)) → suc m < 2 ^ prec f
 unfolding fits
 digits f s m e t =
     let a = eqb (suc m % 2) 1 in
@@ -271,7 +271,7 @@ within_small w b nan h = elim h [ ]
 within_small w b (inf _) h = elim h [ ]
 within_small w b (fin s m e) h = refl
 
-pub within_nan : (w : Way) (b : ℕ) (x : Float) → ne x x ≡ true → within w b x ≡ Number (pos 0)
+pub within_nan : (w : Way) (b : ℕ) (x : Float) → ne x x ≡ true → within w b x ≡ Some (pos 0)
 unfolding within
 within_nan w b x h = ap (within w b) (differs_from_itself x (subst T (sym h) tt))
 
@@ -281,7 +281,7 @@ past w s n d b p l h =
     let g : 4503599627370496 < suc (sized w s n d) = lt_of_mul-lt-mul_right d (omega (arith, sized-next w s n d p, suc-mul (sized w s n d) d)) in
     omega arith
 
-pub within_large : (w : Way) (b : ℕ) (x : Float) → b < 2 ^ 32 → ne x x ≡ false → Large x → within w b x ≡ Beyond
+pub within_large : (w : Way) (b : ℕ) (x : Float) → b < 2 ^ 32 → ne x x ≡ false → Large x → within w b x ≡ None
 unfolding within whole_of ne
 within_large w b nan l g h = absurd (true≢false g)
 within_large w b (inf s) l g h = refl

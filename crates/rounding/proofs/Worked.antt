@@ -1,9 +1,9 @@
 -- Floors, ceilings and rounded numbers that the definitions give, one for each case that is easily got wrong. Assumes nothing.
+use Rattle.std.specs.Prelude.{Some, None}
 use Rattle.std.proofs.Common.{◌≡◌, true, false, [], ◌∷◌, map, pos, negsuc, refl}
 use lib.Ieee.{nan, inf, fin, round}
 use Rattle.rounding.specs.Integral.{integral, floor_of, ceil_of, round_of, round_of32}
 use Rattle.rounding.specs.Within.{whole_of, within, floor_within, ceil_within, round_within}
-use Rattle.rounding.specs.declared.Whole.TheVariants.{Number, Beyond}
 
 -- 2.5 and −2.5 have the floors 2 and −3, and −0 keeps its sign; 2 ^ 52 − 0.5 is the last number with a fraction, and 2 ^ 53 + 2 has none
 floors_are : map floor_of (fin false 5 (negsuc 0) ∷ fin true 5 (negsuc 0) ∷ fin true 0 (pos 0) ∷ fin false 9007199254740991 (negsuc 0) ∷ fin false 4503599627370497 (pos 1) ∷ [])
@@ -28,11 +28,11 @@ round-last = refl
 
 -- within 5: the floor of −5.5 is not, its ceiling is; of 5.5 the floor is, and the rounded number is not
 within-five : floor_within 5 (fin true 11 (negsuc 0)) ∷ ceil_within 5 (fin true 11 (negsuc 0)) ∷ floor_within 5 (fin false 11 (negsuc 0)) ∷ round_within 5 (fin false 11 (negsuc 0)) ∷ []
-    ≡ Beyond ∷ Number (negsuc 4) ∷ Number (pos 5) ∷ Beyond ∷ []
+    ≡ None ∷ Some (negsuc 4) ∷ Some (pos 5) ∷ None ∷ []
 unfolding within whole_of
 within-five = refl
 
 -- a NaN counts as 0, and an infinity is beyond every bound
-within_odd : floor_within 0 nan ∷ ceil_within 4294967295 (inf true) ∷ [] ≡ Number (pos 0) ∷ Beyond ∷ []
+within_odd : floor_within 0 nan ∷ ceil_within 4294967295 (inf true) ∷ [] ≡ Some (pos 0) ∷ None ∷ []
 unfolding within
 within_odd = refl

@@ -1,45 +1,41 @@
 // Lines of any length: a line that a ruler can be asked with has at most 63 bytes (`accepted-short` of line/proofs/Exact), so that 64 are
 // enough to tell that one is longer.
-ghost use Rattle.std.specs.Prelude.{◌≡◌, ◌≢◌, ℕ, ◌<◌, ◌≤◌, length, slice_index};
+ghost use Rattle.std.specs.Prelude.{◌≤◌};
 
-use memchr::memchr;
-
-// Whether the input goes on, and how much of a line is held.
+// The start of a line that has not ended, at the start of the bytes.
+// Kept: bytes with a count, since the program runs in memory of a fixed size.
 #[derive(Drop)]
-pub struct Turn {
-    pub more: bool,
-    pub held: usize,
+pub(crate) struct Held {
+    bytes: [u8; 64],
+    len: usize,
+    ghost within: { len ≤ 64 },
 }
 
-// The part behind the first n bytes of what is held, as much of it as there is room for; how much is held then.
-pub(crate) fn hold(part: &[u8], held: &mut [u8], n: usize) -> usize
-    ensures { result ≤ length held.new }
-{
-    let mut i = 0;
-    let mut k = n;
-    while i < part.len() {
-        if held.len() <= k {
-            break;
+impl Held {
+    pub(crate) fn new() -> Held {
+        Held {
+            bytes: [0; 64],
+            len: 0,
         }
-        held[k] = part[i];
-        k += 1;
-        i += 1;
     }
-    if held.len() < k {
-        return held.len();
-    }
-    k
-}
 
-// Where the line ends that begins at start: at the next newline, or at the end of what was read.
-pub(crate) fn line_end(read: &[u8], start: usize) -> usize
-    requires { start ≤ length read.now }
-    ensures within { (start ≤ result) × (result ≤ length read.now) }
-    ensures before { (k : ℕ) → start ≤ k → k < result → slice_index read.now k ≢ 10 }
-    ensures found { result < length read.now → slice_index read.now result ≡ 10 }
-{
-    match memchr(b'\n', &read[start..]) {
-        Some(n) => start + n,
-        None => read.len(),
+    pub(crate) fn is_empty(&self) -> bool {
+        self.len == 0
+    }
+
+    pub(crate) fn as_slice(&self) -> &[u8] {
+        &self.bytes[..self.len]
+    }
+
+    // Takes as much of the part as there is room for.
+    pub(crate) fn push(&mut self, part: &[u8]) {
+        let n = part.len().min(self.bytes.len() - self.len);
+        let end = self.len + n;
+        self.bytes[self.len..end].copy_from_slice(&part[..n]);
+        self.len = end;
+    }
+
+    pub(crate) fn clear(&mut self) {
+        self.len = 0;
     }
 }

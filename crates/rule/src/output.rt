@@ -1,65 +1,73 @@
-// Lines are gathered and written in large parts. Each call takes how much of out is used, and returns it.
+// Lines are gathered and written in large parts.
+ghost use Rattle.std.specs.Prelude.{◌≡◌, ◌+◌, ◌≤◌, length, IfOk};
 
-// Stands for how much is used once a write has failed: more than any buffer has. Nothing is written from then on.
-const FAILED: usize = usize::MAX;
+use std::io;
 
-// Writes what is used of out; whether that was done.
-pub(crate) fn send(rt: &impl Print, out: &[u8], used: usize) -> bool {
-    if used <= out.len() {
-        return rt.write_all(&out[0..used]).is_ok();
-    }
-    false
+// What was not written yet stands at the start of the bytes. Each text has at most 24, and so has the line of a mark.
+// Kept: bytes with a count, since the program runs in memory of a fixed size.
+#[derive(Drop)]
+pub(crate) struct Output<const N: usize> {
+    bytes: [u8; N],
+    used: usize,
+    ghost within: { used ≤ N },
+    ghost room: { 24 ≤ N },
 }
 
-// Where the next line goes: no line has more than 24 bytes. If there is no room, what is used is written first.
-fn place(rt: &impl Print, out: &[u8], used: usize) -> usize {
-    if used <= out.len() {
-        if 24 <= out.len() - used {
-            return used;
+impl<const N: usize> Output<N> {
+    pub(crate) fn new() -> Output<N>
+        requires { 24 ≤ N }
+    {
+        Output {
+            bytes: [0; N],
+            used: 0,
         }
     }
-    if send(rt, out, used) {
-        return 0;
-    }
-    FAILED
-}
 
-// The line of a mark.
-pub(crate) fn mark(rt: &impl Print, v: i32, x: i32, out: &mut [u8], used: usize) -> usize {
-    let at = place(rt, out, used);
-    if out.len() < at {
-        return at;
+    // Writes what was gathered.
+    pub(crate) fn send(&mut self, rt: &impl Print) -> io::Result<()>
+        ensures { self.new.used ≡ 0 }
+    {
+        let used = self.used;
+        self.used = 0;
+        rt.write_all(&self.bytes[..used])
     }
-    let n = line::put_mark(v, x, &mut out[at..]);
-    if out.len() - at < n {
-        return at;
-    }
-    at + n
-}
 
-// A text.
-pub(crate) fn text(rt: &impl Print, s: &[u8], out: &mut [u8], used: usize) -> usize {
-    let at = place(rt, out, used);
-    if out.len() < at {
-        return at;
+    // Makes room for 24 bytes.
+    fn make_room(&mut self, rt: &impl Print) -> io::Result<()>
+        ensures { IfOk result (λ _. self.new.used + 24 ≤ N) }
+    {
+        if N - self.used < 24 {
+            return self.send(rt);
+        }
+        Ok(())
     }
-    if out.len() - at < s.len() {
-        return at;
-    }
-    let n = s.len();
-    out[at..at + n].copy_from_slice(s);
-    at + n
-}
 
-// A word and a number.
-pub(crate) fn entry(rt: &impl Print, word: &[u8], n: u32, out: &mut [u8], used: usize) -> usize {
-    let at = text(rt, word, out, used);
-    let t = decimal::natural_label(n);
-    let digits = t.bytes;
-    let blanks = t.blanks;
-    if 11 < blanks {
-        return at;
+    // The line of a mark.
+    pub(crate) fn mark(&mut self, rt: &impl Print, v: i32, x: i32) -> io::Result<()> {
+        self.make_room(rt)?;
+        let bytes = &mut self.bytes[..];
+        self.used += line::put_mark(v, x, &mut bytes[self.used..]);
+        Ok(())
     }
-    let end = text(rt, &digits[blanks..], out, at);
-    text(rt, b"\n", out, end)
+
+    // A text.
+    pub(crate) fn text(&mut self, rt: &impl Print, s: &[u8]) -> io::Result<()>
+        requires { length s.now ≤ 24 }
+    {
+        self.make_room(rt)?;
+        let end = self.used + s.len();
+        let bytes = &mut self.bytes[..];
+        bytes[self.used..end].copy_from_slice(s);
+        self.used = end;
+        Ok(())
+    }
+
+    // A word and a number.
+    pub(crate) fn entry(&mut self, rt: &impl Print, word: &[u8], n: u32) -> io::Result<()>
+        requires { length word.now ≤ 24 }
+    {
+        self.text(rt, word)?;
+        self.text(rt, decimal::natural_label(n).as_slice())?;
+        self.text(rt, b"\n")
+    }
 }

@@ -1,5 +1,5 @@
 -- What a plan says of the ruler: its records are those of the plan's marks, and every one of them can be made. Assumes nothing.
-use Rattle.std.proofs.Common.{◌≡◌, ℕ, ◌+◌, ◌*◌, ◌<◌, ◌≤◌, Bool, true, false, not, ltb, List, [], ◌∷◌, ◌++◌, map, length, take, drop, ℤ, sym, refl, ap, ◌∙◌, subst, ap₂, arith, take-append-drop, take_at, drop_at, le-ltb, lt-ltb}
+use Rattle.std.proofs.Common.{◌≡◌, ℕ, ◌+◌, ◌*◌, ◌<◌, ◌≤◌, Bool, true, false, not, ltb, List, [], ◌∷◌, ◌++◌, map, length, take, drop, ℤ, pos, nat_abs, ◌*ℤ◌, sym, refl, ap, ◌∙◌, subst, ap₂, arith, take-append-drop, take_at, drop_at, le-ltb, lt-ltb}
 use Rattle.ruler.proofs.Places.{ends, film, served}
 use Rattle.ranged1d.specs.Answer.{Answer, given, none, refused, ◌when◌, lowest, written, and_then}
 use Rattle.ranged1d.proofs.Lowest.{lowest_then}
@@ -8,16 +8,22 @@ use Rattle.ranged1d.specs.declared.Limit.{Limit}
 use Rattle.ruler.specs.declared.Form.{Form}
 use Rattle.numeric.specs.declared.KeyPoints.{KeyPoints}
 use Rattle.numeric.specs.Marks.{no_step, marks_by}
-use Rattle.numeric.specs.Calls.{plan_by, plan_with}
+use Rattle.numeric.specs.Calls.{plan_by, plan_with, element}
 use Rattle.numeric.proofs.Plans.{GoodBy, planned_good_by}
 use Rattle.numeric.proofs.Inside.{plan_by_lem}
-use Rattle.ruler.specs.declared.Draft.{Draft}
+use Rattle.ruler.specs.declared.Drawing.{Drawing}
 use Rattle.ruler.specs.Bytes.{head_long, axis, laid, joined}
 use Rattle.ruler.specs.Rule.{no_ruler, mark_at, bytes_by, write_by, has_ruler, ruler_plan_by}
-use Rattle.ruler.specs.Steps.{Reachable, first_of}
+use Rattle.ruler.specs.Steps.{first_of}
 use Rattle.ruler.proofs.Records.{axis_long, head, marks_of, first_long, first_more}
 
-abbrev pub drawn_for : Form → ℤ → ℤ → Limit → ℕ → Draft
+-- the numbers on the way to mark k fit an i32
+pub record Reachable (p : KeyPoints) (k : ℕ) : Type 0 where
+  pub few : k < 2147483648
+  pub product : nat_abs (pos k *ℤ p.step) ≤ 2147483647
+  pub sum : nat_abs (element p.first p.step k) ≤ 2147483647
+
+abbrev pub drawn_for : Form → ℤ → ℤ → Limit → ℕ → Drawing
 drawn_for f a b limit m = record { a = a; b = b; limit = limit; m = m; form = f }
 
 -- what is known of a ruler's plan that was given
@@ -118,7 +124,7 @@ module _ (f : Form) (a b : ℤ) (limit : Limit) (m : ℕ) where
     ruler_whole l x y = sym (take-append-drop (head_long f) l) ∙ ap₂ (λ (t u : List ℕ). t ++ u) x y ∙ sym ruler_is
 
 -- all records of a ruler, put at the start of a list
-pub all_put : (d : Draft) {p : KeyPoints} → ruler_plan_by d.form d.a d.b d.limit d.m ≡ given p → {l : List ℕ} (old : List ℕ)
+pub all_put : (d : Drawing) {p : KeyPoints} → ruler_plan_by d.form d.a d.b d.limit d.m ≡ given p → {l : List ℕ} (old : List ℕ)
     → l ≡ joined (first_of d p (p.count + 1)) ++ drop (length (joined (first_of d p (p.count + 1)))) old → l ≡ bytes_by d.form d.a d.b d.limit d.m ++ drop (head_long d.form + 20 * p.count) old
 all_put d {p} e old put =
     put ∙ rw (first_more d p p.count, ← ruler_is d.form d.a d.b d.limit d.m e, ruler_long_lem d.form d.a d.b d.limit d.m e)

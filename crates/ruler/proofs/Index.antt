@@ -1,11 +1,16 @@
 -- The place of a number in a list. Assumes nothing.
-use Rattle.std.proofs.Common.{◌≡◌, ℕ, zero, suc, ◌+◌, ◌<◌, Bool, true, false, cond, List, [], ◌∷◌, ◌++◌, length, get_or, ℤ, sym, refl, ap, ◌∙◌, add-one, arith}
+use Rattle.std.proofs.Common.{◌≡◌, ℕ, zero, suc, ◌+◌, ◌<◌, Bool, true, false, cond, List, [], ◌∷◌, ◌++◌, length, get_or, ℤ, sym, refl, ap, ◌∙◌, subst, add-one, arith, le-ltb, lt-ltb}
+use Rattle.std.proofs.lemmas.List.FromFn.{length-range_with_len, get_or-range_with_len}
+use Rattle.std.specs.Prelude.{Option, Some, None}
+use Rattle.std.specs.Option.{MatchOption}
+use Rattle.std.specs.List.{range_with_len, AllWithin, HoldsAt}
 use native.Mathlib.Decide.{dec_lt}
 use Rattle.ranged1d.specs.Numbers.{same}
 use Rattle.ranged1d.proofs.Whole.{same_yes, same_no, same_is}
 use Rattle.numeric.specs.Marks.{list_of}
 use Rattle.numeric.proofs.Lists.{length_of, entry}
 use Rattle.ruler.specs.Rule.{index_of}
+use Rattle.ruler.specs.Steps.{index_within}
 
 -- where it is not in the first list, it is looked for in the second
 index_right : (v : ℤ) (xs ys : List ℤ) → index_of v xs ≡ length xs → index_of v (xs ++ ys) ≡ length xs + index_of v ys
@@ -54,3 +59,24 @@ at-index v (x ∷ xs) = go (same x v) refl (at-index v xs)
 
 pub index_found : (v : ℤ) (f : ℕ → ℤ) (n : ℕ) → index_of v (list_of f n) < n → f (index_of v (list_of f n)) ≡ v
 index_found v f n h = sym (entry f v n (index_of v (list_of f n)) h) ∙ at-index v (list_of f n)
+
+-- the first k numbers are not v, and that is all of them or number k is
+pub not_before : (v : ℤ) (f : ℕ → ℤ) (k : ℕ) → ((i : ℕ) → i < k → f i ≡ v → ⊥) → index_of v (list_of f k) ≡ k
+not_before v f zero h = refl
+not_before v f (suc k) h = subst (λ (n : ℕ). index_of v (list_of f n) ≡ n) (add-one k) (index-more v f k (not_before v f k (λ i l. h i (omega arith))) (h k (omega arith)))
+
+-- number i of the numbers below n
+below_is : (n i : ℕ) → i < n → get_or (range_with_len 0 n) i 0 ≡ i
+below_is n i h = get_or-range_with_len 0 n i 0 h ∙ omega arith
+
+pub index_first : (v : ℤ) (f : ℕ → ℤ) (n : ℕ) (r : Option ℕ)
+    → MatchOption r (AllWithin (λ k. f k ≡ v → ⊥) (range_with_len 0 n) 0 (length (range_with_len 0 n))) (λ i. (i < length (range_with_len 0 n)) × HoldsAt (λ k. f k ≡ v) (range_with_len 0 n) i × AllWithin (λ k. f k ≡ v → ⊥) (range_with_len 0 n) 0 i)
+    → r ≡ index_within n (index_of v (list_of f n))
+index_first v f n None m =
+    let e = not_before v f n (λ i h g. m i 0 (omega arith) (omega (arith, length-range_with_len 0 n)) (ap f (below_is n i h) ∙ g)) in
+    rw (e, le-ltb n n (omega arith))
+index_first v f n (Some i) m =
+    let below : i < n = omega (arith, m.0, length-range_with_len 0 n) in
+    let none = not_before v f i (λ j h g. m.2 j 0 (omega arith) h (ap f (below_is n j (omega arith)) ∙ g)) in
+    let e = index_hit v f i none n below (sym (ap f (below_is n i below)) ∙ m.1 0) in
+    rw (e, lt-ltb i n below)

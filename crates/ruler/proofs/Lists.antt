@@ -1,61 +1,48 @@
--- Lists of bytes: by their elements, and written or compared piece by piece. Assumes nothing.
-use Rattle.std.proofs.Common.{◌≡◌, ℕ, zero, suc, ◌+◌, ◌-◌, ◌≤◌, Bool, true, false, List, [], ◌∷◌, ◌++◌, length, get_or, take, drop, set, sym, refl, ap, ◌∙◌, ap₂, suc-add, zero-add, arith, drop_of_length-le, drop-cons}
-use lib.Seq.{set_split, take-length, take-nil}
+-- Records that are put in lent bytes piece by piece. Assumes nothing.
+use Rattle.std.proofs.Common.{◌≡◌, ℕ, ◌+◌, ◌≤◌, List, ◌∷◌, ◌++◌, length, take, drop, set, ℤ, w32, of_z, refl, ap, ◌∙◌, arith, append_assoc}
+use lib.Seq.{set_split, take_at, drop_at, drop-drop}
 use borrow.Rule.Slice.PartMut.{put_mid}
-use Rattle.decimal.specs.Read.{same_bytes}
-use Rattle.decimal.proofs.Texts.{same_no, same_is}
-use Rattle.ranged1d.proofs.Pieces.{put_more, more_long}
+use Rattle.ranged1d.specs.declared.Limit.{Limit}
+use Rattle.decimal.specs.Print.{label_of}
 use Rattle.ruler.specs.declared.Twist.{Twist}
 use Rattle.ruler.specs.declared.Twist.TheVariants.{Plain, S, Z}
-use Rattle.ruler.specs.Bytes.{word, twist_number, twist_bytes}
+use Rattle.ruler.specs.declared.Form.{Form}
+use Rattle.ruler.specs.Bytes.{word, whole, kind_byte, twist_bytes, head_long, axis, mark, axis_body, mark_body, laid}
+use Rattle.ruler.specs.Steps.{put_word}
 
--- a list by its elements
-abbrev gets : ℕ → ℕ → List ℕ → List ℕ
-gets zero k l = []
-gets (suc n) k l = get_or l k 0 ∷ gets n (suc k) l
+-- a list r in place of the m entries from a on, of a list that is as old was from there on
+pub put-part : (a m : ℕ) (p r old o y : List ℕ) → length p ≡ a → o ≡ p ++ drop a old → y ≡ r → put_mid a m o y ≡ (p ++ r) ++ drop (a + m) old
+put-part a m p r old o y c e f =
+    let put : take a o ++ (y ++ drop m (drop a o)) ≡ (p ++ r) ++ drop (a + m) old
+    = rw (e, f, take_at p (drop a old) a c, drop_at p (drop a old) a c, drop-drop m a old, append_assoc p r (drop (a + m) old)) in
+    put
 
-pub gets_drop : (n k : ℕ) (l : List ℕ) → length l ≡ k + n → gets n k l ≡ drop k l
-gets_drop zero k l e = let h : length l ≤ k = omega arith in sym (drop_of_length-le l h)
-gets_drop (suc n) k l e =
-    ap (λ (t : List ℕ). get_or l k 0 ∷ t) (gets_drop n (suc k) l (omega arith)) ∙ sym (drop-cons l k 0 (omega arith))
+-- a kind at the start
+pub kind_put : (k : ℕ) (old : List ℕ) → 1 ≤ length old → set old 0 k ≡ k ∷ drop 1 old
+kind_put k old h = set_split old 0 k (omega arith)
 
--- a part of a part
-pub drop-take : (c w : ℕ) (l : List ℕ) → drop c (take (c + w) l) ≡ take w (drop c l)
-drop-take zero w l = rw (zero-add w)
-drop-take (suc c) w [] = ap (drop (suc c)) (take-nil (suc c + w)) ∙ sym (take-nil w)
-drop-take (suc c) w (x ∷ xs) = rw (suc-add c w) (drop-take c w xs)
+-- the words of the axis's record, behind its kind
+pub words_put : (k a b p q m s : ℕ) (old : List ℕ) → 1 ≤ length old → put_word 21 s (put_word 17 m (put_word 13 q (put_word 9 p (put_word 5 b (put_word 1 a (set old 0 k)))))) ≡ k ∷ (word a ++ word b ++ word p ++ word q ++ word m ++ word s ++ drop 25 old)
+words_put k a b p q m s old h =
+    let rest : drop 4 (drop 4 (drop 4 (drop 4 (drop 4 (drop 4 (drop 1 old)))))) ≡ drop 25 old = simp drop-drop in
+    ap (λ (l : List ℕ). put_word 21 s (put_word 17 m (put_word 13 q (put_word 9 p (put_word 5 b (put_word 1 a l)))))) (kind_put k old h)
+    ∙ ap (λ (l : List ℕ). k ∷ (word a ++ word b ++ word p ++ word q ++ word m ++ word s ++ l)) rest
 
--- the same words in a body
-pub axis-same : (m : ℕ) {a b p q s c d r t u x y : ℕ} → a ≡ c → b ≡ d → p ≡ r → q ≡ t → s ≡ u → x ≡ y → word a ++ word b ++ word p ++ word q ++ word m ++ word s ++ (x ∷ []) ≡ word c ++ word d ++ word r ++ word t ++ word m ++ word u ++ (y ∷ [])
-axis-same m e f g h i j = rw (e, f, g, h, i, j)
+-- and the twist behind them
+pub head_put : (f : Form) (a b : ℤ) (limit : Limit) (m : ℕ) (s : ℤ) (old : List ℕ) {x : List ℕ} → x ≡ kind_byte f ∷ (whole a ++ whole b ++ whole limit.0 ++ whole limit.1 ++ word m ++ whole s ++ drop 25 old)
+    → take 25 x ++ (twist_bytes f.twist ++ drop (25 + length (twist_bytes f.twist)) x) ≡ laid (axis f a b limit m s) ++ drop (head_long f) old
+unfolding laid axis_body
+head_put f a b limit m s old e = rw e (go f.twist)
+  where
+    go : (t : Twist) → take 25 (kind_byte f ∷ (whole a ++ whole b ++ whole limit.0 ++ whole limit.1 ++ word m ++ whole s ++ drop 25 old)) ++ (twist_bytes t ++ drop (25 + length (twist_bytes t)) (kind_byte f ∷ (whole a ++ whole b ++ whole limit.0 ++ whole limit.1 ++ word m ++ whole s ++ drop 25 old)))
+        ≡ (kind_byte f ∷ (whole a ++ whole b ++ whole limit.0 ++ whole limit.1 ++ word m ++ whole s) ++ twist_bytes t) ++ drop (25 + length (twist_bytes t)) old
+    go Plain = refl
+    go S = ap (λ (l : List ℕ). kind_byte f ∷ (whole a ++ whole b ++ whole limit.0 ++ whole limit.1 ++ word m ++ whole s ++ (0 ∷ l))) (drop-drop 1 25 old)
+    go Z = ap (λ (l : List ℕ). kind_byte f ∷ (whole a ++ whole b ++ whole limit.0 ++ whole limit.1 ++ word m ++ whole s ++ (1 ∷ l))) (drop-drop 1 25 old)
 
--- a body is its words and its twist: what is behind it where it has none is left out
-pub twist_taken : (t : Twist) (a b p q m s : ℕ) → take (25 + length (twist_bytes t) - 1) (word a ++ word b ++ word p ++ word q ++ word m ++ word s ++ (twist_number t ∷ [])) ≡ (word a ++ word b ++ word p ++ word q ++ word m ++ word s) ++ twist_bytes t
-twist_taken Plain a b p q m s = refl
-twist_taken S a b p q m s = refl
-twist_taken Z a b p q m s = refl
-
-pub mark-same : {v w x y : ℕ} {t u : List ℕ} → v ≡ w → x ≡ y → t ≡ u → word v ++ word x ++ t ≡ word w ++ word y ++ u
-mark-same e f g = rw (e, f, g)
-
--- a kind and a body that were put in front of a list
-module _ (kind : ℕ) (body o y : List ℕ) (h : 1 + length body ≤ length o) (f : y ≡ take (length body) body ++ drop (length body) (take (length (set o 0 kind) - 1) (drop 1 (set o 0 kind)))) where
-  pub record_put : put_mid 1 (length (set o 0 kind) - 1) (set o 0 kind) y ≡ (kind ∷ body) ++ drop (1 + length body) o
-  record_put = put_more 1 (length body) (kind ∷ []) body o (set o 0 kind) y refl (set_split o 0 kind (omega arith)) (rw (take-length body) at f)
-
-  pub record_put_long : length (put_mid 1 (length (set o 0 kind) - 1) (set o 0 kind) y) ≡ length o
-  record_put_long = ap length record_put ∙ more_long 1 (length body) (kind ∷ []) body o refl refl h
-
--- a record, compared by its kind and its body
-module _ (kind : ℕ) (body l : List ℕ) where
-  pub record_empty : length l ≡ 0 → same_bytes l (kind ∷ body) ≡ false
-  record_empty h = same_no l (kind ∷ body) (λ e. omega (arith, ap length e))
-
-  pub record_other : (get_or l 0 0 ≡ kind → ⊥) → same_bytes l (kind ∷ body) ≡ false
-  record_other h = same_no l (kind ∷ body) (λ e. h (ap (λ (t : List ℕ). get_or t 0 0) e))
-
-  pub record_same : (r : Bool) → (length l ≡ 0 → ⊥) → get_or l 0 0 ≡ kind → (r ≡ true → drop 1 l ≡ body) → (drop 1 l ≡ body → r ≡ true) → r ≡ same_bytes l (kind ∷ body)
-  record_same r n k f g =
-      same_is r l (kind ∷ body)
-      (λ e. drop-cons l 0 0 (omega (arith, n)) ∙ ap₂ (λ (x : ℕ) (t : List ℕ). x ∷ t) k (f e))
-      (λ e. g (ap (drop 1) e))
+-- the record of a mark: its needle, its place and its label
+pub mark_put : (v x : ℤ) (old : List ℕ) {y t : List ℕ} → 1 ≤ length old → y ≡ put_word 5 (of_z w32 x) (put_word 1 (of_z w32 v) (set old 0 2)) → t ≡ label_of v → put_mid 9 11 y t ≡ laid (mark v x) ++ drop 20 old
+unfolding laid mark_body
+mark_put v x old h e f =
+    let rest : drop 11 (drop 4 (drop 4 (drop 1 old))) ≡ drop 20 old = simp drop-drop in
+    rw (e, f, kind_put 2 old h) (ap (λ (l : List ℕ). 2 ∷ (whole v ++ whole x ++ (label_of v ++ l))) rest)

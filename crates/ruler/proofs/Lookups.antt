@@ -1,5 +1,7 @@
 -- The parts that the look-ups give: where they lie, and what they hold. Assumes nothing.
-use Rattle.std.proofs.Common.{◌≡◌, ℕ, suc, ◌+◌, ◌-◌, ◌*◌, ◌<◌, ◌≤◌, Bool, true, false, cond, T, ltb, ◌⊎◌, ◌↔◌, List, [], ◌∷◌, ◌++◌, length, take, drop, replicate, ℤ, sym, refl, ap, ◌∙◌, subst, inl, inr, arith, drop-drop, drop_at, ltb-true, le-ltb, lt-ltb}
+use Rattle.std.proofs.Common.{◌≡◌, ℕ, suc, ◌+◌, ◌-◌, ◌*◌, ◌<◌, ◌≤◌, Bool, true, false, cond, T, ltb, ◌⊎◌, ◌↔◌, List, [], ◌∷◌, ◌++◌, length, take, drop, replicate, ℤ, sym, refl, ap, ◌∙◌, subst, inl, inr, arith, drop-drop, drop_at, ltb-true, ltb-false, le-ltb, lt-ltb}
+use Rattle.std.specs.Prelude.{Option, Some, None}
+use Rattle.std.specs.Option.{unwrap_or}
 use mathlib.Core.List.Memᴰ
 use mathlib.Core.List.{Memᴰ}
 use lib.ListN.{length-replicate}
@@ -12,20 +14,20 @@ use Rattle.numeric.specs.Calls.{plan_with, element}
 use Rattle.numeric.proofs.Lists.{length_of}
 use Rattle.decimal.specs.Print.{decimal}
 use Rattle.decimal.proofs.Digits.{decimal-most}
-use Rattle.ruler.specs.declared.Draft.{Draft}
+use Rattle.ruler.specs.declared.Drawing.{Drawing}
 use Rattle.ruler.specs.declared.Part.{Part}
 use Rattle.ruler.specs.Bytes.{head_long, whole, mark, mark_body, laid}
 use Rattle.ruler.specs.Place.{place_of}
 use Rattle.ruler.specs.Rule.{mark_at, form_in, a_in, b_in, limit_in, m_in, marks_in, is_ruler, index_of, has_mark, record_text, label_text, record_at, label_at, nowhere, record_in, label_in, part, further}
-use Rattle.ruler.specs.Steps.{Inside, draft_in}
-use Rattle.ruler.proofs.Lists.{drop-take}
+use Rattle.ruler.specs.Steps.{Inside, drawing_in, index_within, record_found}
+use Rattle.std.proofs.lemmas.List.{drop-take}
 use Rattle.ruler.proofs.Records.{run_at}
 use Rattle.ruler.proofs.Index.{index_found}
 use Rattle.ruler.proofs.Drawn.{ruler_rest}
 use Rattle.ruler.proofs.Reader.{ruler_in, Known, known_long, known-marks}
 
 -- ---- where the record of v lies
-module _ {l : List ℕ} {d : Draft} {p : KeyPoints} (v : ℤ) (k : Known l d p) where
+module _ {l : List ℕ} {d : Drawing} {p : KeyPoints} (v : ℤ) (k : Known l d p) where
   abbrev pub place : ℕ
   place = index_of v (list_of (element p.first p.step) p.count)
 
@@ -33,21 +35,36 @@ module _ {l : List ℕ} {d : Draft} {p : KeyPoints} (v : ℤ) (k : Known l d p) 
   unfolding has_mark
   has_is = rw (k.ruler, known-marks k, length_of (element p.first p.step) p.count)
 
-  pub record_found : place < p.count → record_in l v ≡ record_at (head_long d.form) place
-  unfolding record_in
-  record_found h = rw (has_is, lt-ltb place p.count h, known-marks k) (ap (λ (x : Draft). record_at (head_long x.form) place) k.draft)
+  pub found_some : place < p.count → record_found l v ≡ Some (record_at (head_long d.form) place)
+  unfolding record_found
+  found_some h = rw (has_is, lt-ltb place p.count h, known-marks k) (ap (λ (x : Drawing). Some (record_at (head_long x.form) place)) k.draft)
 
-  pub record_absent : p.count ≤ place → record_in l v ≡ nowhere
-  unfolding record_in
-  record_absent h = rw (has_is, le-ltb place p.count h)
+  pub found_none : p.count ≤ place → record_found l v ≡ None
+  unfolding record_found
+  found_none h = rw (has_is, le-ltb place p.count h)
 
-pub no_record : (l : List ℕ) (v : ℤ) → is_ruler l ≡ false → record_in l v ≡ nowhere
-unfolding record_in has_mark
+pub no_record : (l : List ℕ) (v : ℤ) → is_ruler l ≡ false → record_found l v ≡ None
+unfolding record_found has_mark
 no_record l v e = rw e
+
+-- a place in a list, as it is told
+pub within_some : (n i : ℕ) {k : ℕ} → Some k ≡ index_within n i → (k ≡ i) × (i < n)
+within_some n i {k} e = go (ltb i n) refl e
+  where
+    go : (t : Bool) → ltb i n ≡ t → Some k ≡ cond t (Some i) None → (k ≡ i) × (i < n)
+    go true u e = (cc, ltb-true i n u)
+    go false u e = absurd (cc)
+
+pub within_none : (n i : ℕ) → None ≡ index_within n i → n ≤ i
+within_none n i e = go (ltb i n) refl e
+  where
+    go : (t : Bool) → ltb i n ≡ t → None ≡ cond {A = Option ℕ} t (Some i) None → n ≤ i
+    go true u e = absurd (cc)
+    go false u e = ltb-false i n u
 
 -- ---- a mark of a ruler
 pub record Marked (l : List ℕ) (v : ℤ) : Type 0 where
-  pub known : Known l (draft_in l) (plan_with (form_in l).choice (a_in l) (b_in l) (m_in l))
+  pub known : Known l (drawing_in l) (plan_with (form_in l).choice (a_in l) (b_in l) (m_in l))
   pub index : index_of v (marks_in l) < length (marks_in l)
 
 pub marked : (l : List ℕ) (v : ℤ) → has_mark l v ≡ true → Marked l v
@@ -107,21 +124,29 @@ module _ (l : List ℕ) (v : ℤ) where
       go true e = let w : h + 20 + 20 * k - (h + 20 * k) ≡ 20 = omega arith in rw w (record_here l v (marked l v e))
       go false e = refl
 
-  -- a label's part, by its record's
-  pub label_found : (record_in l v).start < (record_in l v).end → (label_in l v ≡ label_at (record_in l v) v) × (45 ≤ (record_in l v).end)
-  unfolding record_in label_in
-  label_found = go (has_mark l v)
+  -- the two parts, as the record is found
+  pub record_by : record_in l v ≡ unwrap_or (record_found l v) nowhere
+  unfolding record_in record_found
+  record_by = go (has_mark l v)
     where
-      go : (t : Bool) → (cond t (record_at h k) nowhere).start < (cond t (record_at h k) nowhere).end → (cond t (label_at (cond t (record_at h k) nowhere) v) nowhere ≡ label_at (cond t (record_at h k) nowhere) v) × (45 ≤ (cond t (record_at h k) nowhere).end)
-      go true u = (refl, omega arith)
-      go false u = absurd (omega arith)
+      go : (t : Bool) → cond t (record_at h k) nowhere ≡ unwrap_or (cond t (Some (record_at h k)) None) nowhere
+      go true = refl
+      go false = refl
 
-  pub label_absent : (record_in l v).end ≤ (record_in l v).start → label_in l v ≡ nowhere
-  unfolding record_in label_in
-  label_absent = go (has_mark l v)
+  pub label_found : (r : Part) → record_found l v ≡ Some r → (label_in l v ≡ label_at r v) × (45 ≤ r.end)
+  unfolding record_in record_found label_in
+  label_found r e = go (has_mark l v) e
     where
-      go : (t : Bool) → (cond t (record_at h k) nowhere).end ≤ (cond t (record_at h k) nowhere).start → cond t (label_at (cond t (record_at h k) nowhere) v) nowhere ≡ nowhere
-      go true u = absurd (omega arith)
+      go : (t : Bool) → cond t (Some (record_at h k)) None ≡ Some r → (cond t (label_at (cond t (record_at h k) nowhere) v) nowhere ≡ label_at r v) × (45 ≤ r.end)
+      go true u = let is : record_at h k ≡ r = cc in (ap (λ (x : Part). label_at x v) is, omega (arith, ap (λ (x : Part). x.end) is))
+      go false u = absurd (cc)
+
+  pub label_absent : record_found l v ≡ None → label_in l v ≡ nowhere
+  unfolding record_in record_found label_in
+  label_absent e = go (has_mark l v) e
+    where
+      go : (t : Bool) → cond t (Some (record_at h k)) None ≡ None → cond t (label_at (cond t (record_at h k) nowhere) v) nowhere ≡ nowhere
+      go true u = absurd (cc)
       go false u = refl
 
   pub label_inside : Inside l (label_in l v)

@@ -20,12 +20,12 @@ use Rattle.real.specs.Shifting.{shifted_limit}
 use Rattle.real.proofs.Placed.{Placed}
 use Rattle.real.proofs.Shifting.{shifted_place, place-shifted}
 use Rattle.ruler.specs.declared.Form.{Form}
-use Rattle.ruler.specs.declared.Draft.{Draft}
+use Rattle.ruler.specs.declared.Drawing.{Drawing}
 use Rattle.ruler.specs.Bytes.{whole, whole_at, head_long, axis, mark, mark_body, laid, joined}
 use Rattle.ruler.specs.Place.{place_in, place_of}
 use Rattle.ruler.specs.Rule.{mark_at, bytes_by, no_ruler, write_by, has_ruler, ruler_plan_by, twisted, twisted_write, form_in, a_in, b_in, limit_in, m_in, is_ruler, marks_in}
 use Rattle.ruler.specs.Shifting.{shifted_bytes, ruler_shift}
-use Rattle.ruler.specs.Steps.{draft_in, added_at, added_to_places, added_to_film}
+use Rattle.ruler.specs.Steps.{drawing_in, added_at, added_to_places, added_to_film}
 use Rattle.ruler.specs.MovedFilm.{p_at, q_at, needle_at, place_at, Within, OnlyMoved, Stays, MovedFilm, Shifts}
 use Rattle.ruler.proofs.Records.{axis_long, records_long, run, one, run_suc, run_long, run_at}
 use Rattle.ruler.proofs.Drawn.{drawn_for, is_drawn, has_plan, ruler_is, ruler_long_lem}
@@ -364,7 +364,7 @@ unfolding ruler_shift
 shift_14 l c e = rw e
 
 module _ (l : List ℕ) (c : ℤ) (ruler : is_ruler l ≡ true) (ok : limit_admitted (shifted_limit c (limit_in l)) ≡ true) where
-  known : Known l (draft_in l) (plan_with (form_in l).choice (a_in l) (b_in l) (m_in l))
+  known : Known l (drawing_in l) (plan_with (form_in l).choice (a_in l) (b_in l) (m_in l))
   known = ruler_in l ruler
 
   admitted : limit_admitted (limit_in l) ≡ true
@@ -397,8 +397,8 @@ shifts l c ruler ok =
     let did = shifted l c ruler ok in
     let held = ap (λ (x : Answer (Unit {0}) × List ℕ). x.1) did in
     let d = own l c ruler ok in
-    let limits = ap (λ (x : Draft). shifted_limit (neg_ℤ c) x.limit) d.draft ∙ back_again c (limit_in l) in
-    let drawn : Draft → Limit → Answer (Unit {0}) × List ℕ = λ x limit. (given tt, bytes_by x.form x.a x.b limit x.m) in
+    let limits = ap (λ (x : Drawing). shifted_limit (neg_ℤ c) x.limit) d.draft ∙ back_again c (limit_in l) in
+    let drawn : Drawing → Limit → Answer (Unit {0}) × List ℕ = λ x limit. (given tt, bytes_by x.form x.a x.b limit x.m) in
     record {
       as_written = did;
       moved = subst (λ (t : List ℕ). OnlyMoved (form_in l) (a_in l) (b_in l) (limit_in l) c (length (marks_in l)) l t) (sym held) (all_moved l c ruler ok);

@@ -10,7 +10,7 @@ use Rattle.numeric.specs.Calls.{plan_with}
 use Rattle.ruler.specs.declared.Twist.{Twist}
 use Rattle.ruler.specs.declared.Twist.TheVariants.{Plain, S, Z}
 use Rattle.ruler.specs.declared.Form.{Form}
-use Rattle.ruler.specs.declared.Draft.{Draft}
+use Rattle.ruler.specs.declared.Drawing.{Drawing}
 use Rattle.ruler.specs.Bytes.{kind_for, twist_bytes, axis, axis_body, laid, joined}
 use Rattle.ruler.specs.Rule.{mark_at, bytes_by, form_in, a_in, b_in, limit_in, m_in, is_ruler, plain, is_z, is_old, is_twisted, upgraded, downgraded, ruler_upgrade, ruler_downgrade}
 use Rattle.ruler.specs.Moves.{Moves}
@@ -89,7 +89,7 @@ module _ (l : List ℕ) where
     own f = known f (a_in l) (b_in l) (limit_in l) (m_in l) small (is_drawn (form_in l) (a_in l) (b_in l) (limit_in l) (m_in l) (ruler_in l ruler).plan).has
 
     own_form : (f : Form) → form_in (drawn_as f) ≡ f
-    own_form f = ap (λ (d : Draft). d.form) (own f).draft
+    own_form f = ap (λ (d : Drawing). d.form) (own f).draft
 
     own_old : is_old (drawn_as (form_by c Plain)) ≡ true
     unfolding is_old

@@ -1,12 +1,10 @@
 -- 02 (c): rulers with a twist, written, moved over and moved back. Assumes nothing.
-use Rattle.std.proofs.Common.{◌≡◌, ℕ, ◌+◌, ◌-◌, ◌*◌, ◌<◌, ◌≤◌, Bool, true, false, not, ltb, List, [], ◌∷◌, ◌++◌, length, take, drop, ℤ, sym, refl, ap, ◌∙◌, arith, append_assoc, length-append, length-drop, length-take, le-ltb, lt-ltb, ne_eqb}
-use lib.Seq.{take_at, drop_at, drop-drop}
+use Rattle.std.proofs.Common.{◌≡◌, ℕ, ◌+◌, ◌-◌, ◌*◌, ◌<◌, ◌≤◌, Bool, true, false, not, ltb, List, [], ◌∷◌, ◌++◌, length, take, drop, set, ℤ, sym, refl, ap, ◌∙◌, ap₂, arith, append_assoc, length-append, length-drop, length-take, le-ltb, lt-ltb, ne_eqb}
 use borrow.Rule.Slice.PartMut.{put_mid}
 use Rattle.ranged1d.specs.Answer.{Answer, given, refused, Reason, ◌when◌, lowest, written, list_written}
 use Rattle.ranged1d.specs.Admitted.{ends_admitted, limit_admitted}
 use Rattle.ranged1d.specs.declared.Limit.{Limit}
 use Rattle.ranged1d.proofs.Lowest.{stops}
-use Rattle.ranged1d.proofs.Pieces.{rest_is, put_more}
 use Rattle.numeric.specs.declared.Choice.{Choice}
 use Rattle.numeric.specs.declared.KeyPoints.{KeyPoints}
 use Rattle.numeric.specs.Marks.{no_step, marks_by}
@@ -14,12 +12,13 @@ use Rattle.numeric.specs.Calls.{plan_with}
 use Rattle.ruler.specs.declared.Twist.{Twist}
 use Rattle.ruler.specs.declared.Twist.TheVariants.{Plain, S, Z}
 use Rattle.ruler.specs.declared.Form.{Form}
-use Rattle.ruler.specs.declared.Draft.{Draft}
+use Rattle.ruler.specs.declared.Drawing.{Drawing}
 use Rattle.ruler.specs.Bytes.{kind_for, twist_bytes, head_long}
 use Rattle.ruler.specs.Rule.{no_ruler, bytes_by, write_by, ruler_plan_by, has_ruler, twisted_write, form_in, is_ruler, plain, is_z, is_old, is_twisted, over, back, upgraded, downgraded, ruler_upgrade, ruler_downgrade}
 use Rattle.ruler.specs.Steps.{no_twist}
 use Rattle.ruler.proofs.Places.{ends, film, served}
 use Rattle.ruler.proofs.Drawn.{is_drawn, ruler_long_lem}
+use Rattle.ruler.proofs.Lists.{put-part, kind_put}
 use Rattle.ruler.proofs.Reader.{Known, known_long}
 
 -- ---- writing with a twist, by its number
@@ -70,40 +69,32 @@ module _ (f : Form) (a b : ℤ) (limit : Limit) (m room : ℕ) where
     no_twist_unknown h = rw (ends a b limit m has, film a b limit m has, served a b limit m has, ruler_long_lem f a b limit m e, le-ltb room (head_long f + 20 * p.count) h)
 
 -- ---- bytes moved, as they are put
--- a list r in place of the m entries from a on, of a list that is as old was from there on
-put-part : (a m : ℕ) (p r old o y : List ℕ) → length p ≡ a → o ≡ p ++ drop a old → y ≡ r → put_mid a m o y ≡ (p ++ r) ++ drop (a + m) old
-put-part a m p r old o y c e f =
-    let put : take a o ++ (y ++ drop m (drop a o)) ≡ (p ++ r) ++ drop (a + m) old
-    = rw (e, f, take_at p (drop a old) a c, drop_at p (drop a old) a c, drop-drop m a old, append_assoc p r (drop (a + m) old)) in
-    put
+abbrev pub moved : ℕ → List ℕ → List ℕ → ℕ → List ℕ
+moved k l t r = (k ∷ take 24 (drop 1 l)) ++ (t ++ drop r l)
 
 module _ (k : ℕ) (l : List ℕ) (h : 25 ≤ length l) where
-  body_long : 1 + length (take 24 (drop 1 l)) ≡ 25
-  body_long = simp (length-take, length-drop) (omega arith)
-
   pub over_long : length (over k l) ≡ length l + 1
   over_long = simp (length-append, length-take, length-drop) (omega arith)
 
   pub back_long : length (back k l) ≡ 25 + (length l - 26)
   back_long = simp (length-append, length-take, length-drop) (omega arith)
 
-  pub over_put : (old o y : List ℕ) → o ≡ (k ∷ take 24 (drop 1 l)) ++ drop (1 + length (take 24 (drop 1 l))) old
-      → y ≡ (0 ∷ take (length l - 25) (drop 25 l)) ++ drop (1 + length (take (length l - 25) (drop 25 l))) (take (length o - 25) (drop 25 o))
-      → put_mid 25 (length o - 25) o y ≡ over k l ++ drop (length l + 1) old
-  over_put old o y e g =
-      let size : 25 + (1 + length (drop 25 l)) ≡ length l + 1 = rw (length-drop 25 l) (omega arith) in
-      put_more 25 (1 + length (drop 25 l)) (k ∷ take 24 (drop 1 l)) (0 ∷ drop 25 l) old o y (omega (arith, body_long)) (e ∙ ap (λ (n : ℕ). (k ∷ take 24 (drop 1 l)) ++ drop n old) body_long) (rw (rest_is 25 l) at g)
-      ∙ ap (λ (n : ℕ). over k l ++ drop n old) size
+module _ (k : ℕ) (l t : List ℕ) (r : ℕ) (h : 25 ≤ r) (g : r ≤ length l) where
+  body_long : length (take 24 (drop 1 l)) ≡ 24
+  body_long = simp (length-take, length-drop) (omega arith)
 
-  pub back_put : 26 ≤ length l → (old o y : List ℕ) → o ≡ (k ∷ take 24 (drop 1 l)) ++ drop (1 + length (take 24 (drop 1 l))) old
-      → y ≡ take (length l - 26) (drop 26 l)
-      → put_mid 25 (length l - 1 - 25) o y ≡ back k l ++ drop (length l - 1) old
-  back_put h' old o y e g =
-      let size : 25 + (length l - 1 - 25) ≡ length l - 1 = omega arith in
+  pub moved_long : length (moved k l t r) ≡ 25 + length t + (length l - r)
+  moved_long = simp (length-append, length-take, length-drop) (omega arith)
+
+  -- the kind, the body, the twist and the records of the marks, one behind another
+  pub moved_put : (old x y z : List ℕ) (m n : ℕ) → 1 ≤ length old → x ≡ take 24 (drop 1 l) → y ≡ t → z ≡ drop r l → m ≡ length t → n ≡ length l - r
+      → put_mid (25 + length t) n (put_mid 25 m (put_mid 1 24 (set old 0 k) x) y) z ≡ moved k l t r ++ drop (25 + length t + (length l - r)) old
+  moved_put old x y z m n one ex ey ez em en =
       let front = k ∷ take 24 (drop 1 l) in
-      let long : length front ≡ 25 = omega (arith, body_long) in
-      let o_is : o ≡ front ++ drop 25 old = e ∙ ap (λ (n : ℕ). front ++ drop n old) body_long in
-      put-part 25 (length l - 1 - 25) front (drop 26 l) old o y long o_is (g ∙ rest_is 26 l) ∙ ap (λ (n : ℕ). back k l ++ drop n old) size
+      let first = put-part 1 24 (k ∷ []) (take 24 (drop 1 l)) old (set old 0 k) x refl (kind_put k old one) ex in
+      let second = put-part 25 m front t old (put_mid 1 24 (set old 0 k) x) y (omega (arith, body_long)) first ey in
+      let third = put-part (25 + length t) n (front ++ t) (drop r l) old (put_mid 25 m (put_mid 1 24 (set old 0 k) x) y) z (simp length-append (omega (arith, body_long))) (second ∙ ap (λ (i : ℕ). (front ++ t) ++ drop (25 + i) old) em) ez in
+      third ∙ ap₂ (λ (u : List ℕ) (i : ℕ). u ++ drop (25 + length t + i) old) (append_assoc front t (drop r l)) en
 
 pub list_short : (new old : List ℕ) {n : ℕ} → length new ≡ n → length old < n → ◌≡◌ {A = Answer ℕ × List ℕ} (refused 13, old) (list_written new old)
 list_short new old {n} e h = rw (e, lt-ltb (length old) n h)
@@ -112,9 +103,9 @@ pub list_fits : (new old : List ℕ) {n : ℕ} {x : List ℕ} → length new ≡
 list_fits new old {n} e h g = rw (e, le-ltb (length old) n h, e, g)
 
 -- ---- which bytes are moved
-module _ {l : List ℕ} {d : Draft} {p : KeyPoints} (k : Known l d p) where
+module _ {l : List ℕ} {d : Drawing} {p : KeyPoints} (k : Known l d p) where
   pub form_known : form_in l ≡ d.form
-  form_known = ap (λ (x : Draft). x.form) k.draft
+  form_known = ap (λ (x : Drawing). x.form) k.draft
 
   pub old_is : {t : Twist} → d.form.twist ≡ t → is_old l ≡ plain t
   unfolding is_old
@@ -130,13 +121,17 @@ module _ {l : List ℕ} {d : Draft} {p : KeyPoints} (k : Known l d p) where
   pub long_twisted : {t : Twist} → d.form.twist ≡ t → 25 + length (twist_bytes t) ≤ length l
   long_twisted e = omega (arith, known_long k, ap (λ (t : Twist). length (twist_bytes t)) e)
 
-  pub upgraded_is : over (kind_for d.form.choice S) l ≡ upgraded l
+  pub upgraded_is : moved (kind_for d.form.choice S) l (0 ∷ []) 25 ≡ upgraded l
   unfolding upgraded
   upgraded_is = ap (λ (f : Form). over (kind_for f.choice S) l) (sym form_known)
 
-  pub downgraded_is : back (kind_for d.form.choice Plain) l ≡ downgraded l
+  pub downgraded_is : moved (kind_for d.form.choice Plain) l [] 26 ≡ downgraded l
   unfolding downgraded
   downgraded_is = ap (λ (f : Form). back (kind_for f.choice Plain) l) (sym form_known)
+
+  -- how long the ruler is without its twist
+  pub downgraded_long : d.form.twist ≡ Z → length (downgraded l) ≡ length l - 1
+  downgraded_long e = ap length (sym downgraded_is) ∙ omega (arith, back_long (kind_for d.form.choice Plain) l long_old, long_twisted e)
 
   pub z_is : {t : Twist} → d.form.twist ≡ t → is_z (form_in l).twist ≡ is_z t
   z_is e = ap (λ (f : Form). is_z f.twist) form_known ∙ ap is_z e

@@ -6,14 +6,14 @@ use lib.Signed.{le_z}
 use Rattle.ranged1d.specs.Admitted.{whole_admitted}
 use Rattle.ranged1d.specs.declared.Limit.{Limit}
 use Rattle.ranged1d.proofs.Whole.{neg-minus, both_near, not_lt, lt_le, both_ways, yes_le, le_yes, start_to, not_before, between-far}
-use Rattle.real.specs.Place.{spot_answer}
 use Rattle.real.specs.Reading.{outside}
 use Rattle.real.specs.Exact.{toward, away}
+use Rattle.real.proofs.Placed.{whole_answered}
 use Rattle.real.proofs.Relied as counted
 use Rattle.numeric.specs.declared.Choice.TheVariants.{Inside}
 use Rattle.numeric.specs.Marks.{low, high, step_of, marks_by}
 use Rattle.numeric.specs.OnAxis.{IsMultiple}
-use Rattle.numeric.proofs.Places.{past_tests, level-spot}
+use Rattle.numeric.proofs.Places.{level-spot}
 use Rattle.numeric.proofs.OnAxis.{on_axis}
 use Rattle.ruler.specs.Rule.{has_ruler}
 use Rattle.ruler.specs.OnFilm.{Between, OnFilm}
@@ -80,5 +80,5 @@ on_film a b limit m h =
       between = λ differ v i.
           let (k, at, most) = counted.on_film a b v limit ends (needle v i) film differ (inside a b v (lies v i).1 (lies v i).2) in
           (away limit k, at, away-between limit.0 limit.1 k most);
-      level = λ same v i. past_tests a b v limit (sym ends) (sym (needle v i)) film ∙ ap spot_answer (level-spot a b v limit both.0 same);
+      level = λ same v i. whole_answered a b v limit ends (needle v i) film (level-spot a b v limit both.0 same);
     }

@@ -1,7 +1,11 @@
 -- Every mark of an axis that has a ruler has a place, the one in its record, so that the writer never meets 5. Assumes nothing.
 use Rattle.std.proofs.Common.{◌≡◌, ℕ, ◌<◌, true, false, List, length, get_or, ℤ, pos, sym, refl, ap, ◌∙◌}
 use borrow.Author.Tests.{not-false}
+use Rattle.std.specs.Prelude.{Result, Ok, Err}
+use Rattle.std.specs.Result.{result_unwrap_or}
 use Rattle.ranged1d.specs.Answer.{Answer, given}
+use Rattle.ranged1d.specs.Told.{tell}
+use Rattle.ranged1d.specs.declared.Refusal.{Refusal}
 use Rattle.ranged1d.specs.Admitted.{limit_admitted, ends_admitted}
 use Rattle.ranged1d.specs.declared.Limit.{Limit}
 use Rattle.ranged1d.proofs.Lowest.{NoneOf, none_of_lem}
@@ -42,3 +46,8 @@ module _ (a b : ℤ) (limit : Limit) (m : ℕ) (h : has_ruler a b limit m ≡ tr
       let at = mark-placed c a b m (plan c) limit film k l in
       let v_is : get_or (marks_by c a b m) k (pos 0) ≡ v = ap (λ (x : List ℤ). get_or x k (pos 0)) g.marks-are ∙ entry (element p.first p.step) (pos 0) p.count k l in
       rw v_is (at.is ∙ sym (ap (λ (r : Answer ℤ). given (place_in r)) at.is))
+
+-- the place in an answer, as the call gives it
+pub answered : (r : Result ℤ Refusal) → place_in (tell r) ≡ result_unwrap_or r (pos 0)
+answered (Ok x) = refl
+answered (Err r) = refl

@@ -1,7 +1,9 @@
 -- Records one behind another: how long they are, one more of them, one taken out. Assumes nothing.
-use Rattle.std.proofs.Common.{◌≡◌, ℕ, zero, suc, ◌+◌, ◌*◌, ◌<◌, ◌≤◌, List, [], ◌∷◌, ◌++◌, map, length, take, drop, ℤ, sym, refl, ap, ◌∙◌, append_assoc, append-nil, add-one, arith, length-append, length-drop, take_all, drop_at}
+use Rattle.std.proofs.Common.{◌≡◌, ℕ, zero, suc, ◌+◌, ◌-◌, ◌*◌, ◌<◌, ◌≤◌, List, [], ◌∷◌, ◌++◌, map, length, take, drop, ℤ, sym, refl, ap, ◌∙◌, append_assoc, append-nil, add-one, arith, length-append, length-drop, take_all, drop_at}
 use mathlib.Core.List.{map-append}
 use native.Mathlib.Decide.{dec_lt}
+use borrow.Rule.Slice.PartMut.{put_mid}
+use Rattle.ranged1d.proofs.Pieces.{put_more}
 use lib.Seq.{drop-append-le, take-append-le}
 use Rattle.ranged1d.specs.declared.Limit.{Limit}
 use Rattle.ruler.specs.declared.Form.{Form}
@@ -11,7 +13,7 @@ use Rattle.numeric.specs.Calls.{element}
 use Rattle.numeric.proofs.Lists.{length_of}
 use Rattle.decimal.specs.Print.{decimal}
 use Rattle.decimal.proofs.Digits.{decimal-most, filled_long}
-use Rattle.ruler.specs.declared.Draft.{Draft}
+use Rattle.ruler.specs.declared.Drawing.{Drawing}
 use Rattle.ruler.specs.Bytes.{head_long, Record, axis, mark, axis_body, mark_body, laid, joined}
 use Rattle.ruler.specs.Place.{place_of}
 use Rattle.ruler.specs.Rule.{mark_at}
@@ -80,8 +82,16 @@ module _ (a b : ℤ) (limit : Limit) (f : ℕ → ℤ) where
           let e : n ≡ k = omega arith in
           rw (run_suc n, e, drop_at (run k) (one k) (20 * k) (run_long k)) (take_all 20 (one k) (omega (arith, one_long k)))
 
+  -- one more of them, put behind the first k
+  pub run_put : (k : ℕ) (old out y : List ℕ) → out ≡ run k ++ drop (20 * k) old → y ≡ one k ++ drop 20 (take (length out - 20 * k) (drop (20 * k) out)) → put_mid (20 * k) (length out - 20 * k) out y ≡ run (k + 1) ++ drop (20 * (k + 1)) old
+  run_put k old out y e h =
+      let more : 20 * k + 20 ≡ 20 * (k + 1) = omega arith in
+      put_more (20 * k) 20 (run k) (one k) old out y (run_long k) e h
+      ∙ ap (λ (n : ℕ). (run k ++ one k) ++ drop n old) more
+      ∙ ap (λ (l : List ℕ). l ++ drop (20 * (k + 1)) old) (sym (run_more k))
+
 -- the first records of a ruler, at the start of a list
-module _ (d : Draft) (p : KeyPoints) where
+module _ (d : Drawing) (p : KeyPoints) where
   abbrev pub head : List ℕ
   head = laid (axis d.form d.a d.b d.limit d.m p.step)
 

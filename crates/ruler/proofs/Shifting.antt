@@ -1,7 +1,7 @@
 -- 02 (i): numbers that are added to in the bytes of a ruler, by which it becomes the ruler of the moved limits. Assumes nothing.
-use Rattle.std.proofs.Common.{◌≡◌, ℕ, zero, suc, ◌+◌, ◌-◌, ◌*◌, ◌/◌, ◌%◌, ◌^◌, ◌<◌, ◌≤◌, List, [], ◌∷◌, ◌++◌, length, get_or, take, drop, set, ℤ, pos, negsuc, ◌+ℤ◌, sym, refl, ap, ◌∙◌, ap₂, append_assoc, add_comm, arith, length-append, length-drop, length-take, get_or-append-add, to_z-of_z, w32, SFits, to_z, of_z}
+use Rattle.std.proofs.Common.{◌≡◌, ℕ, zero, suc, ◌+◌, ◌-◌, ◌*◌, ◌/◌, ◌%◌, ◌^◌, ◌<◌, ◌≤◌, List, ◌∷◌, ◌++◌, length, get_or, ℤ, pos, negsuc, ◌+ℤ◌, sym, refl, ap, ◌∙◌, ap₂, append_assoc, add_comm, arith, length-append, get_or-append-add, to_z-of_z, w32, SFits, to_z, of_z}
 use lib.IntN.{sub_ℕ}
-use lib.Seq.{take-append_seam, drop-append-add, get_or-append_seam, sets-eq}
+use lib.Seq.{take-append_seam, drop-append-add, get_or-append_seam}
 use mir.Facts.{Fits-of_z}
 use Rattle.ranged1d.specs.declared.Limit.{Limit}
 use Rattle.ranged1d.proofs.Whole.{sub_cases}
@@ -112,15 +112,3 @@ module _ (a b : ℤ) (limit limit' : Limit) (f : ℕ → ℤ) (n : ℕ) where
         ∙ append_assoc front (run a b limit' f k) (one a b limit' f k ++ rest)
         ∙ ap (λ (l : List ℕ). front ++ l) (sym (append_assoc (run a b limit' f k) (one a b limit' f k) rest))
         ∙ ap (λ (l : List ℕ). front ++ (l ++ rest)) (sym (run_suc a b limit' f k))
-
--- ---- four bytes stored one after the other
-pub word_put : (l : List ℕ) (at b₀ b₁ b₂ b₃ : ℕ) → at + 4 ≤ length l → set (set (set (set l at b₀) (at + 1) b₁) (at + 2) b₂) (at + 3) b₃ ≡ take at l ++ ((b₀ ∷ b₁ ∷ b₂ ∷ b₃ ∷ []) ++ drop (at + 4) l)
-word_put l at b₀ b₁ b₂ b₃ h =
-    let e : at + 1 ≡ suc at = omega arith in
-    let f : at + 2 ≡ suc (suc at) = omega arith in
-    let g : at + 3 ≡ suc (suc (suc at)) = omega arith in
-    rw (e, f, g) (sets-eq (b₀ ∷ b₁ ∷ b₂ ∷ b₃ ∷ []) l at h ∙ append_assoc (take at l) (b₀ ∷ b₁ ∷ b₂ ∷ b₃ ∷ []) (drop (at + 4) l))
-
--- what was stored leaves the list as long as it was
-pub added_long : (n at : ℕ) (l : List ℕ) → at + 4 ≤ length l → length (added_at n at l) ≡ length l
-added_long n at l h = simp (length-append, length-take, length-drop) (omega arith)

@@ -3,7 +3,7 @@ use Rattle.std.proofs.Common.{◌≡◌, ℕ, ◌+◌, ◌*◌, ◌^◌, ◌<◌
 use native.Mathlib.Decide.{dec_lt}
 use lib.Seq.{take-length}
 use Rattle.ranged1d.specs.Answer.{Answer, given, none, refused}
-use Rattle.ranged1d.specs.Admitted.{limit_admitted, limit_of}
+use Rattle.ranged1d.specs.Admitted.{limit_admitted}
 use Rattle.ranged1d.specs.declared.Limit.{Limit}
 use Rattle.ranged1d.proofs.Answers.{not-both, not_none}
 use Rattle.ranged1d.proofs.Whole.{fits32, both_near}
@@ -17,9 +17,9 @@ use Rattle.numeric.specs.Marks.{step_of, marks_by}
 use Rattle.numeric.specs.Calls.{plan_with}
 use Rattle.decimal.proofs.Texts.{same_yes}
 use Rattle.ruler.specs.declared.Ruler.{Ruler}
-use Rattle.ruler.specs.Bytes.{whole_at, kind_for, twist_number, head_long, form_for, axis, axis_body, laid}
+use Rattle.ruler.specs.Bytes.{whole_at, kind_for, kind_byte, twist_number, head_long, form_for, axis, axis_body, laid}
 use Rattle.ruler.specs.Rule.{form_in, a_in, b_in, limit_in, m_in, bytes_by, write_by, read_as, ruler_read, has_ruler, is_ruler, ruler_plan_by}
-use Rattle.ruler.specs.Steps.{is_by, draft_in}
+use Rattle.ruler.specs.Steps.{is_by, drawing_in}
 use Rattle.ruler.proofs.Numbers.{word_back, number-back}
 use Rattle.ruler.proofs.Drawn.{drawn_for, is_drawn, has_plan, ruler_is, ruler_long_lem, marks_long, write_refused, write_none, write_short, write_fits}
 use Rattle.ruler.proofs.Places.{film}
@@ -51,7 +51,7 @@ limit_fits limit h =
     let near = both_near 1000000 limit.0 limit.1 h in
     (fits32 limit.0 (omega (arith, near.0)), fits32 limit.1 (omega (arith, near.1)))
 
-numbers-back : (l : List ℕ) (f : Form) (a b : ℤ) (limit : Limit) (m : ℕ) (s : ℤ) (rest : List ℕ) → SFits w32 a → SFits w32 b → SFits w32 limit.0 × SFits w32 limit.1 → m < 2 ^ 32 → l ≡ laid (axis f a b limit m s) ++ rest → draft_in l ≡ drawn_for f a b limit m
+numbers-back : (l : List ℕ) (f : Form) (a b : ℤ) (limit : Limit) (m : ℕ) (s : ℤ) (rest : List ℕ) → SFits w32 a → SFits w32 b → SFits w32 limit.0 × SFits w32 limit.1 → m < 2 ^ 32 → l ≡ laid (axis f a b limit m s) ++ rest → drawing_in l ≡ drawn_for f a b limit m
 unfolding laid axis_body
 numbers-back l f a b limit m s rest fa fb fl fm e =
     let f_is : form_in l ≡ f = ap form_in e ∙ form_back f.choice f.twist a b limit m s rest in
@@ -63,7 +63,7 @@ numbers-back l f a b limit m s rest fa fb fl fm e =
     rw (f_is, a_is, b_is, p_is, q_is, m_is)
 
 -- ---- a ruler is read as what it is
-is_by_lem : (l : List ℕ) → is_ruler l ≡ is_by l (draft_in l)
+is_by_lem : (l : List ℕ) → is_ruler l ≡ is_by l (drawing_in l)
 unfolding is_ruler
 is_by_lem l = refl
 
@@ -137,10 +137,10 @@ read_complete l f a b limit m {k} fm w =
     ap ruler_read (sym (take-length l) ∙ ap (take (length l)) (sym (ap (λ (r : Answer (ℕ × ℕ) × List ℕ). r.1) w))) ∙ back
 
 -- ---- sound: bytes that are accepted are what the writer gives for the numbers that were read, whatever the lent list of that length held
-pub read_sound : (l : List ℕ) (r : Ruler) → ruler_read l ≡ given r → (old : List ℕ) → length old ≡ length l → write_by (form_for r.kind r.twist) r.a r.b (limit_of r.p r.q) r.m old ≡ (given (length l, r.marks), l)
+pub read_sound : (l : List ℕ) (r : Ruler) → ruler_read l ≡ given r → (old : List ℕ) → length old ≡ length l → write_by (form_for (kind_byte r.form) (twist_number r.form.twist)) r.a r.b r.limit r.m old ≡ (given (length l, r.marks), l)
 read_sound l r e old same = go (is_ruler l) refl
   where
-    given_by : is_ruler l ≡ true → write_by (form_for r.kind r.twist) r.a r.b (limit_of r.p r.q) r.m old ≡ (given (length l, r.marks), l)
+    given_by : is_ruler l ≡ true → write_by (form_for (kind_byte r.form) (twist_number r.form.twist)) r.a r.b r.limit r.m old ≡ (given (length l, r.marks), l)
     given_by t =
         let k = ruler_in l t in
         let long : head_long (form_in l) + 20 * length (marks_by (form_in l).choice (a_in l) (b_in l) (m_in l)) ≡ length l = sym (known_long k) in
@@ -148,11 +148,11 @@ read_sound l r e old same = go (is_ruler l) refl
         let nothing : length old ≤ head_long (form_in l) + 20 * length (marks_by (form_in l).choice (a_in l) (b_in l) (m_in l)) = omega (arith, long) in
         let x : ◌≡◌ {A = Answer Ruler} (given (read_as (form_in l) (a_in l) (b_in l) (limit_in l) (m_in l) (pos (step_of (a_in l) (b_in l) (m_in l))) (length (marks_by (form_in l).choice (a_in l) (b_in l) (m_in l))))) (given r) = sym (read_known k) ∙ e in
         let is : read_as (form_in l) (a_in l) (b_in l) (limit_in l) (m_in l) (pos (step_of (a_in l) (b_in l) (m_in l))) (length (marks_by (form_in l).choice (a_in l) (b_in l) (m_in l))) ≡ r = cc in
-        subst (λ (r : Ruler). write_by (form_for r.kind r.twist) r.a r.b (limit_of r.p r.q) r.m old ≡ (given (length l, r.marks), l)) is
+        subst (λ (r : Ruler). write_by (form_for (kind_byte r.form) (twist_number r.form.twist)) r.a r.b r.limit r.m old ≡ (given (length l, r.marks), l)) is
         (rw (kind_back (form_in l).choice (form_in l).twist) (write_fits (form_in l) (a_in l) (b_in l) (limit_in l) (m_in l) k.plan old enough
         ∙ rw (drop_of_length-le old nothing, append-nil (bytes_by (form_in l) (a_in l) (b_in l) (limit_in l) (m_in l)), long, ← k.bytes)))
 
-    go : (t : Bool) → is_ruler l ≡ t → write_by (form_for r.kind r.twist) r.a r.b (limit_of r.p r.q) r.m old ≡ (given (length l, r.marks), l)
+    go : (t : Bool) → is_ruler l ≡ t → write_by (form_for (kind_byte r.form) (twist_number r.form.twist)) r.a r.b r.limit r.m old ≡ (given (length l, r.marks), l)
     go true t = given_by t
     go false t = absurd (not-both (sym e ∙ read_nothing l t))
 

@@ -1,5 +1,5 @@
 -- Bytes that are compared four at a time. Assumes nothing.
-use Rattle.std.proofs.Common.{◌≡◌, ℕ, suc, ◌+◌, ◌*◌, ◌/◌, ◌%◌, ◌^◌, ◌<◌, ◌≤◌, Bool, true, false, eqb, List, [], ◌∷◌, ◌++◌, length, get_or, take, drop, ℤ, sym, ap, ◌∙◌, ap₂, true≢false, arith, length-drop, take-append-drop, drop_of_length-le, take_all, drop-cons, drop-drop, eq-eqb, eqb-true}
+use Rattle.std.proofs.Common.{◌≡◌, ℕ, suc, ◌+◌, ◌*◌, ◌/◌, ◌%◌, ◌^◌, ◌<◌, ◌≤◌, Bool, true, false, eqb, List, [], ◌∷◌, ◌++◌, length, get_or, take, drop, ℤ, sym, ap, ◌∙◌, ap₂, true≢false, arith, length-drop, take-append-drop, drop_of_length-le, take_all, drop-cons, drop-drop, to_z-of_z, w32, SFits, to_z, of_z, eq-eqb, eqb-true}
 use Rattle.ranged1d.specs.declared.Limit.{Limit}
 use Rattle.decimal.specs.Read.{same_bytes}
 use Rattle.decimal.proofs.Texts.{same-equal, same_yes, same_no, same_is}
@@ -41,6 +41,10 @@ module _ (at : ℕ) (l : List ℕ) (h : at + 4 ≤ length l) where
 -- a piece that was compared with four entries of a list
 pub told_by : {r : Bool} (l t : List ℕ) (x at i : ℕ) → i + 4 ≤ length t → r ≡ same_bytes (four at l) (word x) → word x ≡ get_or t i 0 ∷ get_or t (i + 1) 0 ∷ get_or t (i + 2) 0 ∷ get_or t (i + 3) 0 ∷ [] → r ≡ same_bytes (four at l) (four i t)
 told_by l t x at i h e f = e ∙ ap (same_bytes (four at l)) (f ∙ sym (four_is i t h))
+
+-- a number that was compared, from the bits that it was handed as
+pub by_bits : {r : Bool} {x : ℕ} (l : List ℕ) (at : ℕ) (z : ℤ) → SFits w32 z → r ≡ same_bytes (four at l) (word x) → x ≡ of_z w32 (to_z w32 (of_z w32 z)) → r ≡ same_bytes (four at l) (whole z)
+by_bits l at z f e g = e ∙ ap (λ (y : ℕ). same_bytes (four at l) (word y)) (g ∙ ap (of_z w32) (to_z-of_z f))
 
 -- what such a comparison says
 pub not_told : {r : Bool} {l t : List ℕ} → r ≡ same_bytes l t → r ≡ false → l ≡ t → ⊥

@@ -12,7 +12,7 @@ use Rattle.real.specs.Place.{spot, whole_place}
 use Rattle.ruler.specs.declared.Twist.TheVariants.{Z}
 use Rattle.ruler.specs.Place.{place_of}
 use Rattle.ruler.specs.Bytes.{axis_body, mark_body, laid}
-use Rattle.ruler.specs.Rule.{ruler_bytes, bytes_by, ruler_read, has_ruler, is_ruler, has_mark, record_in, label_in}
+use Rattle.ruler.specs.Rule.{one, ruler_bytes, bytes_by, ruler_read, has_ruler, is_ruler, has_mark, record_in, label_in}
 
 abbrev bytes : List ℕ
 bytes = ruler_bytes (negsuc 6) (negsuc 6) (limit_of (negsuc 99) (negsuc 299)) 0
@@ -23,7 +23,7 @@ shown : bytes
 unfolding bytes_by laid axis_body mark_body digits step_at first_of chosen step_for marks_for place_of whole_place spot of_int eq
 shown = refl
 
-taken : ruler_read bytes ≡ given (record { a = negsuc 6; b = negsuc 6; p = negsuc 99; q = negsuc 299; m = 0; step = pos 1; marks = 1; kind = 1; twist = 0 })
+taken : ruler_read bytes ≡ given (record { a = negsuc 6; b = negsuc 6; limit = limit_of (negsuc 99) (negsuc 299); m = 0; step = pos 1; marks = 1; form = one })
 unfolding ruler_read is_ruler has_ruler no_step_for same_bytes bytes_by laid axis_body mark_body digits step_at first_of chosen step_for marks_for place_of whole_place spot of_int eq
 taken = refl
 
@@ -50,6 +50,6 @@ twisted-shown : twisted-bytes
 unfolding bytes_by laid axis_body mark_body digits step_at first_of chosen step_for inside_for place_of whole_place spot of_int eq
 twisted-shown = refl
 
-twisted_taken : ruler_read twisted-bytes ≡ given (record { a = negsuc 6; b = negsuc 6; p = negsuc 99; q = negsuc 299; m = 0; step = pos 1; marks = 1; kind = 6; twist = 1 })
+twisted_taken : ruler_read twisted-bytes ≡ given (record { a = negsuc 6; b = negsuc 6; limit = limit_of (negsuc 99) (negsuc 299); m = 0; step = pos 1; marks = 1; form = record { choice = Inside; twist = Z } })
 unfolding ruler_read is_ruler has_ruler no_step_for same_bytes bytes_by laid axis_body mark_body digits step_at first_of chosen step_for inside_for place_of whole_place spot of_int eq
 twisted_taken = refl

@@ -2,8 +2,7 @@
 -- "Why a call stops"; 02 (a) and (c): the rule is one over the form of a ruler, of which kind 1
 -- is 01's. Assumes nothing.
 use Rattle.std.specs.Prelude.{ℕ, suc, ◌+◌, ◌-◌, ◌*◌, Bool, true, false, cond, not, ◌&&◌, ltb, List, [], ◌∷◌, ◌++◌, map, length, take, drop, ℤ, pos, ◌==◌, int_lt, nat_lt, slice_index}
-use Rattle.ranged1d.specs.Answer.{Answer, given, refused, Reason, ◌when◌, lowest, none_of, written}
-use Rattle.ranged1d.specs.Refusals.{number_of}
+use Rattle.ranged1d.specs.Answer.{Answer, given, Reason, ◌when◌, lowest, none_of, written}
 use Rattle.ranged1d.specs.Admitted.{ends_admitted, limit_admitted}
 use Rattle.ranged1d.specs.Numbers.{same}
 use Rattle.ranged1d.specs.declared.Limit.{Limit}
@@ -17,29 +16,10 @@ use Rattle.decimal.specs.Read.{same_bytes}
 use Rattle.ruler.specs.declared.Twist.{Twist}
 use Rattle.ruler.specs.declared.Twist.TheVariants.{Plain, S, Z}
 use Rattle.ruler.specs.declared.Form.{Form}
-use Rattle.ruler.specs.declared.Wrote.{Wrote}
-use Rattle.ruler.specs.declared.Wrote.TheVariants as wrote_is
-use Rattle.ruler.specs.declared.Moved.{Moved}
-use Rattle.ruler.specs.declared.Moved.TheVariants as moved_is
 use Rattle.ruler.specs.declared.Ruler.{Ruler}
-use Rattle.ruler.specs.declared.Reading.{Reading}
-use Rattle.ruler.specs.declared.Reading.TheVariants as reading_is
 use Rattle.ruler.specs.declared.Part.{Part}
-use Rattle.ruler.specs.Bytes.{word_at, whole_at, kind_byte, twist_number, head_long, form_for, Record, axis, mark, laid, joined}
+use Rattle.ruler.specs.Bytes.{word_at, whole_at, kind_byte, head_long, form_for, Record, axis, mark, laid, joined}
 use Rattle.ruler.specs.Place.{place_of}
-
--- ---- the answers' cases, by 01's numbers and values: the number of bytes and of marks; the number of bytes; the ruler that was read
-abbrev pub tell_wrote : Wrote → Answer (ℕ × ℕ)
-tell_wrote (wrote_is.Bytes n k) = given (n, k)
-tell_wrote (wrote_is.Refused r) = refused (number_of r)
-
-abbrev pub tell_moved : Moved → Answer ℕ
-tell_moved (moved_is.Bytes n) = given n
-tell_moved (moved_is.Refused r) = refused (number_of r)
-
-abbrev pub tell_reading : Reading → Answer Ruler
-tell_reading (reading_is.Ruler r) = given r
-tell_reading (reading_is.Refused r) = refused (number_of r)
 
 -- ---- 01 "Ruler bytes": the ruler of an axis
 -- the record of the mark v
@@ -59,6 +39,10 @@ one = record { choice = Cut; twist = Plain }
 
 abbrev pub three : Form
 three = record { choice = Inside; twist = Plain }
+
+-- that of either choice: `one` of the cut marks, `three` of those on the axis
+abbrev pub plain_form : Choice → Form
+plain_form c = record { choice = c; twist = Plain }
 
 -- the records and the bytes of kind 1
 abbrev pub records_of : ℤ → ℤ → Limit → ℕ → List Record
@@ -84,7 +68,7 @@ write_by f a b limit m old =
 abbrev pub ruler_write : ℤ → ℤ → Limit → ℕ → List ℕ → Answer (ℕ × ℕ) × List ℕ
 ruler_write a b limit m old = write_by one a b limit m old
 
--- and of kind 3, `write_inside`
+-- and of kind 3, whose marks stay inside
 abbrev pub ruler_write_inside : ℤ → ℤ → Limit → ℕ → List ℕ → Answer (ℕ × ℕ) × List ℕ
 ruler_write_inside a b limit m old = write_by three a b limit m old
 
@@ -143,12 +127,12 @@ marks_in l = marks_by (form_in l).choice (a_in l) (b_in l) (m_in l)
 
 -- a ruler by its form and its numbers; one of kind 1
 abbrev pub read_as : Form → ℤ → ℤ → Limit → ℕ → ℤ → ℕ → Ruler
-read_as f a b limit m s n = record { a = a; b = b; p = limit.0; q = limit.1; m = m; step = s; marks = n; kind = kind_byte f; twist = twist_number f.twist }
+read_as f a b limit m s n = record { a = a; b = b; limit = limit; m = m; step = s; marks = n; form = f }
 
 abbrev pub ruler_of : ℤ → ℤ → Limit → ℕ → ℤ → ℕ → Ruler
 ruler_of a b limit m s n = read_as one a b limit m s n
 
--- `read`: those numbers, the step, the number of marks, the kind and the twist; 14 where the bytes are no ruler
+-- `read`: those numbers, the step, the number of marks, and the form, which gives the kind and the twist; 14 where the bytes are no ruler
 unfoldable pub ruler_read : List ℕ → Answer Ruler
 ruler_read l =
     lowest (14 when not (is_ruler l) ∷ [])

@@ -1,17 +1,9 @@
 -- 02 (i): `shift`, which moves the film limits of a ruler in place, on every input. Assumes nothing.
 use Rattle.std.specs.Prelude.{ℕ, not, ◌&&◌, List, [], ◌∷◌, ℤ}
-use Rattle.ranged1d.specs.Answer.{Answer, given, refused, Reason, ◌when◌, lowest, written}
-use Rattle.ranged1d.specs.Refusals.{number_of}
+use Rattle.ranged1d.specs.Answer.{Answer, given, Reason, ◌when◌, lowest, written}
 use Rattle.ranged1d.specs.Admitted.{limit_admitted}
 use Rattle.real.specs.Shifting.{shifted_limit}
-use Rattle.ruler.specs.declared.Shifted.{Shifted}
-use Rattle.ruler.specs.declared.Shifted.TheVariants as shifted_is
 use Rattle.ruler.specs.Rule.{bytes_by, form_in, a_in, b_in, limit_in, m_in, is_ruler}
-
--- the answer's cases: there is nothing to tell of bytes that were moved
-abbrev pub tell_shifted : Shifted → Answer (Unit {0})
-tell_shifted shifted_is.Done = given tt
-tell_shifted (shifted_is.Refused r) = refused (number_of r)
 
 -- The very ruler that the writer gives for the form, the ends and the mark limit in the bytes, with the limits in them moved by c
 unfoldable pub shifted_bytes : ℤ → List ℕ → List ℕ

@@ -1,16 +1,20 @@
 -- Lists that are walked: their entries, their order, and which of them can be searched. Assumes nothing.
-use mathlib.Core.Path.{◌≡◌, refl, sym, ap, ◌∙◌}
+use mathlib.Core.Path.{◌≡◌, refl, sym, ap, subst, ◌∙◌}
 use mathlib.Core.Bool.{Bool, true, false, true≢false, ◌&&◌, ◌||◌, and-true, and-false, and_self, and_assoc, or-false}
 use mathlib.Core.List.{List, [], ◌∷◌}
 use Prim.Native.Nat.{ℕ, zero, suc, ◌+◌, ◌-◌, ◌≤◌, ◌<◌}
 use native.Mathlib.Omega.{arith}
+use native.Mathlib.Decide.{dec_lt}
 use lib.ListN.{length, get_or, take, drop, length-drop}
-use lib.Seq.{take_all, drop-drop}
+use lib.Seq.{take_all}
 use Rattle.ranged1d.specs.Numbers.{every}
 use Rattle.ranged1d.proofs.Bools.{both_true}
 use Rattle.search.specs.Search.{Numbers}
 use Rattle.search.specs.Lists.{toward, goes_on, ascends, searchable}
-use Rattle.search.specs.Steps.{rises_first}
+use Rattle.search.specs.Steps.{rises_first, PlaceOf}
+use Rattle.std.specs.Prelude.{MatchBool}
+use Rattle.std.specs.List.{AllWithin, HoldsAt}
+use Rattle.std.specs.List.Sorted.{IsPartitionedBy, IsPartitionPoint}
 use Rattle.search.proofs.Orders.{Order, Between, way}
 use Rattle.search.proofs.Settles.{Sorted, Ordinary}
 
@@ -21,33 +25,17 @@ module _ {A : Type 0} where
   entry_any (x ∷ xs) zero d d' h = refl
   entry_any (x ∷ xs) (suc i) d d' h = entry_any xs i d d' (omega (arith, h))
 
-  -- ---- a test of every entry, from entry k on
-  pub every_step : (p : A → Bool) (d : A) (l : List A) (k : ℕ) → k < length l → every p (drop k l) ≡ (p (get_or l k d) && every p (drop (suc k) l))
-  every_step p d [] k h = absurd (omega (arith, h))
-  every_step p d (x ∷ xs) zero h = refl
-  every_step p d (x ∷ xs) (suc k) h = every_step p d xs k (omega (arith, h))
-
-  pub every-end : (p : A → Bool) (l : List A) (k : ℕ) → length l ≤ k → every p (drop k l) ≡ true
-  every-end p [] zero h = refl
-  every-end p [] (suc k) h = refl
-  every-end p (x ∷ xs) zero h = absurd (omega (arith, h))
-  every-end p (x ∷ xs) (suc k) h = every-end p xs k (omega (arith, h))
+  -- ---- a test of every entry
+  pub every_is : (p : A → Bool) (l : List A) (r : Bool)
+      → MatchBool r (AllWithin (λ x. p x ≡ true) l 0 (length l)) ((k : ℕ) × (k < length l) × HoldsAt (λ x. p x ≡ false) l k) → r ≡ every p l
+  every_is p [] true m = refl
+  every_is p [] false (k, h, m) = absurd (omega (arith, h))
+  every_is p (x ∷ xs) true m = rw (m 0 x (omega arith) (omega arith)) (every_is p xs true (λ k d g h. m (suc k) d (omega arith) (omega (arith, h))))
+  every_is p (x ∷ xs) false (zero, h, m) = rw (m x) refl
+  every_is p (x ∷ xs) false (suc k, h, m) = sym (rw (← every_is p xs false (k, omega (arith, h), m)) (and-false (p x)))
 
   -- ---- the order, from entry k on
   module _ (lt : A → A → Bool) where
-    pub ascends_step : (d : A) (l : List A) (k : ℕ) → suc k < length l → ascends lt (drop k l) ≡ (lt (get_or l k d) (get_or l (suc k) d) && ascends lt (drop (suc k) l))
-    ascends_step d [] k h = absurd (omega (arith, h))
-    ascends_step d (x ∷ []) k h = absurd (omega (arith, h))
-    ascends_step d (x ∷ (y ∷ ys)) zero h = refl
-    ascends_step d (x ∷ (y ∷ ys)) (suc k) h = ascends_step d (y ∷ ys) k (omega (arith, h))
-
-    pub ascends-end : (l : List A) (k : ℕ) → length l ≤ suc k → ascends lt (drop k l) ≡ true
-    ascends-end [] zero h = refl
-    ascends-end [] (suc k) h = refl
-    ascends-end (x ∷ []) zero h = refl
-    ascends-end (x ∷ (y ∷ ys)) zero h = absurd (omega (arith, h))
-    ascends-end (x ∷ xs) (suc k) h = ascends-end xs k (omega (arith, h))
-
     -- two parts that share an entry
     ascends-cut : (l : List A) (n : ℕ) → n < length l → ascends lt l ≡ (ascends lt (take (suc n) l) && ascends lt (drop n l))
     ascends-cut [] n h = absurd (omega (arith, h))
@@ -86,6 +74,18 @@ module _ {A : Type 0} {lt eq : A → A → Bool} (o : Order A lt eq) (d : A) whe
       let e : eq x x ≡ true = o.left x y (both_true (lt x y) (goes_on lt y l) a).0 in
       rw (e, selves x (y ∷ l) e a) refl
 
+-- the entries that come before a target stand before all others
+module _ {A : Type 0} {lt eq : A → A → Bool} (o : Order A lt eq) (l : List A) (t : A) where
+  pub parted : ascends lt l ≡ true → IsPartitionedBy (λ x. lt x t) l
+  parted a i j d le within e = go (dec_lt i j)
+    where
+      go : Dec (i < j) → lt (get_or l i d) t ≡ true
+      go (yes h) = o.trans (get_or l i d) (get_or l j d) t (sorted o d l a i j h within) e
+      go (no h) = subst (λ (k : ℕ). lt (get_or l k d) t ≡ true) (omega (arith, le, h)) e
+
+pub place_of : {A : Type 0} (lt : A → A → Bool) (l : List A) (t : A) (i : ℕ) → i ≤ length l → IsPartitionPoint (λ x. lt x t ≡ true) (λ x. lt x t ≡ false) l i → PlaceOf lt l t t i
+place_of lt l t i within p = record { order = omega arith; within = within; before = λ k h. p.0 k t (omega arith) h; from = λ k h m. p.1 k t h m }
+
 pub ordinary : {A : Type 0} (eq : A → A → Bool) (d : A) (l : List A) → every (λ z. eq z z) l ≡ true → Ordinary eq l d
 ordinary eq d [] e k h = absurd (omega (arith, h))
 ordinary eq d (x ∷ xs) e zero h = (both_true (eq x x) (every (λ z. eq z z) xs) e).0
@@ -97,11 +97,11 @@ module _ {A : Type 0} (num : Numbers A) (o : Order A num.less num.equal) where
   own z = num.equal z z
 
   -- one entry
-  pub searchable-one : (l : List A) (d : A) → length l ≡ 1 → searchable num l ≡ own (get_or l 0 d)
+  pub searchable-one : (l : List A) (x : A) → 1 ≤ length l → length l < 2 → x ≡ get_or l 0 x → own x ≡ searchable num l
   unfolding searchable
-  searchable-one [] d h = absurd (omega (arith, h))
-  searchable-one (x ∷ []) d h = and-true (own x && true) ∙ and-true (own x)
-  searchable-one (x ∷ (y ∷ ys)) d h = absurd (omega (arith, h))
+  searchable-one [] x h m e = absurd (omega (arith, h))
+  searchable-one (y ∷ []) x h m e = rw e (sym (and-true (own y && true) ∙ and-true (own y)))
+  searchable-one (y ∷ (z ∷ l)) x h m e = absurd (omega (arith, m))
 
   -- more than one
   two : (x y : A) (ys : List A) (rises : Bool) → num.less x y ≡ rises
@@ -125,53 +125,32 @@ module _ {A : Type 0} (num : Numbers A) (o : Order A num.less num.equal) where
   unfolding searchable
   searchable_own l h = (both_true (every own l) (ascends num.less l || ascends (λ v w. num.less w v) l) h).0
 
--- ---- the first two entries
-pub rises-short : {A : Type 0} (lt : A → A → Bool) (l : List A) → length l < 2 → rises_first lt l ≡ true
-rises-short lt [] h = refl
-rises-short lt (x ∷ []) h = refl
-rises-short lt (x ∷ (y ∷ ys)) h = absurd (omega (arith, h))
+-- ---- a walk along the pairs of neighbours of a list: ok says whether all passed were in order
+module _ {A : Type 0} (lt : A → A → Bool) where
+  pub walk_on : {b : Bool} (ok : Bool) (r r' w : List A) (n : ℕ) (x y : A) → n ≡ 2 → n ≤ length r → w ≡ take n r → r' ≡ drop 1 r → x ≡ get_or w 0 x → y ≡ get_or w 1 y
+      → b ≡ (ok && ascends lt r) → b ≡ ((ok && lt x y) && ascends lt r')
+  walk_on ok [] r' w n x y two h e f p q a = absurd (omega (arith, h, two))
+  walk_on ok (v ∷ []) r' w n x y two h e f p q a = absurd (omega (arith, h, two))
+  walk_on ok (u ∷ (v ∷ vs)) r' w n x y two h e f p q a =
+      let first : x ≡ u = rw (e, two) at p in
+      let second : y ≡ v = rw (e, two) at q in
+      rw (first, second, f) (a ∙ sym (and_assoc ok (lt u v) (goes_on lt v vs)))
 
-pub rises-two : {A : Type 0} (lt : A → A → Bool) (d : A) (l : List A) → 2 ≤ length l → lt (get_or l 0 d) (get_or l 1 d) ≡ rises_first lt l
-rises-two lt d [] h = absurd (omega (arith, h))
-rises-two lt d (x ∷ []) h = absurd (omega (arith, h))
-rises-two lt d (x ∷ (y ∷ ys)) h = refl
+  pub walk_done : {b : Bool} (ok : Bool) (r : List A) → length r < 2 → b ≡ (ok && ascends lt r) → ok ≡ b
+  walk_done ok [] h a = sym (a ∙ and-true ok)
+  walk_done ok (x ∷ []) h a = sym (a ∙ and-true ok)
+  walk_done ok (x ∷ (y ∷ ys)) h a = absurd (omega (arith, h))
 
--- ---- a walk along a list from its second entry on: each entry against the one before it; ok says whether all passed were in order
-module _ {A : Type 0} (lt : A → A → Bool) (d : A) (l : List A) where
-  less_one : (j : ℕ) → suc j - 1 ≡ j
-  less_one j = omega arith
+-- ---- a list by a run of n pairs and the rest
+module _ {A : Type 0} (lt : A → A → Bool) (l : List A) where
+  run_is : (n : ℕ) → n < length l → ascends lt l ≡ (ascends lt (take (n + 1) l) && ascends lt (drop n l))
+  run_is n h = let size : n + 1 ≡ suc n = omega arith in rw size (ascends-cut lt l n h)
 
-  more-one : (j : ℕ) → suc j + 1 - 1 ≡ suc j
-  more-one j = omega arith
+  pub run_on : {b : Bool} (n : ℕ) → n < length l → ascends lt (take (n + 1) l) ≡ true → b ≡ ascends lt l → b ≡ ascends lt (take (length l - n) (drop n l))
+  run_on n h e a = a ∙ run_is n h ∙ rw (e, take_all (length l - n) (drop n l) (omega (arith, length-drop n l))) refl
 
-  pub walk_on : (ok : Bool) {next : Bool} (k : ℕ) → 1 ≤ k → k < length l → next ≡ (ok && lt (get_or l (k - 1) d) (get_or l k d))
-      → ascends lt l ≡ (ok && ascends lt (drop (k - 1) l)) → ascends lt l ≡ (next && ascends lt (drop (k + 1 - 1) l))
-  walk_on ok zero h m e a = absurd (omega (arith, h))
-  walk_on ok (suc j) h m e a =
-      rw (e, less_one j, more-one j)
-      (rw (less_one j) at a
-      ∙ ap (λ (b : Bool). ok && b) (ascends_step lt d l j m)
-      ∙ sym (and_assoc ok (lt (get_or l j d) (get_or l (suc j) d)) (ascends lt (drop (suc j) l))))
-
-  pub walk_done : {ok : Bool} (k : ℕ) → 1 ≤ k → length l ≤ k → ascends lt l ≡ (ok && ascends lt (drop (k - 1) l)) → ok ≡ ascends lt l
-  walk_done zero h m a = absurd (omega (arith, h))
-  walk_done {ok} (suc j) h m a = sym (a ∙ rw (less_one j, ascends-end lt l j m) (and-true ok))
-
--- ---- a list by runs of n pairs
-module _ {A : Type 0} (lt : A → A → Bool) (l : List A) (n k : ℕ) (h : n < length l - k) (a : ascends lt l ≡ ascends lt (drop k l)) where
-  run_is : ascends lt l ≡ (ascends lt (take (k + suc n - k) (drop k l)) && ascends lt (drop (k + n) l))
-  run_is =
-      let size : k + suc n - k ≡ suc n = omega arith in
-      rw (size, ← drop-drop n k l) (a ∙ ascends-cut lt (drop k l) n (omega (arith, length-drop k l)))
-
-  pub run_on : ascends lt (take (k + suc n - k) (drop k l)) ≡ true → ascends lt l ≡ ascends lt (drop (k + n) l)
-  run_on e = run_is ∙ rw e refl
-
-  pub run_stop : ascends lt (take (k + suc n - k) (drop k l)) ≡ false → ascends lt l ≡ false
-  run_stop e = run_is ∙ rw e refl
-
-pub run-last : {A : Type 0} (lt : A → A → Bool) (l : List A) (k : ℕ) → ascends lt l ≡ ascends lt (drop k l) → ascends lt (take (length l - k) (drop k l)) ≡ ascends lt l
-run-last lt l k a = rw (take_all (length l - k) (drop k l) (omega (arith, length-drop k l))) (sym a)
+  pub run_stop : {b : Bool} (n : ℕ) → n < length l → ascends lt (take (n + 1) l) ≡ false → b ≡ ascends lt l → false ≡ b
+  run_stop n h e a = sym (a ∙ run_is n h ∙ rw e refl)
 
 -- ---- a test that holds between any two that pass it: the ends of an ordered list tell of every entry
 module _ {A : Type 0} {lt eq : A → A → Bool} (o : Order A lt eq) (d : A) (p : A → Bool) (between : Between lt p) where

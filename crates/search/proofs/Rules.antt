@@ -24,36 +24,26 @@ use Rattle.search.proofs.Best.{best_none}
 use Rattle.search.proofs.Orders.{Order, way, between-toward}
 use Rattle.search.proofs.WholeOrder.{whole-order, whole-between}
 use Rattle.search.proofs.Settles.{settles}
-use Rattle.search.proofs.Lists.{sorted, ordinary, searchable-one, searchable_is, ends}
-use Rattle.search.proofs.Halves.{place_any}
+use Rattle.search.proofs.Lists.{sorted, ordinary, searchable-one, searchable_is, searchable_own, ends}
 
 -- ---- a list that can be searched, by the target's place in it
 module _ {A : Type 0} (num : Numbers A) (o : Order A num.less num.equal) where
-  pub found : (rises : Bool) (l : List A) (t d : A) (method : RoundingMethod) (i : ℕ) (x y : A)
-      → ascends (toward rises num.less) l ≡ true → every (λ z. num.equal z z) l ≡ true → num.equal t t ≡ true
-      → PlaceOf (toward rises num.less) l d t i → ((j : ℕ) → suc j ≡ i → x ≡ get_or l j t) → y ≡ get_or l i t
-      → settled num method rises (length l) i x t y ≡ search num t method l
-  found rises l t d method i x y a e self p xi yi =
-      sym (settles num t o rises method l i x y (sorted (way o rises) t l a) (ordinary num.equal t l e) self (place_any (toward rises num.less) l d t t i p) (λ h. yi) xi)
-
   pub searched_ascends : (l : List A) (r : Bool) → r ≡ rises_first num.less l → searchable num l ≡ true → ascends (toward r num.less) l ≡ true
   searched_ascends [] r e s = refl
   searched_ascends (x ∷ []) r e s = refl
   searched_ascends (x ∷ (y ∷ ys)) r e s = subst (λ (b : Bool). ascends (toward b num.less) (x ∷ (y ∷ ys)) ≡ true) (sym e) (sym (searchable_is num o (x ∷ (y ∷ ys)) (λ q. omega (arith, q))) ∙ s)
 
+  pub found : (rises : Bool) (l : List A) (t : A) (method : RoundingMethod) (i : ℕ) (x y : A)
+      → rises ≡ rises_first num.less l → searchable num l ≡ true → num.equal t t ≡ true
+      → PlaceOf (toward rises num.less) l t t i → ((j : ℕ) → suc j ≡ i → x ≡ get_or l j t) → y ≡ get_or l i t
+      → settled num method rises (length l) i x t y ≡ search num t method l
+  found rises l t method i x y r s self p xi yi =
+      sym (settles num t o rises method l i x y (sorted (way o rises) t l (searched_ascends l rises r s)) (ordinary num.equal t l (searchable_own num o l s)) self p (λ h. yi) xi)
+
 -- ---- whole lists
-whole_selves : (l : List ℤ) → every (λ z. wholes.equal z z) l ≡ true
-whole_selves [] = refl
-whole_selves (x ∷ xs) = rw (same_yes x x refl, whole_selves xs) refl
-
-pub whole_found : (rises : Bool) (l : List ℤ) (t d : ℤ) (method : RoundingMethod) (i : ℕ) (x y : ℤ)
-    → ascends (toward rises lt_z) l ≡ true → PlaceOf (toward rises lt_z) l d t i → ((j : ℕ) → suc j ≡ i → x ≡ get_or l j t) → y ≡ get_or l i t
-    → settled wholes method rises (length l) i x t y ≡ search wholes t method l
-whole_found rises l t d method i x y a p xi yi = found wholes whole-order rises l t d method i x y a (whole_selves l) (same_yes t t refl) p xi yi
-
 pub whole-searchable : (l : List ℤ) → searchable wholes l ≡ ascends (toward (rises_first lt_z l) lt_z) l
 whole-searchable [] = searchable_is wholes whole-order [] (λ e. omega (arith, e))
-whole-searchable (x ∷ []) = searchable-one wholes whole-order (x ∷ []) x refl ∙ same_yes x x refl
+whole-searchable (x ∷ []) = sym (searchable-one wholes whole-order (x ∷ []) x (omega arith) (omega arith) refl) ∙ same_yes x x refl
 whole-searchable (x ∷ (y ∷ ys)) = searchable_is wholes whole-order (x ∷ (y ∷ ys)) (λ e. omega (arith, e))
 
 -- what is admitted reaches from one number to another, so that the first and the last entry tell of all

@@ -2,7 +2,6 @@
 pub mod Margin
 pub mod Halves
 pub mod Rules
-pub mod Entries
+pub mod StepRules
 pub mod WholeRules
-pub mod BelowRules
 pub mod Mirror

@@ -145,9 +145,6 @@ module _ (n : ℕ) (limit : Limit) {within : Limit} (e : within ≡ narrowed n l
       let k = margin n limit in
       ap (λ (w : Limit). q -ℤ w.1) e ∙ ap (λ z. z -ℤ (q -ℤ k)) (sym (start_to k q)) ∙ +ℤ-neg_ℤ_cancel k (q -ℤ k)
 
-  pub within-admitted : limit_admitted limit ≡ true → 1 ≤ n → n ≤ most_values → limit_admitted within ≡ true
-  within-admitted h some few = ap limit_admitted e ∙ narrowed-admitted n limit h some few
-
 -- ---- what fits an i32: the sum of two places, and half of one
 pub sum_near : (x y : ℤ) → nat_abs x ≤ 1_001_000_000 → nat_abs y ≤ 1_001_000_000 → nat_abs (x +ℤ y) ≤ 2_002_000_000
 sum_near x y hx hy = omega (arith, add-far x y, hx, hy)

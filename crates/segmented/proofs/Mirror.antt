@@ -1,5 +1,6 @@
 -- The mirror theorem for segments over stepped axes, once over a kind of numbers. Assumes nothing.
 use Rattle.std.proofs.Common.{◌≡◌, ℕ, zero, suc, Bool, true, false, cond, ◌&&◌, ◌||◌, ltb, ◌⊎◌, List, [], ◌∷◌, length, ℤ, ◌+ℤ◌, ◌-ℤ◌, neg_ℤ, sym, refl, ap, ◌∙◌, subst, ap₂, inl, inr}
+use Rattle.std.specs.Prelude.{Option, Some, None}
 use lib.IntN.{neg_ℤ-+ℤ}
 use lib.Ieee.{Float, neg}
 use Rattle.ranged1d.specs.Answer.{Answer, given, none, refused, ◌when◌, lowest, Paired, both_given, both_none, both_refused, BothLong}
@@ -9,8 +10,6 @@ use Rattle.ranged1d.proofs.Answers.{not_none, not-both}
 use Rattle.ranged1d.proofs.Bools.{both_true}
 use Rattle.ranged1d.proofs.Lowest.{lowest_then, last-same}
 use Rattle.ranged1d.proofs.Whole.{quot_neg}
-use Rattle.rounding.specs.declared.Whole.{Whole}
-use Rattle.rounding.specs.declared.Whole.TheVariants.{Number, Beyond}
 use Rattle.rounding.proofs.Signs as place
 use Rattle.real.specs.Place.{is_beyond, number}
 use Rattle.real.specs.Mirror.{mirrored, negated}
@@ -29,10 +28,10 @@ use Rattle.linspace.proofs.Mirror as lists
 use Rattle.segmented.specs.Values.{Segment, exact, center_of, last}
 use Rattle.segmented.specs.Segments.{Axis, half, margin, narrowed, start, entry_after, successor, middle, after_beyond, fit_in, unmarked, segment_place, segment_size, segment_index_of, segment_key_points}
 use Rattle.segmented.specs.Steps.{count_answer, Stands, placed_answer}
+use Rattle.segmented.specs.Regular.{few_enough, step-regular}
 use Rattle.segmented.specs.Mirror.{across, here, there, find_here, find_there, Mirrored, WholeMirrored, RealMirrored}
 use Rattle.segmented.proofs.Margin.{margin-neg}
-use Rattle.segmented.proofs.Rules.{counted_or_stopped, place_unfit, place_unlimited, place-stopped, place_is, stepped_stands}
-use Rattle.segmented.proofs.Entries.{entry-admitted}
+use Rattle.segmented.proofs.Rules.{counted_or_stopped, place_unfit, place_unlimited, place-stopped, place_is, stands}
 
 -- ---- limits
 narrow_neg : (n : ℕ) (limit : Limit) → narrowed n (mirrored limit) ≡ mirrored (narrowed n limit)
@@ -40,13 +39,13 @@ narrow_neg n limit =
     ap (λ (z : ℤ). record { 0 = neg_ℤ limit.0; 1 = z }) (ap (λ (z : ℤ). neg_ℤ limit.1 -ℤ z) (margin-neg n limit) ∙ length-neg (margin n limit) limit.1)
 
 -- ---- places
-beyond_neg : (w : Whole) → is_beyond (place.negated w) ≡ is_beyond w
-beyond_neg (Number z) = refl
-beyond_neg Beyond = refl
+beyond_neg : (w : Option ℤ) → is_beyond (place.negated w) ≡ is_beyond w
+beyond_neg (Some z) = refl
+beyond_neg None = refl
 
-number-neg : (w : Whole) → number (place.negated w) ≡ neg_ℤ (number w)
-number-neg (Number z) = refl
-number-neg Beyond = refl
+number-neg : (w : Option ℤ) → number (place.negated w) ≡ neg_ℤ (number w)
+number-neg (Some z) = refl
+number-neg None = refl
 
 middle-neg : (x y : ℤ) → half (neg_ℤ x +ℤ neg_ℤ y) ≡ neg_ℤ (half (x +ℤ y))
 middle-neg x y = ap half (sym (neg_ℤ-+ℤ x y)) ∙ quot_neg (x +ℤ y) 2
@@ -229,14 +228,14 @@ module _ {A : Type 0} (kind : Kind A) (R : A → A → Type 0) (K : KindTurns ki
         where
           listed : (f : (H.admitted && fit_in H x) ≡ true) → limit_admitted limit ≡ true → (count_answer H ≡ given H.count) ⊎ ((n : ℕ) × (count_answer H ≡ refused n)) → Place
           listed f l (inl c) =
-              sym (place_is M (find_there kind opposite a b d method) (across opposite x) (mirrored limit) (same-fit ∙ f) (limit-neg limit ∙ l) (stepped_stands kind (opposite a) (opposite b) (opposite d) (counts ∙ c)))
-              ∙ placed-turned (stepped_stands kind a b d c) limit method x (both_true H.admitted (fit_in H x) f).1
-              ∙ ap negated (place_is H (find_here kind opposite a b d method) x limit f l (stepped_stands kind a b d c))
+              sym (place_is M (find_there kind opposite a b d method) (across opposite x) (mirrored limit) (same-fit ∙ f) (limit-neg limit ∙ l) (stands M (few_enough kind (opposite a) (opposite b) (opposite d)) (sym (counts ∙ c))))
+              ∙ placed-turned (stands H (few_enough kind a b d) (sym c)) limit method x (both_true H.admitted (fit_in H x) f).1
+              ∙ ap negated (place_is H (find_here kind opposite a b d method) x limit f l (stands H (few_enough kind a b d) (sym c)))
           listed f l (inr c) =
               let ok = (both_true H.admitted (fit_in H x) f).0 in
               alike
-              (place-stopped M (find_there kind opposite a b d method) (across opposite x) (mirrored limit) (same-fit ∙ f) (limit-neg limit ∙ l) (admits ∙ ok) (counts ∙ c.1))
-              (place-stopped H (find_here kind opposite a b d method) x limit f l ok c.1)
+              (place-stopped M (find_there kind opposite a b d method) (across opposite x) (mirrored limit) (same-fit ∙ f) (limit-neg limit ∙ l) (admits ∙ ok) (sym (counts ∙ c.1)))
+              (place-stopped H (find_here kind opposite a b d method) x limit f l ok (sym c.1))
 
           go : (t : Bool) → (H.admitted && fit_in H x) ≡ t → (u : Bool) → limit_admitted limit ≡ u → Place
           go false f u l =
@@ -252,7 +251,7 @@ module _ {A : Type 0} (kind : Kind A) (R : A → A → Type 0) (K : KindTurns ki
 
 -- ---- whole numbers
 pub whole-mirror : (a b d : ℤ) → WholeMirrored a b d
-whole-mirror a b d = mirrored_segments whole Opposite lists.whole_kind neg_ℤ (λ x. refl) a b d spots (λ n s k w e. entry-admitted a b d s k e) (lists.whole-mirror a b d)
+whole-mirror a b d = mirrored_segments whole Opposite lists.whole_kind neg_ℤ (λ x. refl) a b d spots (λ n s k w e. (step-regular a b d).fit s k e) (lists.whole-mirror a b d)
   where
     spots : axis_admitted whole a b d ≡ true → (v w : ℤ) → w ≡ neg_ℤ v → whole_admitted v ≡ true → (limit : Limit)
         → step_spot whole (neg_ℤ a) (neg_ℤ b) (neg_ℤ d) w (mirrored limit) ≡ place.negated (step_spot whole a b d v limit)

@@ -3,4 +3,5 @@ pub mod Values
 pub mod Segments
 pub mod Axes
 pub mod Steps
+pub mod Regular
 pub mod Mirror

@@ -1,12 +1,11 @@
 -- 01 "Whole reading, segments, real labels": the segments over an axis, and what each call on them answers, with the refusals of 01 "Why a call
 -- stops". Every rule is written once, over what segments ask of the axis below them. Assumes nothing.
-use Rattle.std.specs.Prelude.{ℕ, suc, Bool, false, cond, not, ◌&&◌, ◌||◌, List, [], ◌∷◌, ◌++◌, length, ℤ, pos, ◌+ℤ◌, ◌-ℤ◌, ◌==◌, int_div, nat_lt}
+use Rattle.std.specs.Prelude.{ℕ, suc, Bool, false, cond, not, ◌&&◌, ◌||◌, List, [], ◌∷◌, ◌++◌, length, ℤ, pos, ◌+ℤ◌, ◌-ℤ◌, ◌==◌, int_div, nat_lt, Option}
 use Rattle.std.specs.Float.Ieee as Ieee
 use Rattle.std.specs.Float.{binary32}
 use Rattle.ranged1d.specs.Answer.{Answer, given, none, refused, Reason, ◌when◌, lowest, written, and_then}
 use Rattle.ranged1d.specs.Admitted.{limit_admitted, reading_admitted}
 use Rattle.ranged1d.specs.declared.Limit.{Limit}
-use Rattle.rounding.specs.declared.Whole.{Whole}
 use Rattle.rounding.specs.Integral as way
 use Rattle.rounding.specs.Within.{whole_of}
 use Rattle.discrete.specs.Index.{index_for}
@@ -27,7 +26,7 @@ pub record Axis (A : Type 0) : Type 0 where
   pub against : Bool
   pub too_long : Bool
   -- the place of a value between limits, by the ends
-  pub spot : A → Limit → Whole
+  pub spot : A → Limit → Option ℤ
   -- the marks, and 3
   pub marks : ℕ → List A
   pub no_step : ℕ → Bool
@@ -72,7 +71,7 @@ module _ {A : Type 0} (axis : Axis A) where
 
   -- ---- places
   -- an entry's place, between the narrowed limits
-  abbrev pub start : A → Limit → Whole
+  abbrev pub start : A → Limit → Option ℤ
   start v limit = axis.spot v (narrowed axis.count limit)
 
   -- the entry one after an index, and the successor of a value: the entry one after its index; none where it has no index or

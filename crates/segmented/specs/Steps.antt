@@ -1,14 +1,11 @@
 -- What the steps of the calls on segments find, for the promises of private functions. Assumes nothing.
-use Rattle.std.specs.Prelude.{◌≡◌, ℕ, ◌≤◌, true, false, ◌||◌, [], ◌∷◌, ℤ, ◌+ℤ◌, ◌==◌, nat_eq, nat_lt, unsigned_abs}
+use Rattle.std.specs.Prelude.{◌≡◌, ℕ, suc, ◌<◌, ◌≤◌, true, false, not, ◌&&◌, ◌||◌, [], ◌∷◌, ℤ, ◌+ℤ◌, ◌==◌, nat_eq, nat_lt, unsigned_abs}
 use Rattle.ranged1d.specs.Answer.{Answer, given, none, refused, ◌when◌, lowest, and_then}
+use Rattle.ranged1d.specs.Admitted.{limit_admitted}
 use Rattle.ranged1d.specs.declared.Limit.{Limit}
 use Rattle.segmented.specs.Values.{Segment}
-use Rattle.real.specs.Place.{spot_answer}
-use Rattle.search.specs.declared.RoundingMethod.{RoundingMethod}
-use Rattle.linspace.specs.List.{whole}
-use Rattle.segmented.specs.Axes.{most_values, whole_axis, whole_finder, stepped_axis, stepped_finder}
-use Rattle.segmented.specs.declared.below.Step.{Step}
-use Rattle.segmented.specs.declared.below.Step.TheVariants.{One, By}
+use Rattle.real.specs.Place.{is_beyond, number, spot_answer}
+use Rattle.segmented.specs.Axes.{most_values}
 use Rattle.segmented.specs.Segments.{Axis, Finder, half, counted, successor, placed, too_far, unsought_place}
 
 -- 4: a number of marks that is given is at least 1
@@ -32,15 +29,6 @@ half_way m z (refused n) = refused n
 abbrev pub middle_by : ℤ → Answer ℤ → Answer ℤ → Answer ℤ
 middle_by m left right = and_then left (λ z. half_way m z right)
 
--- the axis of whole numbers from a to b, by every value or by a step, and how it finds one
-abbrev pub axis_of : ℤ → ℤ → Step → Axis ℤ
-axis_of a b One = whole_axis a b
-axis_of a b (By d) = stepped_axis whole a b d
-
-abbrev pub finder_of : ℤ → ℤ → Step → RoundingMethod → Finder ℤ
-finder_of a b One method = whole_finder a
-finder_of a b (By d) method = stepped_finder whole a b d method
-
 module _ {A : Type 0} (axis : Axis A) where
   -- how many entries the segments stand on, or why there are no segments
   unfoldable pub count_answer : Answer ℕ
@@ -55,6 +43,33 @@ module _ {A : Type 0} (axis : Axis A) where
     pub count : axis.count ≡ n
     pub some : 1 ≤ n
     pub most : n ≤ most_values
+
+  -- what holds of every axis that segments stand on
+  pub record Regular : Type 0 where
+    -- an axis that is not refused has no more entries than segments may have, and one with too many has more
+    pub few : axis.too_many ≡ false → axis.too_long ≡ false → axis.count ≤ most_values
+    pub many : axis.too_many ≡ true → most_values < axis.count
+    -- behind the last entry there is none, and each is admitted
+    pub past : {n : ℕ} → Stands n → (k : ℕ) → n ≤ k → axis.entry (suc k) ≡ none
+    pub fit : {n : ℕ} → Stands n → (k : ℕ) {w : A} → axis.entry k ≡ given w → axis.fit w ≡ true
+    -- places are near 0
+    pub near : (v : A) (l : Limit) → limit_admitted l ≡ true → Near (spot_answer (axis.spot v l))
+
+  -- what the axis itself answers: its count, the entry at an index, the index of a value, and its place between limits
+  unfoldable pub size_answer : Answer ℕ
+  size_answer = lowest (1 when not axis.admitted ∷ 6 when axis.against ∷ 7 when axis.too_long ∷ []) (given axis.count)
+
+  unfoldable pub entry_answer : ℕ → Answer A
+  entry_answer k = lowest (1 when not axis.admitted ∷ 6 when axis.against ∷ 7 when axis.too_long ∷ []) (axis.entry k)
+
+  unfoldable pub index_answer : Finder A → A → Answer ℕ
+  index_answer find v =
+      lowest (1 when not (axis.admitted && axis.fit v) ∷ 6 when axis.against ∷ 7 when axis.too_long ∷ 9 when find.unsought v ∷ []) (find.index v)
+
+  unfoldable pub place_answer : A → Limit → Answer ℤ
+  place_answer v limit =
+      lowest (1 when not (axis.admitted && axis.fit v) ∷ 2 when not (limit_admitted limit) ∷ 5 when is_beyond (axis.spot v limit) ∷ [])
+      (given (number (axis.spot v limit)))
 
   -- the successor of v, or 9
   unfoldable pub next_answer : Finder A → A → Answer A

@@ -1,274 +1,281 @@
-// Segments over an axis of whole numbers, whichever it is: every call is written once, over what it asks of the axis below.
-ghost use Rattle.std.specs.Prelude.{◌≡◌, true, ◌&&◌};
-ghost use Rattle.ranged1d.specs.Admitted.{whole_admitted, limit_admitted};
-ghost use Rattle.discrete.specs.Index.{tell_index};
-ghost use Rattle.numeric.specs.Whole.{tell_count, tell_value};
-ghost use Rattle.real.specs.Place.{tell_place};
-ghost use Rattle.segmented.specs.Values.{whole_segment, tell_segment, exact};
-ghost use Rattle.segmented.specs.Segments.{fit_in, segment_place, segment_size, segment_index_of, segment_at, segment_from_index, segment_reading};
-ghost use Rattle.segmented.specs.Steps.{axis_of, finder_of, count_answer, Stands, next_answer, after_answer, placed_answer};
+// What segments ask of the axis below them, and every call on segments, written once over that.
+ghost use Rattle.std.specs.Prelude.{◌≡◌, true, ◌&&◌, ℕ, ◌-ℤ◌, IfOk};
+ghost use Rattle.ranged1d.specs.Answer.{given, and_then};
+ghost use Rattle.ranged1d.specs.Admitted.{limit_admitted};
+ghost use Rattle.ranged1d.specs.Told.{tell, tell_found};
+ghost use Rattle.real.specs.Place.{spot_answer};
+ghost use Rattle.segmented.specs.Values.{exact};
+ghost use Rattle.segmented.specs.Segments.{Axis, Finder, fit_in, segment_place, segment_size, segment_index_of, segment_at, segment_from_index, segment_reading, segment_key_points};
+ghost use Rattle.segmented.specs.Steps.{count_answer, size_answer, entry_answer, index_answer, place_answer, Regular, Stands, next_answer, after_answer, placed_answer, middle_by};
 
-use crate::{
-    SegmentValuei32, Segmenti32, known_place, middle_of, narrow, some_entries, value_fits,
-};
-use discrete::Index;
-use linspace::Linspacei32;
-use numeric::{Count, Place, RangedCoordi32, Value};
+use crate::shares::{Narrowed, Shares, between};
+use crate::{SegmentValue, Segmented, some_entries};
 use ranged1d::{Limit, Refusal};
 use search::RoundingMethod;
 
-// How the axis below goes from one end to the other: by every value, or by the entries of a stepped list.
-#[derive(Clone, Copy)]
-pub(crate) enum Step {
-    One,
-    By(i32),
+// An axis that segments can stand on.
+pub trait Axis: Copy {
+    type Value: Copy;
+
+    // What a value is looked for by: the method of a search, or nothing where its index is worked out.
+    type Way: Copy;
+
+    // What is told of marks that were written.
+    type Told: Copy;
+
+    ghost axis: { Self → Axis Self.Value };
+
+    ghost finder: { Self → Self.Way → Finder Self.Value };
+
+    ghost told: { Self → ℕ → Self.Told };
+
+    // Whether the ends, and the step if there is one, are admitted.
+    fn admitted(self) -> bool
+        ensures { result ≡ (axis self).admitted };
+
+    // Whether a value is admitted.
+    fn fits(self, v: Self::Value) -> bool
+        ensures { result ≡ (axis self).fit v };
+
+    // How many entries there are.
+    fn count(self) -> Result<u64, Refusal>
+        ensures { tell result ≡ size_answer (axis self) };
+
+    // Entry k.
+    fn entry(self, k: u64) -> Result<Option<Self::Value>, Refusal>
+        ensures { tell_found result ≡ entry_answer (axis self) k };
+
+    // The index of v.
+    fn find(self, way: Self::Way, v: Self::Value) -> Result<Option<u64>, Refusal>
+        ensures { tell_found result ≡ index_answer (axis self) (finder self way) v };
+
+    // The place of v, by the ends.
+    fn place(self, v: Self::Value, limit: Limit) -> Result<i32, Refusal>
+        ensures { tell result ≡ place_answer (axis self) v limit };
+
+    // The marks of the axis, each standing for the middle of its segment, written to the start of out: m bounds their number.
+    fn marks(self, m: u32, out: &mut [Self::Value]) -> Result<Self::Told, Refusal>
+        ensures { (tell result, out.new) ≡ segment_key_points (axis self) (told self m) m out.old };
+
+    ghost regular: { (x : Self) → Regular (axis x) };
 }
 
-// Whether the ends, and the step if there is one, are admitted.
-fn admitted(ends: RangedCoordi32, step: Step) -> bool
-    ensures { result ≡ (axis_of ends.0 ends.1 step).admitted }
+// An axis that segments stand on, with its count.
+#[derive(Drop)]
+struct Standing<A: Axis> {
+    axis: A,
+    n: u64,
+    ghost stands: { Stands (A.axis axis) n },
+}
+
+fn stand<A: Axis>(axis: A) -> Result<Standing<A>, Refusal>
+    ensures axis_is { IfOk result (λ s. s.axis ≡ axis) }
+    ensures n_is { and_then (tell result) (λ s. given s.n) ≡ count_answer (A.axis axis) }
 {
-    match step {
-        Step::One => ends.admitted(),
-        Step::By(d) => Linspacei32 {
-            inner: ends,
-            step: d,
-        }
-        .admitted(),
+    let n = some_entries(axis.count()?)?;
+    Ok(Standing { axis, n })
+}
+
+impl<A: Axis> Standing<A> {
+    // Where the segment of v begins.
+    #[tactic(auto, using(crate::proofs::Rules::place_at))]
+    fn start(&self, v: A::Value, film: &Narrowed) -> Result<i32, Refusal>
+        requires { (A.axis self.now.axis).fit v ≡ true }
+        ensures { tell result ≡ spot_answer ((A.axis self.now.axis).spot v film.now.within) }
+    {
+        self.axis.place(v, film.within)
     }
-}
 
-// The count of an axis that segments can stand on.
-pub(crate) fn segments(ends: RangedCoordi32, step: Step) -> Count
-    ensures { tell_count result ≡ count_answer (axis_of ends.0 ends.1 step) }
-{
-    match step {
-        Step::One => some_entries(ends.size()),
-        Step::By(d) => some_entries(Linspacei32 {
-            inner: ends,
-            step: d,
-        }
-        .size()),
-    }
-}
-
-// Entry k. That of a whole axis is a + k, so that the axis need not be asked for it.
-fn entry(ends: RangedCoordi32, step: Step, n: u64, k: u64) -> Value
-    requires { Stands (axis_of ends.0 ends.1 step) n }
-    ensures { tell_value result ≡ (axis_of ends.0 ends.1 step).entry k }
-{
-    match step {
-        Step::One => {
-            if k < n {
-                return Value::At(ends.0 + k as i32);
+    // The entry behind that at the index of v.
+    fn next(&self, way: A::Way, v: A::Value) -> Result<Option<A::Value>, Refusal>
+        requires { (A.axis self.now.axis).fit v ≡ true }
+        ensures { tell_found result ≡ next_answer (A.axis self.now.axis) (A.finder self.now.axis way) v }
+    {
+        match self.axis.find(way, v)? {
+            None => Ok(None),
+            Some(k) => {
+                if self.n <= k {
+                    return Ok(None);
+                }
+                self.axis.entry(k + 1)
             }
-            Value::Nothing
         }
-        Step::By(d) => Linspacei32 {
-            inner: ends,
-            step: d,
-        }
-        .from_index(k),
     }
-}
 
-// The index of v; of a stepped list that which the search finds. A whole axis is not searched, and does not look at the method.
-fn find(ends: RangedCoordi32, step: Step, n: u64, method: RoundingMethod, v: i32) -> Index
-    requires stands { Stands (axis_of ends.0 ends.1 step) n }
-    requires v_value { whole_admitted v ≡ true }
-    ensures { tell_index result ≡ segment_index_of (axis_of ends.0 ends.1 step) (finder_of ends.0 ends.1 step method) (exact v) }
-{
-    match step {
-        Step::One => ends.index_of(v),
-        Step::By(d) => Linspacei32 {
-            inner: ends,
-            step: d,
+    // The place of the entry behind that at the index of v.
+    fn place_after(&self, way: A::Way, v: A::Value, film: &Narrowed) -> Result<Option<i32>, Refusal>
+        requires { (A.axis self.now.axis).fit v ≡ true }
+        ensures { tell_found result ≡ after_answer (A.axis self.now.axis) (A.finder self.now.axis way) v film.now.within }
+    {
+        match self.next(way, v)? {
+            None => Ok(None),
+            Some(w) => Ok(Some(self.start(w, film)?)),
         }
-        .index_of(v, method),
+    }
+
+    // The middle of the segment of v: half way to where the next one begins; where there is none, half the margin further.
+    fn middle(&self, way: A::Way, v: A::Value, film: &Narrowed) -> Result<i32, Refusal>
+        requires { (A.axis self.now.axis).fit v ≡ true }
+        ensures { tell result ≡ middle_by (film.now.limit.1 -ℤ film.now.within.1) (spot_answer ((A.axis self.now.axis).spot v film.now.within)) (after_answer (A.axis self.now.axis) (A.finder self.now.axis way) v film.now.within) }
+    {
+        let left = self.start(v, film)?;
+        match self.place_after(way, v, film)? {
+            None => Ok(film.beside(left)),
+            Some(right) => Ok(between(left, right)),
+        }
+    }
+
+    // The place of a value.
+    fn place_of(
+        &self,
+        way: A::Way,
+        value: SegmentValue<A::Value>,
+        limit: Limit,
+    ) -> Result<i32, Refusal>
+        requires value_value { fit_in (A.axis self.now.axis) value ≡ true }
+        requires limit_value { limit_admitted limit ≡ true }
+        ensures { tell result ≡ placed_answer (A.axis self.now.axis) (A.finder self.now.axis way) value limit }
+    {
+        let film = Shares { n: self.n as u32 }.narrow(limit);
+        match value {
+            SegmentValue::Exact(v) => self.start(v, &film),
+            SegmentValue::CenterOf(v) => self.middle(way, v, &film),
+            SegmentValue::Last => Ok(limit.1),
+        }
+    }
+
+    // The value at index k of n entries and one more.
+    fn segment_at(&self, k: u64) -> Result<Option<SegmentValue<A::Value>>, Refusal>
+        ensures { tell_found result ≡ segment_at (A.axis self.now.axis) k }
+    {
+        if k == self.n {
+            return Ok(Some(SegmentValue::Last));
+        }
+        match self.axis.entry(k)? {
+            None => Ok(None),
+            Some(v) => Ok(Some(SegmentValue::Exact(v))),
+        }
     }
 }
 
 // Whether the axis and the number that a value carries are admitted.
-fn fits(ends: RangedCoordi32, step: Step, value: SegmentValuei32) -> bool
-    ensures { result ≡ ((axis_of ends.0 ends.1 step).admitted && fit_in (axis_of ends.0 ends.1 step) (whole_segment value)) }
+fn fits<A: Axis>(axis: A, value: SegmentValue<A::Value>) -> bool
+    ensures { result ≡ ((A.axis axis).admitted && fit_in (A.axis axis) value) }
 {
-    if !admitted(ends, step) {
+    if !axis.admitted() {
         return false;
     }
-    value_fits(value)
-}
-
-// The entry behind that at the index of v.
-fn next(ends: RangedCoordi32, step: Step, n: u64, method: RoundingMethod, v: i32) -> Value
-    requires stands { Stands (axis_of ends.0 ends.1 step) n }
-    requires v_value { whole_admitted v ≡ true }
-    ensures { tell_value result ≡ next_answer (axis_of ends.0 ends.1 step) (finder_of ends.0 ends.1 step method) v }
-{
-    match find(ends, step, n, method, v) {
-        Index::Refused(r) => Value::Refused(r),
-        Index::Nothing => Value::Nothing,
-        Index::At(k) => {
-            if n <= k {
-                return Value::Nothing;
-            }
-            entry(ends, step, n, k + 1)
-        }
-    }
-}
-
-// The place of the entry behind that at the index of v, within limits.
-fn place_after(
-    ends: RangedCoordi32,
-    step: Step,
-    n: u64,
-    method: RoundingMethod,
-    v: i32,
-    within: Limit,
-) -> Value
-    requires stands { Stands (axis_of ends.0 ends.1 step) n }
-    requires v_value { whole_admitted v ≡ true }
-    requires within_value { limit_admitted within ≡ true }
-    ensures { tell_value result ≡ after_answer (axis_of ends.0 ends.1 step) (finder_of ends.0 ends.1 step method) v within }
-{
-    match next(ends, step, n, method, v) {
-        Value::Refused(r) => Value::Refused(r),
-        Value::Nothing => Value::Nothing,
-        Value::At(w) => known_place(ends.map(w, within)),
-    }
-}
-
-// The place of a value on an axis with n entries.
-fn place_of(
-    ends: RangedCoordi32,
-    step: Step,
-    n: u64,
-    method: RoundingMethod,
-    value: SegmentValuei32,
-    limit: Limit,
-) -> Place
-    requires stands { Stands (axis_of ends.0 ends.1 step) n }
-    requires value_value { fit_in (axis_of ends.0 ends.1 step) (whole_segment value) ≡ true }
-    requires limit_value { limit_admitted limit ≡ true }
-    ensures { tell_place result ≡ placed_answer (axis_of ends.0 ends.1 step) (finder_of ends.0 ends.1 step method) (whole_segment value) limit }
-{
-    let within = narrow(n as u32, limit);
     match value {
-        SegmentValuei32::Exact(v) => ends.map(v, within),
-        SegmentValuei32::CenterOf(v) => middle_of(
-            ends.map(v, within),
-            place_after(ends, step, n, method, v, within),
-            limit,
-            within,
-        ),
-        SegmentValuei32::Last => Place::At(limit.1),
-    }
-}
-
-// The value at index k of n entries and one more.
-fn segment_at(ends: RangedCoordi32, step: Step, n: u64, k: u64) -> Segmenti32
-    requires { Stands (axis_of ends.0 ends.1 step) n }
-    ensures { tell_segment result ≡ segment_at (axis_of ends.0 ends.1 step) k }
-{
-    if k == n {
-        return Segmenti32::At(SegmentValuei32::Last);
-    }
-    match entry(ends, step, n, k) {
-        Value::Refused(r) => Segmenti32::Refused(r),
-        Value::Nothing => Segmenti32::Nothing,
-        Value::At(v) => Segmenti32::At(SegmentValuei32::Exact(v)),
+        SegmentValue::Exact(v) | SegmentValue::CenterOf(v) => axis.fits(v),
+        SegmentValue::Last => true,
     }
 }
 
 // The index of v on an axis with segments.
-fn index_at(ends: RangedCoordi32, step: Step, method: RoundingMethod, v: i32) -> Index
-    ensures { tell_index result ≡ segment_index_of (axis_of ends.0 ends.1 step) (finder_of ends.0 ends.1 step method) (exact v) }
+fn index_at<A: Axis>(axis: A, way: A::Way, v: A::Value) -> Result<Option<u64>, Refusal>
+    ensures { tell_found result ≡ segment_index_of (A.axis axis) (A.finder axis way) (exact v) }
 {
-    if !ranged1d::whole_admitted(v) {
-        return Index::Refused(Refusal::WholeNotAdmitted);
+    if !axis.fits(v) {
+        return Err(Refusal::WholeNotAdmitted);
     }
-    match segments(ends, step) {
-        Count::Refused(r) => Index::Refused(r),
-        Count::Of(n) => find(ends, step, n, method, v),
-    }
-}
-
-// A value for each entry, and `Last`.
-pub(crate) fn size(ends: RangedCoordi32, step: Step) -> Count
-    ensures { tell_count result ≡ segment_size (axis_of ends.0 ends.1 step) }
-{
-    match segments(ends, step) {
-        Count::Refused(r) => Count::Refused(r),
-        Count::Of(n) => Count::Of(n + 1),
-    }
+    stand(axis)?;
+    axis.find(way, v)
 }
 
 // The place of a value. The middle of a segment lies half way to the entry behind that at the index of its number.
-pub(crate) fn map(
-    ends: RangedCoordi32,
-    step: Step,
-    method: RoundingMethod,
-    value: SegmentValuei32,
+pub(crate) fn map_by<A: Axis>(
+    axis: A,
+    way: A::Way,
+    value: SegmentValue<A::Value>,
     limit: Limit,
-) -> Place
-    ensures { tell_place result ≡ segment_place (axis_of ends.0 ends.1 step) (finder_of ends.0 ends.1 step method) (whole_segment value) limit }
+) -> Result<i32, Refusal>
+    ensures { tell result ≡ segment_place (A.axis axis) (A.finder axis way) value limit }
 {
-    if !fits(ends, step, value) {
-        return Place::Refused(Refusal::WholeNotAdmitted);
+    if !fits(axis, value) {
+        return Err(Refusal::WholeNotAdmitted);
     }
     if !limit.admitted() {
-        return Place::Refused(Refusal::LimitNotAdmitted);
+        return Err(Refusal::LimitNotAdmitted);
     }
-    match segments(ends, step) {
-        Count::Refused(r) => Place::Refused(r),
-        Count::Of(n) => place_of(ends, step, n, method, value, limit),
-    }
+    stand(axis)?.place_of(way, value, limit)
 }
 
 // The index of a value: that of its number, of a whole axis past the end too; `Last` stands behind all entries.
-pub(crate) fn index_of(
-    ends: RangedCoordi32,
-    step: Step,
-    method: RoundingMethod,
-    value: SegmentValuei32,
-) -> Index
-    ensures { tell_index result ≡ segment_index_of (axis_of ends.0 ends.1 step) (finder_of ends.0 ends.1 step method) (whole_segment value) }
+pub(crate) fn index_by<A: Axis>(
+    axis: A,
+    way: A::Way,
+    value: SegmentValue<A::Value>,
+) -> Result<Option<u64>, Refusal>
+    ensures { tell_found result ≡ segment_index_of (A.axis axis) (A.finder axis way) value }
 {
     match value {
-        SegmentValuei32::Exact(v) => index_at(ends, step, method, v),
-        SegmentValuei32::CenterOf(v) => index_at(ends, step, method, v),
-        SegmentValuei32::Last => match segments(ends, step) {
-            Count::Refused(r) => Index::Refused(r),
-            Count::Of(n) => Index::At(n),
-        },
+        SegmentValue::Exact(v) | SegmentValue::CenterOf(v) => index_at(axis, way, v),
+        SegmentValue::Last => Ok(Some(stand(axis)?.n)),
     }
 }
 
-// The value at index k: `Exact` of entry k, then `Last`.
-pub(crate) fn from_index(ends: RangedCoordi32, step: Step, k: u64) -> Segmenti32
-    ensures { tell_segment result ≡ segment_from_index (axis_of ends.0 ends.1 step) k }
-{
-    match segments(ends, step) {
-        Count::Refused(r) => Segmenti32::Refused(r),
-        Count::Of(n) => segment_at(ends, step, n, k),
+impl<A: Axis> Segmented<A> {
+    // A value for each entry, and `Last`.
+    pub fn size(self) -> Result<u64, Refusal>
+        ensures { tell result ≡ segment_size (A.axis self.0) }
+    {
+        Ok(stand(self.0)?.n + 1)
+    }
+
+    // The value at index k: `Exact` of entry k, then `Last`.
+    pub fn from_index(self, k: u64) -> Result<Option<SegmentValue<A::Value>>, Refusal>
+        ensures { tell_found result ≡ segment_from_index (A.axis self.0) k }
+    {
+        stand(self.0)?.segment_at(k)
+    }
+
+    // The value that pixel x is read as.
+    pub fn unmap(self, x: i32, limit: Limit) -> Result<Option<SegmentValue<A::Value>>, Refusal>
+        ensures { tell_found result ≡ segment_reading (A.axis self.0) x limit }
+    {
+        if !self.0.admitted() {
+            return Err(Refusal::WholeNotAdmitted);
+        }
+        if !limit.admits(x) {
+            return Err(Refusal::LimitNotAdmitted);
+        }
+        let all = stand(self.0)?;
+        match discrete::pixel_index(x, limit, all.n as u32 + 1)? {
+            None => Ok(None),
+            Some(k) => all.segment_at(k),
+        }
+    }
+
+    // The marks of the axis, each standing for the middle of its segment, written to the start of out: m bounds their number.
+    pub fn key_points(self, m: u32, out: &mut [A::Value]) -> Result<A::Told, Refusal>
+        ensures { (tell result, out.new) ≡ segment_key_points (A.axis self.0) (A.told self.0 m) m out.old }
+    {
+        self.0.marks(m, out)
     }
 }
 
-// The value that pixel x is read as.
-pub(crate) fn unmap(ends: RangedCoordi32, step: Step, x: i32, limit: Limit) -> Segmenti32
-    ensures { tell_segment result ≡ segment_reading (axis_of ends.0 ends.1 step) x limit }
-{
-    if !admitted(ends, step) {
-        return Segmenti32::Refused(Refusal::WholeNotAdmitted);
+// Where a search finds a value.
+impl<A: Axis<Way = RoundingMethod>> Segmented<A> {
+    // The place of a value, whose number, for the middle of its segment, is found by the search.
+    pub fn map(
+        self,
+        method: RoundingMethod,
+        value: SegmentValue<A::Value>,
+        limit: Limit,
+    ) -> Result<i32, Refusal>
+        ensures { tell result ≡ segment_place (A.axis self.0) (A.finder self.0 method) value limit }
+    {
+        map_by(self.0, method, value, limit)
     }
-    if !limit.admits(x) {
-        return Segmenti32::Refused(Refusal::LimitNotAdmitted);
-    }
-    match segments(ends, step) {
-        Count::Refused(r) => Segmenti32::Refused(r),
-        Count::Of(n) => match discrete::pixel_index(x, limit, n as u32 + 1) {
-            Index::Refused(r) => Segmenti32::Refused(r),
-            Index::Nothing => Segmenti32::Nothing,
-            Index::At(k) => segment_at(ends, step, n, k),
-        },
+
+    // The index of a value: that which the search finds for its number; `Last` stands behind all entries.
+    pub fn index_of(
+        self,
+        method: RoundingMethod,
+        value: SegmentValue<A::Value>,
+    ) -> Result<Option<u64>, Refusal>
+        ensures { tell_found result ≡ segment_index_of (A.axis self.0) (A.finder self.0 method) value }
+    {
+        index_by(self.0, method, value)
     }
 }

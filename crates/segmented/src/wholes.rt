@@ -1,68 +1,80 @@
-// Segments over a whole axis, on which values are not searched for: it does not matter which search is named to the calls of below.rt.
+// Segments over a whole axis, whose values are not searched for.
 ghost use Rattle.std.specs.Prelude.{◌≡◌, length, pos};
-ghost use Rattle.discrete.specs.Index.{tell_index};
-ghost use Rattle.numeric.specs.Calls.{tell_marks};
 ghost use Rattle.numeric.specs.Marks.{marks, step_of};
-ghost use Rattle.numeric.specs.Whole.{tell_count};
-ghost use Rattle.real.specs.Place.{tell_place};
-ghost use Rattle.segmented.specs.Values.{whole_segment, tell_segment};
-ghost use Rattle.segmented.specs.Segments.{segment_place, segment_size, segment_index_of, segment_from_index, segment_reading, segment_key_points};
+ghost use Rattle.ranged1d.specs.Told.{tell, tell_found};
+ghost use Rattle.segmented.specs.Segments.{segment_place, segment_index_of};
 ghost use Rattle.segmented.specs.Axes.{whole_axis, whole_finder};
+ghost use Rattle.segmented.specs.Regular.{whole-regular};
 
-use crate::below::Step;
-use crate::{SegmentValuei32, SegmentedCoordi32, Segmenti32, below};
-use discrete::Index;
-use numeric::{Count, Marks, Place, Planned};
-use ranged1d::Limit;
-use search::RoundingMethod;
+use crate::below::{index_by, map_by};
+use crate::{Axis, SegmentValue, Segmented, some_entries};
+use numeric::RangedCoordi32;
+use ranged1d::{Limit, Refusal};
 
-impl SegmentedCoordi32 {
-    // A value for each entry, and `Last`.
-    pub fn size(self) -> Count
-        ensures { tell_count result ≡ segment_size (whole_axis self.0.0 self.0.1) }
-    {
-        below::size(self.0, Step::One)
+impl Axis for RangedCoordi32 {
+    type Value = i32;
+
+    type Way = ();
+
+    type Told = (i32, usize);
+
+    ghost axis = { λ x. whole_axis x.0 x.1 };
+
+    ghost finder = { λ x way. whole_finder x.0 };
+
+    ghost told = { λ x m. (pos (step_of x.0 x.1 m), length (marks x.0 x.1 m)) };
+
+    fn admitted(self) -> bool {
+        RangedCoordi32::admitted(self)
     }
 
+    fn fits(self, v: i32) -> bool {
+        ranged1d::whole_admitted(v)
+    }
+
+    #[tactic(auto, using(crate::proofs::WholeRules::size_by))]
+    fn count(self) -> Result<u64, Refusal> {
+        RangedCoordi32::size(self)
+    }
+
+    fn entry(self, k: u64) -> Result<Option<i32>, Refusal> {
+        if k < self.size()? {
+            return Ok(Some(self.0 + k as i32));
+        }
+        Ok(None)
+    }
+
+    #[tactic(auto, using(crate::proofs::WholeRules::index_by))]
+    fn find(self, _: (), v: i32) -> Result<Option<u64>, Refusal> {
+        self.index_of(v)
+    }
+
+    #[tactic(auto, using(crate::proofs::WholeRules::place_by))]
+    fn place(self, v: i32, limit: Limit) -> Result<i32, Refusal> {
+        self.map(v, limit)
+    }
+
+    fn marks(self, m: u32, out: &mut [i32]) -> Result<(i32, usize), Refusal> {
+        self.plan(m)?;
+        some_entries(self.size()?)?;
+        self.key_points(m, out)
+    }
+
+    ghost regular = { λ x. whole-regular x.0 x.1 };
+}
+
+impl Segmented<RangedCoordi32> {
     // The place of a value.
-    pub fn map(self, value: SegmentValuei32, limit: Limit) -> Place
-        ensures { tell_place result ≡ segment_place (whole_axis self.0.0 self.0.1) (whole_finder self.0.0) (whole_segment value) limit }
+    pub fn map(self, value: SegmentValue<i32>, limit: Limit) -> Result<i32, Refusal>
+        ensures { tell result ≡ segment_place (whole_axis self.0.0 self.0.1) (whole_finder self.0.0) value limit }
     {
-        below::map(self.0, Step::One, RoundingMethod::Exact, value, limit)
+        map_by(self.0, (), value, limit)
     }
 
     // The index of a value: that of its number, which may lie past the end; `Last` stands behind all entries.
-    pub fn index_of(self, value: SegmentValuei32) -> Index
-        ensures { tell_index result ≡ segment_index_of (whole_axis self.0.0 self.0.1) (whole_finder self.0.0) (whole_segment value) }
+    pub fn index_of(self, value: SegmentValue<i32>) -> Result<Option<u64>, Refusal>
+        ensures { tell_found result ≡ segment_index_of (whole_axis self.0.0 self.0.1) (whole_finder self.0.0) value }
     {
-        below::index_of(self.0, Step::One, RoundingMethod::Exact, value)
-    }
-
-    // The value at index k: `Exact` of entry k, then `Last`.
-    pub fn from_index(self, k: u64) -> Segmenti32
-        ensures { tell_segment result ≡ segment_from_index (whole_axis self.0.0 self.0.1) k }
-    {
-        below::from_index(self.0, Step::One, k)
-    }
-
-    // The value that pixel x is read as.
-    pub fn unmap(self, x: i32, limit: Limit) -> Segmenti32
-        ensures { tell_segment result ≡ segment_reading (whole_axis self.0.0 self.0.1) x limit }
-    {
-        below::unmap(self.0, Step::One, x, limit)
-    }
-
-    // The marks of the axis, each standing for the middle of its segment, written to the start of out: m bounds their number.
-    pub fn key_points(self, m: u32, out: &mut [i32]) -> Marks
-        ensures { (tell_marks result, out.new) ≡ segment_key_points (whole_axis self.0.0 self.0.1) (pos (step_of self.0.0 self.0.1 m), length (marks self.0.0 self.0.1 m)) m out.old }
-    {
-        let axis = self.0;
-        match axis.plan(m) {
-            Planned::Refused(r) => Marks::Refused(r),
-            Planned::Points(_) => match below::segments(axis, Step::One) {
-                Count::Refused(r) => Marks::Refused(r),
-                Count::Of(_) => axis.key_points(m, out),
-            },
-        }
+        index_by(self.0, (), value)
     }
 }

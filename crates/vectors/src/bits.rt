@@ -1,29 +1,79 @@
 // Numbers as the 64 bits in which a line has them.
-// The low half of x, and an i32 as 64 bits in two's complement.
-pub(crate) fn low_half(x: u64) -> u32 {
-    (x % 4294967296) as u32
+
+use std::num::{f64_from_bits_with_nan, f64_to_bits_with_nan};
+
+pub(crate) trait Word: Copy {
+    // What stands in every place of a list before a call. No line has it as an entry.
+    const UNSET: Self;
+
+    fn of_word(word: u64) -> Self;
+
+    fn word(self) -> u64;
 }
 
-pub(crate) fn bits(v: i32) -> u64 {
-    let size = ranged1d::unsigned_abs(v) as u64;
-    if v < 0 {
-        return std::num::wrapping_sub_u64(0, size);
+// In two's complement; the low half of the word.
+impl Word for i32 {
+    const UNSET: i32 = 2000000001;
+
+    fn of_word(word: u64) -> i32 {
+        u32::of_word(word).cast_signed()
     }
-    size
+
+    fn word(self) -> u64 {
+        i64::from(self).cast_unsigned()
+    }
 }
 
-// The f64 with the pattern x, and back. Above the pattern of the infinity, its sign left out, every pattern is that of a NaN; the
-// lines have one pattern for all of them.
-pub(crate) fn double(x: u64) -> f64 {
-    if 9218868437227405312 < x % 9223372036854775808 {
-        return 0.0 / 0.0;
+impl Word for u32 {
+    const UNSET: u32 = 2000000001;
+
+    fn of_word(word: u64) -> u32 {
+        (word & 0xffff_ffff) as u32
     }
-    f64::from_bits(x)
+
+    fn word(self) -> u64 {
+        u64::from(self)
+    }
 }
 
-pub(crate) fn pattern(y: f64) -> u64 {
-    if y != y {
-        return 9221120237041090560;
+impl Word for u64 {
+    const UNSET: u64 = 2000000001;
+
+    fn of_word(word: u64) -> u64 {
+        word
     }
-    f64::to_bits(y)
+
+    fn word(self) -> u64 {
+        self
+    }
+}
+
+impl Word for usize {
+    const UNSET: usize = 2000000001;
+
+    fn of_word(word: u64) -> usize {
+        word as usize
+    }
+
+    fn word(self) -> u64 {
+        self as u64
+    }
+}
+
+// By its pattern; the lines have one for all NaNs.
+impl Word for f64 {
+    const UNSET: f64 = 2000000001.0;
+
+    fn of_word(word: u64) -> f64 {
+        f64_from_bits_with_nan(word)
+    }
+
+    fn word(self) -> u64 {
+        f64_to_bits_with_nan(self)
+    }
+}
+
+// Word k of the line, or 0 where it has none.
+pub(crate) fn at<T: Word>(numbers: &[u64], k: usize) -> T {
+    T::of_word(numbers.get(k).copied().unwrap_or(0))
 }

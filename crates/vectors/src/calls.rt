@@ -1,188 +1,103 @@
 // Lines on the calls that answer with one number: the arguments, then 0 and the answer, or -1 for none, or the number of the refusal.
-ghost use Rattle.std.specs.Prelude.{◌≤◌, length};
+// Kept: a line for each call, over whole and over real numbers, since each names another call of the library.
+ghost use Rattle.std.specs.Prelude.{◌<◌};
 
-use crate::bits::{bits, double, low_half, pattern};
-use discrete::Index;
-use numeric::{Count, Place, RangedCoordf64, RangedCoordi32, RealReading, Value};
+use crate::bits::{Word, at};
+use numeric::{RangedCoordf64, RangedCoordi32};
 use ranged1d::{Limit, Refusal};
 
-// What a call gave: the code, and after 0 its answers, one number or two.
-#[derive(Drop)]
-pub struct Outcome {
-    pub code: u64,
-    pub answers: usize,
-    pub first: u64,
-    pub second: u64,
-}
+// -1 in two's complement.
+const NOTHING: u64 = u64::MAX;
 
-fn answered(answer: u64) -> Outcome {
-    Outcome {
-        code: 0,
-        answers: 1,
-        first: answer,
-        second: 0,
+// Whether the line has after its first `args` numbers these words and nothing more.
+fn ends(numbers: &[u64], args: usize, words: &[u64]) -> bool {
+    match numbers.get(args..) {
+        Some(answer) => answer == words,
+        None => false,
     }
 }
 
-pub(crate) fn answered_two(first: u64, second: u64) -> Outcome {
-    Outcome {
-        code: 0,
-        answers: 2,
-        first,
-        second,
+pub(crate) fn same_nothing(numbers: &[u64], args: usize) -> bool {
+    ends(numbers, args, &[NOTHING])
+}
+
+pub(crate) fn same_refusal(numbers: &[u64], args: usize, r: Refusal) -> bool {
+    ends(numbers, args, &[u64::from(r.number())])
+}
+
+pub(crate) fn same_answer(numbers: &[u64], args: usize, answer: u64) -> bool {
+    ends(numbers, args, &[0, answer])
+}
+
+pub(crate) fn same_two(numbers: &[u64], args: usize, first: u64, second: u64) -> bool {
+    ends(numbers, args, &[0, first, second])
+}
+
+// Whether the line, after `args` arguments, has what a call gave.
+pub(crate) fn same<T: Word>(numbers: &[u64], args: usize, x: Result<T, Refusal>) -> bool {
+    match x {
+        Ok(answer) => same_answer(numbers, args, answer.word()),
+        Err(r) => same_refusal(numbers, args, r),
     }
 }
 
-fn without(code: u64) -> Outcome {
-    Outcome {
-        code,
-        answers: 0,
-        first: 0,
-        second: 0,
+pub(crate) fn same_found<T: Word>(
+    numbers: &[u64],
+    args: usize,
+    x: Result<Option<T>, Refusal>,
+) -> bool {
+    match x {
+        Ok(Some(answer)) => same_answer(numbers, args, answer.word()),
+        Ok(None) => same_nothing(numbers, args),
+        Err(r) => same_refusal(numbers, args, r),
     }
-}
-
-// -1 in two's complement
-pub(crate) fn nothing() -> Outcome {
-    without(u64::MAX)
-}
-
-pub(crate) fn refused(r: Refusal) -> Outcome {
-    without(r.number() as u64)
-}
-
-pub(crate) fn of_place(p: Place) -> Outcome {
-    match p {
-        Place::At(x) => answered(bits(x)),
-        Place::Refused(r) => refused(r),
-    }
-}
-
-pub(crate) fn of_value(v: Value) -> Outcome {
-    match v {
-        Value::At(z) => answered(bits(z)),
-        Value::Nothing => nothing(),
-        Value::Refused(r) => refused(r),
-    }
-}
-
-pub(crate) fn of_index(i: Index) -> Outcome {
-    match i {
-        Index::At(k) => answered(k),
-        Index::Nothing => nothing(),
-        Index::Refused(r) => refused(r),
-    }
-}
-
-pub(crate) fn of_count(c: Count) -> Outcome {
-    match c {
-        Count::Of(n) => answered(n),
-        Count::Refused(r) => refused(r),
-    }
-}
-
-pub(crate) fn of_reading(y: RealReading) -> Outcome {
-    match y {
-        RealReading::At(v) => answered(pattern(v)),
-        RealReading::Nothing => nothing(),
-        RealReading::Refused(r) => refused(r),
-    }
-}
-
-// Whether the line of n numbers, `args` of them arguments, has this outcome and nothing after it.
-pub(crate) fn same(numbers: &[u64], n: usize, args: usize, o: Outcome) -> bool
-    requires { n ≤ length numbers.now }
-{
-    if n <= args {
-        return false;
-    }
-    if numbers[args] != o.code {
-        return false;
-    }
-    if n - args - 1 != o.answers {
-        return false;
-    }
-    if o.answers == 0 {
-        return true;
-    }
-    if numbers[args + 1] != o.first {
-        return false;
-    }
-    if o.answers == 1 {
-        return true;
-    }
-    numbers[args + 2] == o.second
-}
-
-pub(crate) fn word(numbers: &[u64], k: usize) -> u64 {
-    if k < numbers.len() { numbers[k] } else { 0 }
-}
-
-pub(crate) fn whole(numbers: &[u64], k: usize) -> i32 {
-    ranged1d::signed(low_half(word(numbers, k)))
-}
-
-pub(crate) fn real(numbers: &[u64], k: usize) -> f64 {
-    double(word(numbers, k))
 }
 
 pub(crate) fn whole_axis(numbers: &[u64]) -> RangedCoordi32 {
-    RangedCoordi32(whole(numbers, 0), whole(numbers, 1))
+    RangedCoordi32(at(numbers, 0), at(numbers, 1))
 }
 
 pub(crate) fn real_axis(numbers: &[u64]) -> RangedCoordf64 {
-    RangedCoordf64(real(numbers, 0), real(numbers, 1))
+    RangedCoordf64(at(numbers, 0), at(numbers, 1))
 }
 
-// The limits that are words p and q of the line.
-pub(crate) fn limit(numbers: &[u64], p: usize, q: usize) -> Limit {
-    Limit(whole(numbers, p), whole(numbers, q))
-}
-
-pub(crate) fn whole_map(numbers: &[u64], n: usize) -> bool
-    requires { n ≤ length numbers.now }
+// The limits that are words k and k + 1 of the line.
+pub(crate) fn limit(numbers: &[u64], k: usize) -> Limit
+    requires { k < 64 }
 {
-    let x = whole_axis(numbers).map(whole(numbers, 2), limit(numbers, 3, 4));
-    same(numbers, n, 5, of_place(x))
+    Limit(at(numbers, k), at(numbers, k + 1))
 }
 
-pub(crate) fn real_map(numbers: &[u64], n: usize) -> bool
-    requires { n ≤ length numbers.now }
-{
-    let x = real_axis(numbers).map(real(numbers, 2), limit(numbers, 3, 4));
-    same(numbers, n, 5, of_place(x))
+pub(crate) fn whole_map(numbers: &[u64]) -> bool {
+    let x = whole_axis(numbers).map(at(numbers, 2), limit(numbers, 3));
+    same(numbers, 5, x)
 }
 
-pub(crate) fn size(numbers: &[u64], n: usize) -> bool
-    requires { n ≤ length numbers.now }
-{
-    same(numbers, n, 2, of_count(whole_axis(numbers).size()))
+pub(crate) fn real_map(numbers: &[u64]) -> bool {
+    let x = real_axis(numbers).map(at(numbers, 2), limit(numbers, 3));
+    same(numbers, 5, x)
 }
 
-pub(crate) fn index_of(numbers: &[u64], n: usize) -> bool
-    requires { n ≤ length numbers.now }
-{
-    let k = whole_axis(numbers).index_of(whole(numbers, 2));
-    same(numbers, n, 3, of_index(k))
+pub(crate) fn size(numbers: &[u64]) -> bool {
+    same(numbers, 2, whole_axis(numbers).size())
 }
 
-pub(crate) fn from_index(numbers: &[u64], n: usize) -> bool
-    requires { n ≤ length numbers.now }
-{
-    let v = whole_axis(numbers).from_index(word(numbers, 2));
-    same(numbers, n, 3, of_value(v))
+pub(crate) fn index_of(numbers: &[u64]) -> bool {
+    let k = whole_axis(numbers).index_of(at(numbers, 2));
+    same_found(numbers, 3, k)
 }
 
-pub(crate) fn whole_unmap(numbers: &[u64], n: usize) -> bool
-    requires { n ≤ length numbers.now }
-{
-    let v = whole_axis(numbers).unmap(whole(numbers, 2), limit(numbers, 3, 4));
-    same(numbers, n, 5, of_value(v))
+pub(crate) fn from_index(numbers: &[u64]) -> bool {
+    let v = whole_axis(numbers).from_index(at(numbers, 2));
+    same_found(numbers, 3, v)
 }
 
-pub(crate) fn real_unmap(numbers: &[u64], n: usize) -> bool
-    requires { n ≤ length numbers.now }
-{
-    let v = real_axis(numbers).unmap(whole(numbers, 2), limit(numbers, 3, 4));
-    same(numbers, n, 5, of_reading(v))
+pub(crate) fn whole_unmap(numbers: &[u64]) -> bool {
+    let v = whole_axis(numbers).unmap(at(numbers, 2), limit(numbers, 3));
+    same_found(numbers, 5, v)
+}
+
+pub(crate) fn real_unmap(numbers: &[u64]) -> bool {
+    let v = real_axis(numbers).unmap(at(numbers, 2), limit(numbers, 3));
+    same_found(numbers, 5, v)
 }

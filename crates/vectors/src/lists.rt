@@ -1,192 +1,82 @@
 // Lines on calls that write to a lent list: the arguments, then 0, the step where the call tells one, the count and the entries, or the
 // number of the refusal. What is not written has to be as it was.
-ghost use Rattle.std.specs.Prelude.{◌≤◌, length};
+ghost use Rattle.std.specs.Prelude.{◌<◌};
 
-use crate::bits::{bits, pattern};
-use crate::calls::{refused, same, word};
-use numeric::{IndexMarks, Marks};
-use ranged1d::{Listed, Refusal};
+use crate::bits::{Word, at};
+use crate::calls::same_refusal;
+use ranged1d::Refusal;
 
-// What stands in every place of a list before the call. No line has it as an entry.
-pub(crate) const WHOLE: i32 = 2000000001;
+// What a call gave: the step where it tells one, and the count; or why it was refused.
+pub(crate) type Told = Result<(Option<u64>, usize), Refusal>;
 
-pub(crate) const REAL: f64 = 2000000001.0;
-
-pub(crate) const INDEX: usize = 2000000001;
-
-// What a call gave: a count, or a step and a count.
-#[derive(Drop)]
-pub enum Told {
-    Entries(usize),
-    Marks(u64, usize),
-    Refused(Refusal),
+pub(crate) fn counted(x: Result<usize, Refusal>) -> Told {
+    let count = x?;
+    Ok((None, count))
 }
 
-pub(crate) fn of_listed(l: Listed) -> Told {
-    match l {
-        Listed::Written(count) => Told::Entries(count),
-        Listed::Refused(r) => Told::Refused(r),
-    }
+pub(crate) fn marked<S: Word>(x: Result<(S, usize), Refusal>) -> Told {
+    let (step, count) = x?;
+    Ok((Some(step.word()), count))
 }
 
-pub(crate) fn of_marks(m: Marks) -> Told {
-    match m {
-        Marks::Written(step, count) => Told::Marks(bits(step), count),
-        Marks::Refused(r) => Told::Refused(r),
-    }
-}
-
-pub(crate) fn of_index_marks(m: IndexMarks) -> Told {
-    match m {
-        IndexMarks::Written(step, count) => Told::Marks(step as u64, count),
-        IndexMarks::Refused(r) => Told::Refused(r),
-    }
-}
-
-// What place k holds after the call: one of the `count` entries that end the line, or what it held before.
-fn held(numbers: &[u64], n: usize, count: usize, k: usize, before: u64) -> u64
-    requires n_in_bounds { n ≤ length numbers.now }
-    requires count_le_n { count ≤ n }
-{
-    if k < count {
-        return numbers[n - count + k];
-    }
-    before
-}
-
-fn holds(numbers: &[u64], n: usize, count: usize, list: &[u64; 64], before: u64) -> bool
-    requires n_in_bounds { n ≤ length numbers.now }
-    requires count_le_n { count ≤ n }
-{
-    let mut k = 0;
-    while k < 64 {
-        if list[k] != held(numbers, n, count, k, before) {
-            return false;
-        }
-        k += 1;
-    }
-    true
-}
-
-// Whether the line has this count at `at`, that many entries after it and no more, and the list holds them.
-fn same_entries(
-    numbers: &[u64],
-    n: usize,
-    at: usize,
+// The entries that end the line, where it has after `args` arguments this step and this count.
+fn entries<'a>(
+    numbers: &'a [u64],
+    args: usize,
+    step: Option<u64>,
     count: usize,
-    list: &[u64; 64],
-    before: u64,
-) -> bool
-    requires { n ≤ length numbers.now }
-{
-    if n <= at {
-        return false;
-    }
-    if numbers[at] != count as u64 {
-        return false;
-    }
-    if n - at - 1 != count {
-        return false;
-    }
-    if 64 < count {
-        return false;
-    }
-    holds(numbers, n, count, list, before)
+) -> Option<&'a [u64]> {
+    let told = numbers.get(args..)?.strip_prefix(&[0])?;
+    let rest = match step {
+        Some(s) => told.strip_prefix(&[s])?,
+        None => told,
+    };
+    rest.strip_prefix(&[count as u64])
 }
 
-// Whether the line of n numbers, `args` of them arguments, has this and nothing after it, and the list, whose every place held `before`,
-// holds its entries and no others.
-pub(crate) fn same_list(
-    numbers: &[u64],
-    n: usize,
-    args: usize,
-    told: Told,
-    list: &[u64; 64],
-    before: u64,
-) -> bool
-    requires { n ≤ length numbers.now }
-{
-    if n <= args {
-        return false;
+fn unset<T: Word>(list: &[T]) -> bool {
+    list.iter().all(|x| x.word() == T::UNSET.word())
+}
+
+// Whether the list begins with these entries, and is as it was behind them.
+fn holds<T: Word>(list: &[T], entries: &[u64]) -> bool {
+    match list.split_at_checked(entries.len()) {
+        Some((written, rest)) => {
+            written
+                .iter()
+                .zip(entries)
+                .all(|(x, word)| x.word() == *word)
+                && unset(rest)
+        }
+        None => false,
     }
-    let code = numbers[args];
+}
+
+// Whether the line has this after `args` arguments and nothing more, and the list holds its entries and no others.
+pub(crate) fn same_list<T: Word>(numbers: &[u64], args: usize, told: Told, list: &[T]) -> bool {
     match told {
-        Told::Entries(count) => {
-            if code != 0 {
-                return false;
-            }
-            same_entries(numbers, n, args + 1, count, list, before)
-        }
-        Told::Marks(step, count) => {
-            if code != 0 {
-                return false;
-            }
-            if word(numbers, args + 1) != step {
-                return false;
-            }
-            same_entries(numbers, n, args + 2, count, list, before)
-        }
-        Told::Refused(r) => {
-            if !same(numbers, n, args, refused(r)) {
-                return false;
-            }
-            holds(numbers, n, 0, list, before)
-        }
+        Ok((step, count)) => match entries(numbers, args, step, count) {
+            Some(written) => written.len() == count && holds(list, written),
+            None => false,
+        },
+        Err(r) => same_refusal(numbers, args, r) && unset(list),
     }
 }
 
-fn wholes(list: &[i32; 64]) -> [u64; 64] {
-    let mut words = [0u64; 64];
-    let mut k = 0;
-    while k < 64 {
-        words[k] = bits(list[k]);
-        k += 1;
-    }
-    words
-}
-
-fn reals(list: &[f64; 64]) -> [u64; 64] {
-    let mut words = [0u64; 64];
-    let mut k = 0;
-    while k < 64 {
-        words[k] = pattern(list[k]);
-        k += 1;
-    }
-    words
-}
-
-pub(crate) fn indices(list: &[usize; 64]) -> [u64; 64] {
-    let mut words = [0u64; 64];
-    let mut k = 0;
-    while k < 64 {
-        words[k] = list[k] as u64;
-        k += 1;
-    }
-    words
-}
-
-pub(crate) fn same_wholes(
+// The same of a call that is lent as many places of the list as the last of its `args` arguments says.
+pub(crate) fn same_lent<T: Word, F: FnOnce(&mut [T]) -> Told>(
     numbers: &[u64],
-    n: usize,
     args: usize,
-    told: Told,
-    list: &[i32; 64],
+    list: &mut [T],
+    call: F,
 ) -> bool
-    requires { n ≤ length numbers.now }
+    requires positive { 0 < args }
+    requires callable { F.IsAlwaysCallable call }
 {
-    let words = wholes(list);
-    same_list(numbers, n, args, told, &words, bits(WHOLE))
-}
-
-pub(crate) fn same_reals(
-    numbers: &[u64],
-    n: usize,
-    args: usize,
-    told: Told,
-    list: &[f64; 64],
-) -> bool
-    requires { n ≤ length numbers.now }
-{
-    let words = reals(list);
-    same_list(numbers, n, args, told, &words, pattern(REAL))
+    let size: usize = at(numbers, args - 1);
+    let told = match list.get_mut(..size) {
+        Some(out) => call(out),
+        None => return false,
+    };
+    same_list(numbers, args, told, list)
 }

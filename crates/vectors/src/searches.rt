@@ -1,65 +1,51 @@
 // Lines on searches of a list: the number of entries, the entries, the target, the method, and what is returned.
 ghost use Rattle.std.specs.Prelude.{◌≤◌, length};
 
-use crate::calls::{of_index, real, same, whole, word};
+use crate::bits::{Word, at};
+use crate::calls::same_found;
+use ranged1d::Refusal;
 use search::RoundingMethod;
 
 // 0 exact, 1 up, 2 down, 3 nearest; the lines have no other.
-pub(crate) fn method(x: u64) -> RoundingMethod {
-    if x == 0 {
-        return RoundingMethod::Exact;
-    }
-    if x == 1 {
-        return RoundingMethod::Ceil;
-    }
-    if x == 2 {
-        return RoundingMethod::Floor;
-    }
-    RoundingMethod::Round
-}
-
-fn fill_wholes(numbers: &[u64], list: &mut [i32]) {
-    let mut k = 0;
-    while k < list.len() {
-        list[k] = whole(numbers, k + 1);
-        k += 1;
+pub(crate) fn method(numbers: &[u64], k: usize) -> RoundingMethod {
+    let by: u64 = at(numbers, k);
+    match by {
+        0 => RoundingMethod::Exact,
+        1 => RoundingMethod::Ceil,
+        2 => RoundingMethod::Floor,
+        _ => RoundingMethod::Round,
     }
 }
 
-fn fill_reals(numbers: &[u64], list: &mut [f64]) {
-    let mut k = 0;
-    while k < list.len() {
-        list[k] = real(numbers, k + 1);
-        k += 1;
-    }
-}
-
-pub(crate) fn whole_search(numbers: &[u64], n: usize) -> bool
-    requires { n ≤ length numbers.now }
+fn same_search<T: Word, F: FnOnce(&[T], T, RoundingMethod) -> Result<Option<u64>, Refusal>>(
+    numbers: &[u64],
+    list: &mut [T],
+    search: F,
+) -> bool
+    requires callable { F.IsAlwaysCallable search }
+    requires short { length list.old ≤ 64 }
 {
-    let size = word(numbers, 0) as usize;
-    if 64 < size {
-        return false;
+    let size: usize = at(numbers, 0);
+    for (k, place) in list.iter_mut().enumerate() {
+        *place = at(numbers, k + 1);
     }
-    let mut list = [0i32; 64];
-    fill_wholes(numbers, &mut list);
-    let target = whole(numbers, size + 1);
-    let by = method(word(numbers, size + 2));
-    let found = search::search_whole(&list[0..size], target, by);
-    same(numbers, n, size + 3, of_index(found))
+    match list.get(..size) {
+        Some(entries) => {
+            let found = search(entries, at(numbers, size + 1), method(numbers, size + 2));
+            same_found(numbers, size + 3, found)
+        }
+        None => false,
+    }
 }
 
-pub(crate) fn real_search(numbers: &[u64], n: usize) -> bool
-    requires { n ≤ length numbers.now }
-{
-    let size = word(numbers, 0) as usize;
-    if 64 < size {
-        return false;
-    }
-    let mut list = [0.0; 64];
-    fill_reals(numbers, &mut list);
-    let target = real(numbers, size + 1);
-    let by = method(word(numbers, size + 2));
-    let found = search::search_real(&list[0..size], target, by);
-    same(numbers, n, size + 3, of_index(found))
+pub(crate) fn whole_search(numbers: &[u64]) -> bool {
+    same_search(numbers, &mut [i32::UNSET; 64], |entries, target, by| {
+        search::search_whole(entries, target, by)
+    })
+}
+
+pub(crate) fn real_search(numbers: &[u64]) -> bool {
+    same_search(numbers, &mut [f64::UNSET; 64], |entries, target, by| {
+        search::search_real(entries, target, by)
+    })
 }

@@ -12,7 +12,8 @@ use Rattle.ranged1d.specs.Answer.{Answer, given, refused}
 use Rattle.ranged1d.proofs.Bools.{both_true, or_right, yes_or, le_or}
 use Rattle.week.specs.Week.{Window, windows_of, meets, misplaced, in_window, runs, passing}
 use Rattle.week.specs.Theorems.{lengths}
-use Rattle.week.specs.Steps.{fits_from, carried_to, looked_at, walked}
+use Rattle.week.specs.Steps.{fits_from, carried_to, running_in, clock_in, or_before, walked}
+use Rattle.week.specs.declared.Counted.{Counted}
 use Rattle.week.proofs.Counts.{many_none, many_yes, many_no, many_zero, many_either}
 
 -- ---- the tests of the walk, all together: k is the least minute at which the next window may begin
@@ -26,11 +27,11 @@ either true c w h r = r h
 either false c w h r = refl
 
 -- where one fails the walk is refused
-pub walk_refused : (t : Bool) (x k seen : ℕ) (found : Answer ℕ) (l : List ℕ) → okay k l ≡ false → walked t x k seen found l ≡ refused 26
+pub walk_refused : (f : Counted → Answer ℕ) (k seen : ℕ) (found : Answer ℕ) (l : List ℕ) → okay k l ≡ false → walked f k seen found l ≡ refused 26
 unfolding walked
-walk_refused t x k seen found [] h = absurd (true≢false h)
-walk_refused t x k seen found (a ∷ []) h = refl
-walk_refused t x k seen found (a ∷ (e ∷ l)) h = either (fits_from k a e) _ _ h (walk_refused t x (e + 1) (seen + (e - a)) (looked_at t found a e seen x) l)
+walk_refused f k seen found [] h = absurd (true≢false h)
+walk_refused f k seen found (a ∷ []) h = refl
+walk_refused f k seen found (a ∷ (e ∷ l)) h = either (fits_from k a e) _ _ h (walk_refused f (e + 1) (seen + (e - a)) (or_before (f (record { first = a; end = e; seen = seen })) found) l)
 
 -- ---- they are the tests of the rule
 later : (x a : ℕ) → leb (x + 1) a ≡ not (leb a x)
@@ -168,12 +169,15 @@ before-end k (v ∷ w) f m h = go (yes_or (in_window v m)) (before-end (v.end + 
     go (inl e) r = omega (arith, ltb-true m v.end (both_true (leb v.first m) (ltb m v.end) e).1, f.2)
     go (inr e) r = r (rw e at h)
 
--- ---- what the walk finds
-carry_in : (found : Answer ℕ) (from n to x : ℕ) → from ≤ x → x < from + n → carried_to found from n to x ≡ given (to + (x - from))
+-- ---- what the walk finds: in a window, else before
+abbrev carried_over : Answer ℕ → ℕ → ℕ → ℕ → ℕ → Answer ℕ
+carried_over found from n to x = or_before (carried_to from n to x) found
+
+carry_in : (found : Answer ℕ) (from n to x : ℕ) → from ≤ x → x < from + n → carried_over found from n to x ≡ given (to + (x - from))
 unfolding carried_to
 carry_in found from n to x h l = rw (le-leb from x h, lt-ltb x (from + n) l)
 
-carry_out : (found : Answer ℕ) (from n to x : ℕ) → (x < from) ⊎ (from + n ≤ x) → carried_to found from n to x ≡ found
+carry_out : (found : Answer ℕ) (from n to x : ℕ) → (x < from) ⊎ (from + n ≤ x) → carried_over found from n to x ≡ found
 unfolding carried_to
 carry_out found from n to x (inl l) = rw (lt-leb from x l)
 carry_out found from n to x (inr l) = rw (le-leb from x (omega arith), le-ltb x (from + n) l)
@@ -202,7 +206,7 @@ module _ (k x seen : ℕ) (found : Answer ℕ) (v : Window) (w : List Window) (f
   within_yes : (m : ℕ) → v.first ≤ m → m < v.end → runs (v ∷ w) m ≡ true
   within_yes m h l = rw (le-leb v.first m h, lt-ltb m v.end l)
 
-  step_clock : ByClock x (seen + (v.end - v.first)) (carried_to found v.first (v.end - v.first) seen x) w a → ByClock x seen found (v ∷ w) a
+  step_clock : ByClock x (seen + (v.end - v.first)) (carried_over found v.first (v.end - v.first) seen x) w a → ByClock x seen found (v ∷ w) a
   step_clock r = go (le_or v.first x) (le_or v.end x)
     where
       outside : (x < v.first) ⊎ (v.first + (v.end - v.first) ≤ x) → in_window v x ≡ false → ByClock x seen found (v ∷ w) a
@@ -222,7 +226,7 @@ module _ (k x seen : ℕ) (found : Answer ℕ) (v : Window) (w : List Window) (f
             ∙ ap (λ (n : ℕ). given (seen + n)) (sym (inside x h l)),
       )
 
-  step_running : ByRunning x (seen + (v.end - v.first)) (carried_to found seen (v.end - v.first) v.first x) w a → ByRunning x seen found (v ∷ w) a
+  step_running : ByRunning x (seen + (v.end - v.first)) (carried_over found seen (v.end - v.first) v.first x) w a → ByRunning x seen found (v ∷ w) a
   step_running r = (out, λ h l. hit h l (le_or (seen + (v.end - v.first)) x))
     where
       out : (x < seen) ⊎ (seen + ((v.end - v.first) + lengths w) ≤ x) → a ≡ found
@@ -240,7 +244,7 @@ module _ (k x seen : ℕ) (found : Answer ℕ) (v : Window) (w : List Window) (f
           let s = r.1 q (omega arith) in
           (s.0, s.1, or_right (in_window v s.0) (runs w s.0) s.2, omega (arith, s.3, behind s.0 (beyond k v w f s.0 s.2)))
 
-pub finds_clock : (x k seen : ℕ) (found : Answer ℕ) (l : List ℕ) → okay k l ≡ true → ByClock x seen found (windows_of l) (walked true x k seen found l)
+pub finds_clock : (x k seen : ℕ) (found : Answer ℕ) (l : List ℕ) → okay k l ≡ true → ByClock x seen found (windows_of l) (walked (running_in x) k seen found l)
 unfolding walked
 finds_clock x k seen found [] h = (λ d. refl, λ d. absurd (true≢false (sym d)))
 finds_clock x k seen found (a ∷ []) h = absurd (true≢false (sym h))
@@ -248,9 +252,9 @@ finds_clock x k seen found (a ∷ (e ∷ l)) h =
     let b = both_true (fits_from k a e) (okay (e + 1) l) h in
     let v : Window = record { first = a; end = e } in
     step_clock k x seen found v (windows_of l) (okay_fine k (a ∷ (e ∷ l)) h) _
-    (rw b.0 (finds_clock x (e + 1) (seen + (e - a)) (carried_to found a (e - a) seen x) l b.1))
+    (rw b.0 (finds_clock x (e + 1) (seen + (e - a)) (carried_over found a (e - a) seen x) l b.1))
 
-pub finds_running : (x k seen : ℕ) (found : Answer ℕ) (l : List ℕ) → okay k l ≡ true → ByRunning x seen found (windows_of l) (walked false x k seen found l)
+pub finds_running : (x k seen : ℕ) (found : Answer ℕ) (l : List ℕ) → okay k l ≡ true → ByRunning x seen found (windows_of l) (walked (clock_in x) k seen found l)
 unfolding walked
 finds_running x k seen found [] h = (λ d. refl, λ d e. absurd (omega arith))
 finds_running x k seen found (a ∷ []) h = absurd (true≢false (sym h))
@@ -258,4 +262,4 @@ finds_running x k seen found (a ∷ (e ∷ l)) h =
     let b = both_true (fits_from k a e) (okay (e + 1) l) h in
     let v : Window = record { first = a; end = e } in
     step_running k x seen found v (windows_of l) (okay_fine k (a ∷ (e ∷ l)) h) _
-    (rw b.0 (finds_running x (e + 1) (seen + (e - a)) (carried_to found seen (e - a) a x) l b.1))
+    (rw b.0 (finds_running x (e + 1) (seen + (e - a)) (carried_over found seen (e - a) a x) l b.1))

@@ -2,15 +2,6 @@
 -- is a natural number. Assumes nothing.
 use Rattle.std.specs.Prelude.{ℕ, zero, suc, ◌%◌, Bool, false, cond, ◌&&◌, ◌||◌, List, [], ◌∷◌, leb, ltb, eqb, length}
 use Rattle.ranged1d.specs.Answer.{Answer, given, none, refused, Reason, ◌when◌, lowest}
-use Rattle.ranged1d.specs.Refusals.{number_of}
-use Rattle.week.specs.declared.Minute.{Minute}
-use Rattle.week.specs.declared.Minute.TheVariants as minute_is
-
--- ---- the answer's cases, by 02's values and numbers
-abbrev pub tell_minute : Minute → Answer ℕ
-tell_minute (minute_is.At m) = given m
-tell_minute minute_is.Nothing = none
-tell_minute (minute_is.Refused r) = refused (number_of r)
 
 -- ---- a window: its first minute, and the minute after its last one, which is its end
 pub record Window : Type 0 where

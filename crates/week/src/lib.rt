@@ -2,105 +2,102 @@
 // row, two for each: its first minute, and its end, which is no longer part of it.
 #![tactic(auto)]
 
-ghost use Rattle.std.specs.Prelude.{◌≡◌, ◌+◌, ◌≤◌, ◌<◌};
-ghost use Rattle.week.specs.Week.{tell_minute, running_minute, clock_minute};
-ghost use Rattle.week.specs.Steps.{fits_from, carried_to, looked_at, surveyed};
+ghost use Rattle.std.specs.Prelude.{◌≡◌, ℕ, ◌+◌, ◌≤◌, ◌<◌};
+ghost use Rattle.ranged1d.specs.Answer.{Answer};
+ghost use Rattle.ranged1d.specs.Told.{tell_option, tell_found};
+ghost use Rattle.week.specs.Week.{running_minute, clock_minute};
+ghost use Rattle.week.specs.Steps.{fits_from, carried_to, surveyed, OfTheWeek, Carries};
 
 use ranged1d::Refusal;
 
+// A window, and how many window minutes come before it.
 #[derive(Clone, Copy)]
-pub enum Minute {
-    At(u32),
-    Nothing,
-    Refused(Refusal),
+struct Counted {
+    first: u32,
+    end: u32,
+    seen: u32,
+}
+
+impl Counted {
+    ghost use Rattle.week.specs.Steps.{OfTheWeek, running_in, clock_in};
+
+    // A clock minute's running minute, if it is one of the window's.
+    fn running(self, clock: u32) -> Option<u32>
+        requires { OfTheWeek self }
+        ensures { tell_option result ≡ running_in clock self }
+    {
+        carried(self.first, self.end - self.first, self.seen, clock)
+    }
+
+    // A running minute's clock minute, if it is one of the window's.
+    // Kept: beside `running`, of which it is the way back: one line each over `carried`.
+    fn clock(self, running: u32) -> Option<u32>
+        requires { OfTheWeek self }
+        ensures { tell_option result ≡ clock_in running self }
+    {
+        carried(self.seen, self.end - self.first, self.first, running)
+    }
 }
 
 // Whether a window may come where `next` is the least minute at which it may begin.
 fn fits(next: u32, first: u32, end: u32) -> bool
     ensures { result ≡ fits_from next first end }
 {
-    if first < next {
-        return false;
-    }
-    if end <= first {
-        return false;
-    }
-    end <= 10080
+    next <= first && first < end && end <= 10080
 }
 
-// x, if it lies in a stretch of n minutes that begins at `from`, at the same place of a stretch that begins at `to`; else what was found before.
-fn carried(found: Minute, from: u32, n: u32, to: u32, x: u32) -> Minute
+// x, if it lies in a stretch of n minutes that begins at `from`, at the same place of a stretch that begins at `to`.
+fn carried(from: u32, n: u32, to: u32, x: u32) -> Option<u32>
     requires { to + n ≤ 4294967295 }
-    ensures { tell_minute result ≡ carried_to (tell_minute found) from n to x }
+    ensures { tell_option result ≡ carried_to from n to x }
 {
     if x < from {
-        return found;
+        return None;
     }
     if n <= x - from {
-        return found;
+        return None;
     }
-    Minute::At(to + (x - from))
+    Some(to + (x - from))
 }
 
-// A clock minute is carried from the window to the running minutes, of which `seen` come before it; a running minute the other way.
-fn look(by_clock: bool, found: Minute, first: u32, end: u32, seen: u32, x: u32) -> Minute
-    requires first_lt_end { (first < end) × (end ≤ 10080) }
-    requires seen_bound { seen ≤ 10080 }
-    ensures { tell_minute result ≡ looked_at by_clock (tell_minute found) first end seen x }
+// Once over the windows, never over minutes: whether they are a running week, and what `carry` finds in one of them.
+fn survey<F: Fn(Counted) -> Option<u32>>(windows: &[u32], carry: F) -> Result<Option<u32>, Refusal>
+    requires { (w : Counted) → OfTheWeek w → F.pre carry w }
+    ensures { (f : Counted → Answer ℕ) → Carries (F.post carry) f → tell_found result ≡ surveyed f windows.now }
 {
-    if by_clock {
-        return carried(found, first, end - first, seen, x);
+    let (pairs, alone) = windows.as_chunks::<2>();
+    if 32 < pairs.len() || !alone.is_empty() {
+        return Err(Refusal::BadWeek);
     }
-    carried(found, seen, end - first, first, x)
-}
-
-// Once over the windows, never over minutes: whether they are a running week, and where x is carried.
-fn survey(windows: &[u32], by_clock: bool, x: u32) -> Minute
-    ensures { tell_minute result ≡ surveyed by_clock x windows.now }
-{
-    if 64 < windows.len() {
-        return Minute::Refused(Refusal::BadWeek);
-    }
-    let mut found = Minute::Nothing;
-    let mut next: u32 = 0;
-    let mut seen: u32 = 0;
-    let mut i = 0;
-    while i + 1 < windows.len() {
-        let first = windows[i];
-        let end = windows[i + 1];
+    let mut found = None;
+    let mut next = 0;
+    let mut seen = 0;
+    for &[first, end] in pairs {
         if !fits(next, first, end) {
-            return Minute::Refused(Refusal::BadWeek);
+            return Err(Refusal::BadWeek);
         }
-        found = look(by_clock, found, first, end, seen, x);
+        found = carry(Counted { first, end, seen }).or(found);
         seen += end - first;
         next = end + 1;
-        i += 2;
     }
-    if i < windows.len() {
-        return Minute::Refused(Refusal::BadWeek);
-    }
-    found
+    Ok(found)
 }
 
 // The running minute of a clock minute: the number of window minutes before it.
-pub fn running(windows: &[u32], clock: u32) -> Minute
-    ensures { tell_minute result ≡ running_minute windows.now clock }
+pub fn running(windows: &[u32], clock: u32) -> Result<Option<u32>, Refusal>
+    ensures { tell_found result ≡ running_minute windows.now clock }
 {
-    let m = survey(windows, true, clock);
-    if clock <= 10079 {
-        return m;
-    }
+    let found = survey(windows, |window| window.running(clock))?;
     // 26 comes before 27
-    match m {
-        Minute::Refused(r) => Minute::Refused(r),
-        Minute::Nothing => Minute::Refused(Refusal::BadMinute),
-        Minute::At(_) => Minute::Refused(Refusal::BadMinute),
+    if 10079 < clock {
+        return Err(Refusal::BadMinute);
     }
+    Ok(found)
 }
 
 // The clock minute whose running minute is this one.
-pub fn clock(windows: &[u32], running: u32) -> Minute
-    ensures { tell_minute result ≡ clock_minute windows.now running }
+pub fn clock(windows: &[u32], running: u32) -> Result<Option<u32>, Refusal>
+    ensures { tell_found result ≡ clock_minute windows.now running }
 {
-    survey(windows, false, running)
+    survey(windows, |window| window.clock(running))
 }

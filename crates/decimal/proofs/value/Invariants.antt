@@ -1,12 +1,7 @@
-use mathlib.Core.Path.{◌≡◌}
-use Prim.Native.Nat.{◌-◌, ◌≤◌}
-use lib.ListN.{length, drop}
+use Rattle.std.proofs.Common.{◌≡◌, ◌+◌, ◌*◌, ◌^◌, ◌≤◌, drop}
 use Rattle.decimal.specs.Read.{value_of}
-use Rattle.decimal.proofs.Texts.{Room}
 use Rattle.decimal.proofs.value.Given as goal
 
-abbrev pub invariant-loop-i : goal.invariant-loop-i
-invariant-loop-i l = (l.i ≤ length l.s) × (value_of 0 (drop l.at l.s) ≡ value_of l.n (drop l.i l.s)) × Room (11 - l.i) l.n
-
-abbrev pub decreases-loop-i : goal.decreases-loop-i
-decreases-loop-i l = length l.s - l.i
+-- the value so far, followed by what is left
+abbrev pub invariant-loop-c : goal.invariant-loop-c
+invariant-loop-c l = (value_of 0 l.s ≡ value_of l.n (drop l.c-index l.s)) × (l.n + 23 ≤ 23 * 10 ^ l.c-index)

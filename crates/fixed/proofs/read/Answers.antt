@@ -1,38 +1,20 @@
 -- `fixed::read` what the search leaves.
-use mathlib.Core.Path.{sym, ap, ◌∙◌}
-use mathlib.Core.Bool.{true, false}
-use Prim.Native.Nat.{ℕ}
-use lib.IntN.{ℤ}
-use Rattle.fixed.specs.Steps.{keep_admitted, with_sign}
-use Rattle.fixed.proofs.Calls.{read_24, read_by, read_long, number-minus, number-plain}
+use Rattle.std.proofs.Common.{rules, ℕ, ◌≡◌, ◌∙◌, ap}
+use Rattle.std.specs.Prelude.{Err}
+use Rattle.ranged1d.specs.Answer.{refused}
+use Rattle.ranged1d.specs.Told.{tell}
+use Rattle.fixed.specs.Steps.{printed}
+use Rattle.fixed.proofs.Calls.{few, many, read_24, read_by, or-25}
 use Rattle.fixed.proofs.read.Goals as goal
 
-pub returns-then-decimals-gt6 : goal.returns-then-decimals-gt6
-returns-then-decimals-gt6 c = let a = c.args in read_24 a.text.now a.decimals c.if-decimals-gt6.true
-
-pub returns-then-text-gt12 : goal.returns-then-text-gt12
-returns-then-text-gt12 c = let a = c.args in read_long a.text.now a.decimals c.if-decimals-gt6.false c.if-text-gt12.true
-
-pub returns-then-is_negative : goal.returns-then-is_negative
-returns-then-is_negative c =
-    let v = c.before.before in
-    let t = v.before in
-    let e = t.before in
-    let one = e.before.before in
-    let a = one.args in
-    c.number_of.ensures
-    ∙ ap (λ (n : ℕ). keep_admitted a.decimals a.text.now (with_sign true n)) v.value.ensures
-    ∙ ap (λ (z : ℤ). keep_admitted a.decimals a.text.now z) (number-minus a.text.now a.decimals (sym e.is_negative.ensures ∙ t.if-is_negative.true))
-    ∙ read_by a.text.now a.decimals one.if-decimals-gt6.false
+pub returns-in_err-f : goal.returns-in_err-f
+returns-in_err-f c =
+    let a : c.from_residual.result ≡ Err c.in_err-f.field-0.0 = search rules in
+    let m = many c.args.decimals _ c.in_err-f.ensures in
+    rw a (ap (λ (n : ℕ). refused n) m.1 ∙ read_24 c.args.text.now c.args.decimals m.0)
 
 pub returns : goal.returns
 returns c =
-    let v = c.before.before in
-    let t = v.before in
-    let e = t.before in
-    let one = e.before.before in
-    let a = one.args in
-    c.number_of-2.ensures
-    ∙ ap (λ (n : ℕ). keep_admitted a.decimals a.text.now (with_sign false n)) v.value-2.ensures
-    ∙ ap (λ (z : ℤ). keep_admitted a.decimals a.text.now z) (number-plain a.text.now a.decimals (sym e.is_negative.ensures ∙ t.if-is_negative.false))
-    ∙ read_by a.text.now a.decimals one.if-decimals-gt6.false
+    let few = few c.args.decimals _ c.in_ok-f.ensures in
+    let s = c.args.text.now in
+    ap tell c.ok_or.ensures.value ∙ or-25 c.printed.result c.args.decimals s (c.printed.ensures ∙ ap (λ (f : ℕ). printed f s) few.1) ∙ read_by s c.args.decimals few.0

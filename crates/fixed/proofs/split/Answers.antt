@@ -1,30 +1,35 @@
--- `fixed::split` what the search leaves: what is still to be written gives what is to be written at first.
-use mathlib.Core.Path.{◌≡◌, sym, ap, ◌∙◌}
-use Prim.Native.Nat.{ℕ, ◌+◌, ◌/◌, ◌%◌, ◌^◌, ◌<◌}
-use native.Mathlib.Omega.{arith}
-use lib.ListN.{length, length-set}
-use Rattle.fixed.proofs.Fractions.{Put, put_step, put_none, rest_step, rest-none}
+-- `fixed::split` what the search leaves.
+use Rattle.std.proofs.Common.{◌≡◌, ◌+◌, ◌%◌, ◌/◌, ◌^◌, ℕ, List, set, ◌-◌, ◌∙◌, ap, refl, arith}
+use Rattle.fixed.specs.Fixed.{last_digits}
+use Rattle.fixed.proofs.Fractions.{Put, put-digit, put-point, put-start, put-none, no-fraction, fraction-length, rest-one, rest-none}
 use Rattle.fixed.proofs.split.Goals as goal
 
-pub loop-j-preserved : goal.loop-j-preserved
-loop-j-preserved c =
-    let at = c.before in
-    let o = at.loop-j.tail in
-    let j = at.loop-j.j in
-    let m = at.loop-j.m in
-    let i = at.loop-j.invariant in
-    let h : j < length o = omega arith in (
-      length-set o j (48 + m % 10) ∙ i.0,
-      rw (length-set o j (48 + m % 10)) (omega arith),
-      i.2 ∙ put_step o j m c.loop-j-test.true h,
-      i.3 ∙ rest_step j m c.loop-j-test.true,
+pub returns-then-f-eq0-clause-written : goal.returns-then-f-eq0-clause-written
+returns-then-f-eq0-clause-written c = put-none c.args.bytes.now (omega arith) c.args.f c.args.n c.if-f-eq0.true
+
+pub returns-then-f-eq0-clause-end : goal.returns-then-f-eq0-clause-end
+returns-then-f-eq0-clause-end c = omega (arith, no-fraction c.args.f c.args.n c.if-f-eq0.true)
+
+pub loop-k-init : goal.loop-k-init
+loop-k-init c = (put-start c.args.bytes.now (omega arith) c.args.n, rest-none 0 c.args.n refl)
+
+pub loop-k-preserved : goal.loop-k-preserved
+loop-k-preserved c =
+    let k = c.loop-k.k in
+    let n = c.args.n in
+    let d : c.loop-k.rest % 10 ≡ n / 10 ^ k % 10 = ap (λ (m : ℕ). m % 10) c.loop-k.invariant.1 in (
+      ap (λ (l : List ℕ). set l (11 - k) (48 + c.loop-k.rest % 10)) c.loop-k.invariant.0 ∙ put-digit c.args.bytes.now (omega arith) k n (c.loop-k.rest % 10) (omega arith) d,
+      ap (λ (m : ℕ). m / 10) c.loop-k.invariant.1 ∙ rest-one k n,
     )
 
-pub returns : goal.returns
-returns c =
-    let at = c.before in
-    let i = at.loop-j.invariant in
-    let e : at.loop-j.j ≡ 0 = omega arith in (
-      sym (i.2 ∙ ap (λ (k : ℕ). Put at.loop-j.tail k at.loop-j.m) e ∙ put_none at.loop-j.tail at.loop-j.m),
-      sym (i.3 ∙ ap (λ (k : ℕ). at.loop-j.m / 10 ^ k) e ∙ rest-none at.loop-j.m),
-    )
+pub returns-clause-written : goal.returns-clause-written
+returns-clause-written c =
+    let e : c.loop-k.k ≡ c.args.f = omega arith in
+    ap (λ (l : List ℕ). set l (11 - c.args.f) 46) (c.loop-k.invariant.0 ∙ ap (λ (k : ℕ). Put c.args.bytes.now k (last_digits k c.args.n)) e)
+    ∙ put-point c.args.bytes.now (omega arith) c.args.f c.args.n c.if-f-eq0.false (omega arith)
+
+pub returns-clause-end : goal.returns-clause-end
+returns-clause-end c = omega (arith, fraction-length c.args.f c.args.n c.if-f-eq0.false)
+
+pub returns-clause-rest : goal.returns-clause-rest
+returns-clause-rest c = let e : c.loop-k.k ≡ c.args.f = omega arith in c.loop-k.invariant.1 ∙ ap (λ (k : ℕ). c.args.n / 10 ^ k) e

@@ -1,32 +1,38 @@
--- `fixed::value` what the search leaves: the value so far, followed by what is left.
-use mathlib.Core.Path.{refl, sym, ap, ◌∙◌}
-use Prim.Native.Nat.{ℕ, ◌+◌, ◌-◌}
-use native.Mathlib.Omega.{arith}
-use lib.ListN.{drop}
+-- `fixed::value` what the search leaves.
+use Rattle.std.proofs.Common.{ℕ, ◌≡◌, ◌+◌, ◌*◌, ◌∙◌, sym, ap, drop, length, arith}
 use Rattle.decimal.specs.Read.{value_of}
-use Rattle.decimal.proofs.Texts.{room_bound}
+use Rattle.decimal.proofs.Texts.{value-more, value-below}
 use Rattle.fixed.specs.Fixed.{unpointed}
-use Rattle.fixed.proofs.Texts.{value_on, value-end, room_start, room_step}
+use Rattle.fixed.proofs.Texts.{value-point, value-digit, value-end, value-stays}
 use Rattle.fixed.proofs.value.Goals as goal
+use Rattle.fixed.proofs.value.Goals.{then-c-ne46, else-c-ne46}
 
-pub loop-i-init : goal.loop-i-init
-loop-i-init c = let at = c.before.before in (at.requires.1, refl, room_start at.args.at at.requires.0)
+pub overflow_mul-n : goal.overflow_mul-n
+overflow_mul-n c = let small = value-below c.loop-c.c-index c.loop-c.n (omega arith) c.loop-c.invariant.1 in omega arith
 
-pub on-n-requires : goal.on-n-requires
-on-n-requires c = let at = c.before.before in room_bound (12 - at.loop-i.i) at.loop-i.n at.loop-i.invariant.2
+pub overflow_add-n : goal.overflow_add-n
+overflow_add-n c = let small = value-below c.loop-c.c-index c.loop-c.n (omega arith) c.loop-c.invariant.1 in omega arith
 
-pub loop-i-preserved : goal.loop-i-preserved
-loop-i-preserved c =
-    let at = c.before.before.before.before in
-    let s = at.args.s.now in
-    let i = at.loop-i.i in
-    let n = at.loop-i.n in (
-      omega arith,
-      at.loop-i.invariant.1 ∙ value_on s i n c.loop-i-test.true ∙ ap (λ (x : ℕ). value_of x (unpointed (drop (i + 1) s))) (sym c.on-n.ensures.0),
-      room_step i n c.on-n.result (omega arith) c.on-n.ensures.1 at.loop-i.invariant.2,
-    )
+pub loop-c-preserved : goal.loop-c-preserved
+loop-c-preserved c =
+    let s = c.args.s.now in
+    let i = c.loop-c.c-index in
+    let n = c.loop-c.n in
+    let before = c.loop-c.invariant in
+    let byte = c.type_inv.s i in
+    elim c.if-c-ne46.branch [
+      | then-c-ne46 w ↦ rw w.n-is (
+        before.0 ∙ value-digit s i n c.loop-c-test.true w.if-c-ne46.true ∙ ap (λ (d : ℕ). value_of (n * 10 + d) (unpointed (drop (i + 1) s))) (sym w.saturating_sub.ensures),
+        value-more i n w.saturating_sub.result (omega arith) before.1,
+      )
+      | else-c-ne46 w ↦ rw w.n-is (before.0 ∙ value-point s i n c.loop-c-test.true w.if-c-ne46.false, value-stays i n before.1)
+    ]
 
 pub returns : goal.returns
 returns c =
-    let at = c.before.before in
-    sym (at.loop-i.invariant.1 ∙ value-end at.args.s.now at.loop-i.i at.loop-i.n c.loop-i-test.false)
+    let all : c.loop-c.c-index ≡ length c.args.s.now = omega arith in
+    let small = value-below c.loop-c.c-index c.loop-c.n (omega arith) c.loop-c.invariant.1 in
+    record {
+      value = sym (c.loop-c.invariant.0 ∙ ap (λ (i : ℕ). value_of c.loop-c.n (unpointed (drop i c.args.s.now))) all ∙ value-end c.args.s.now c.loop-c.n);
+      small = omega arith;
+    }

@@ -1,45 +1,27 @@
--- `float::float_to_string` what the search leaves.
-use mathlib.Core.Path.{◌≡◌, refl}
-use Prim.Native.Nat.{◌+◌, ◌-◌, ◌≤◌}
-use native.Mathlib.Omega.{arith}
-use lib.ListN.{length}
+use Rattle.std.proofs.Common.{◌≡◌, ◌+◌, length, ap, refl, arith}
 use Rattle.ranged1d.proofs.Answers.{too_short}
-use Rattle.decimal.proofs.Digits.{Told, long_told}
 use Rattle.float.specs.Text.{front}
-use Rattle.float.specs.Steps.{bytes_of}
-use Rattle.float.proofs.Lists.{front_long, bytes-length, bytes_stored, text_held}
-use Rattle.float.proofs.float_to_string.Lts as lts
-use Rattle.float.proofs.float_to_string.Reads as reads
-use Rattle.float.proofs.float_to_string.Tie as tie
+use Rattle.float.specs.Steps.{parts, bytes_of}
+use Rattle.float.proofs.Lists.{text_kept, front_long, bytes-length, bytes_put, text_held}
 use Rattle.float.proofs.float_to_string.Goals as goal
-
-abbrev at-After-struct_known2 : Type 0
-at-After-struct_known2 = lts.After-struct_known2 tie.the-claims reads.Pre reads.Post tie.handed_clauses
-
--- the sign and the whole part
-label : (c : at-After-struct_known2) → Told 21 c.long_label-text.result.blanks c.long_label-text.result.bytes (front c.args.t.minus c.args.t.whole)
-label c =
-    let t = c.args.t in
-    long_told (front t.minus t.whole) (front_long t.minus t.whole) c.long_label-text.ensures
 
 pub returns-then-out-need : goal.returns-then-out-need
 returns-then-out-need c =
-    let h = c.before.before in
-    let k = h.before in
-    let s = k.before.before.before.before in
-    let a = s.args in
-    too_short (bytes_of a.t a.e) a.out.now (length (bytes_of a.t a.e)) refl (omega (arith, c.if-out-need.true, (label k).count, h.tail_length.ensures, bytes-length a.t a.e s.requires.fact_2))
+    let i = c.t.inside in
+    let t = parts i.minus i.whole i.places i.decimals in
+    let e = text_kept 21 (front t.minus t.whole) (front_long t.minus t.whole) c.long_label-text.result c.long_label-text.ensures c.as_slice-front.result.now c.as_slice-front.ensures in
+    rw (← c.t.view_is)
+    (too_short (bytes_of t c.args.e) c.args.out.now (length (bytes_of t c.args.e)) refl (omega (arith, c.if-out-need.true, ap length e, c.tail_length.ensures, bytes-length t c.args.e c.t.invariant.1)))
 
 pub returns : goal.returns
 returns c =
-    let T = c.before.before.before in
-    let P = T.before.before.before.before in
-    let i = P.before.before in
-    let h = i.before in
-    let k = h.before in
-    let s = k.before.before.before.before in
-    let a = s.args in
-    let q : 21 - k.long_label-text.result.blanks + h.tail_length.result ≡ length (bytes_of a.t a.e) = omega (arith, (label k).count, h.tail_length.ensures, bytes-length a.t a.e s.requires.fact_2) in
-    let l : length (bytes_of a.t a.e) ≤ length a.out.now = omega (arith, i.if-out-need.false) in
-    text_held _ (bytes_of a.t a.e) a.out.now _ q l
-    (rw (T.put_tail.ensures, P.put_text.ensures, (label k).text, (label k).count) (bytes_stored a.t a.e a.out.now l))
+    let i = c.t.inside in
+    let t = parts i.minus i.whole i.places i.decimals in
+    let o = c.args.out.now in
+    let e = text_kept 21 (front t.minus t.whole) (front_long t.minus t.whole) c.long_label-text.result c.long_label-text.ensures c.as_slice-front.result.now c.as_slice-front.ensures in
+    let b = bytes-length t c.args.e c.t.invariant.1 in
+    let k = c.tail_length.ensures in
+    let n : length c.as_slice-front.result.now + c.tail_length.result ≡ length (bytes_of t c.args.e) = omega (arith, ap length e, k, b) in
+    let q = rw (← c.t.view_is, c.copy_from_slice.ensures.after) at c.put_tail.ensures in
+    rw (← c.t.view_is, c.copy_from_slice.ensures.after)
+    (text_held _ (bytes_of t c.args.e) o _ n (omega (arith, n, c.if-out-need.false)) (bytes_put t c.args.e o c.as_slice-front.result.now c.put_tail.new.tail _ c.tail_length.result c.t.invariant.1 e refl k (omega (arith, c.if-out-need.false)) q))

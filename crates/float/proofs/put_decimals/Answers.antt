@@ -1,41 +1,29 @@
--- `float::put_decimals` what the search leaves.
-use native.Mathlib.Omega.{arith}
+use Rattle.std.proofs.Common.{ℕ, ◌-◌, ◌≤◌, length, replicate, ap, sym, ◌∙◌, arith}
+use Rattle.std.proofs.lemmas.List.{length-take-le}
+use borrow.Author.Tests.{eqb-false}
 use Rattle.decimal.specs.Print.{long_natural}
-use Rattle.decimal.proofs.Digits.{Told, long_told}
 use Rattle.float.proofs.Decimals.{placed-most}
-use Rattle.float.proofs.Lists.{long_most, decimals_stored}
-use Rattle.float.proofs.put_decimals.Lts as lts
-use Rattle.float.proofs.put_decimals.Reads as reads
-use Rattle.float.proofs.put_decimals.Tie as tie
+use Rattle.float.proofs.Lists.{text_kept, long_most, rest_long, decimals_put}
 use Rattle.float.proofs.put_decimals.Goals as goal
 
-abbrev at-After-struct_known : Type 0
-at-After-struct_known = lts.After-struct_known tie.the-claims reads.Pre reads.Post tie.handed_clauses
+pub overflow_sub-lead : goal.overflow_sub-lead
+overflow_sub-lead c =
+    let e = text_kept 21 (long_natural c.args.d) (long_most c.args.d) c.long_label-text.result c.long_label-text.ensures c.as_slice-digits.result.now c.as_slice-digits.ensures in
+    omega (arith, ap length e, placed-most (length c.args.out.now) c.args.d (eqb-false (length c.args.out.now) 0 (sym c.is_empty.ensures ∙ c.if-is_empty.false)) c.requires)
 
--- the text of d
-label : (c : at-After-struct_known) → Told 21 c.long_label-t.result.blanks c.long_label-t.result.bytes (long_natural c.args.d)
-label c =
-    let d = c.args.d in
-    long_told (long_natural d) (long_most d) c.long_label-t.ensures
-
-pub overflow_sub-lead-2 : goal.overflow_sub-lead-2
-overflow_sub-lead-2 c =
-    let s = c.before.before.before.before.before in
-    rw (label c.before).count (placed-most s.args.k s.args.d c.if-k-eq0.false s.requires.fact_2)
-
-pub put_text-requires : goal.put_text-requires
-put_text-requires c =
-    let k = c.before.before.before.before.before in
-    let s = k.before.before.before.before in
-    let t = label k in
-    let l = placed-most s.args.k s.args.d k.if-k-eq0.false s.requires.fact_2 in
-    record { fact_1 = t.low; fact_2 = t.long; fact_3 = omega (arith, t.count, c.put_zeros.auto.out) }
+pub copy_from_slice-requires : goal.copy_from_slice-requires
+copy_from_slice-requires c =
+    let l = c.args.out.now in
+    let s = c.as_slice-digits.result.now in
+    let e = text_kept 21 (long_natural c.args.d) (long_most c.args.d) c.long_label-text.result c.long_label-text.ensures s c.as_slice-digits.ensures in
+    let m : length s ≤ length l = omega (arith, ap length e, placed-most (length l) c.args.d (eqb-false (length l) 0 (sym c.is_empty.ensures ∙ c.if-is_empty.false)) c.requires) in
+    rest_long c.fill.new.self l (length l - length s) (length s) (c.fill.ensures.len ∙ length-take-le (length l - length s) l (omega arith)) (omega arith)
 
 pub returns : goal.returns
 returns c =
-    let q = c.before.before.before in
-    let z = q.before.before.before.before in
-    let k = z.before.before in
-    let s = k.before.before.before.before in
-    let a = s.args in
-    rw (q.put_text.ensures, z.put_zeros.ensures) (decimals_stored a.out.now a.at a.k a.d k.long_label-t.result (label k) k.if-k-eq0.false)
+    let l = c.args.out.now in
+    let s = c.as_slice-digits.result.now in
+    let z = eqb-false (length l) 0 (sym c.is_empty.ensures ∙ c.if-is_empty.false) in
+    let e = text_kept 21 (long_natural c.args.d) (long_most c.args.d) c.long_label-text.result c.long_label-text.ensures s c.as_slice-digits.ensures in
+    let m : length s ≤ length l = omega (arith, ap length e, placed-most (length l) c.args.d z c.requires) in
+    decimals_put c.args.d l s c.fill.new.self c.copy_from_slice.new.self z e m (c.fill.ensures.after (λ y h. h) ∙ ap (λ (k : ℕ). replicate k 48) (length-take-le (length l - length s) l (omega arith))) c.copy_from_slice.ensures.after

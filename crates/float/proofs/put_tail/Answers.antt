@@ -1,11 +1,9 @@
--- `float::put_tail` what the search leaves.
-use Rattle.float.proofs.Lists.{tail_stored}
+use Rattle.std.proofs.Common.{length, sym, ◌∙◌}
+use borrow.Author.Tests.{eqb-false}
+use Rattle.float.proofs.Lists.{tail_put}
 use Rattle.float.proofs.put_tail.Goals as goal
 
-pub returns-then-k-e : goal.returns-then-k-e
-returns-then-k-e c =
-    let q = c.before.before.before in
-    let k = q.before.before.before.before in
-    let s = k.before.before.before.before in
-    let a = s.args in
-    rw (q.put_zeros.ensures, k.put_decimals.ensures) (tail_stored a.out.now a.at a.k a.d a.e s.requires.fact_2 k.if-k-e.true)
+pub returns : goal.returns
+returns c =
+    let t = c.t.inside in
+    rw (← c.t.view_is) (tail_put t.places t.decimals c.args.tail.now c.put_decimals.new.out c.fill.new.self (eqb-false (length c.args.tail.now) 0 (sym c.is_empty.ensures ∙ c.if-is_empty.false)) (rw (← c.t.view_is) at c.requires) c.t.invariant.1 c.put_decimals.ensures (c.fill.ensures.after (λ y h. h)))

@@ -1,70 +1,36 @@
 -- `line::read_numbers` what the search leaves.
-use mathlib.Core.Path.{◌≡◌, sym, ap, ◌∙◌}
-use mathlib.Core.Bool.{Bool, false, cond}
-use mathlib.Core.List.{List}
-use Prim.Native.Nat.{ℕ}
-use borrow.Author.Tests.{not-true, not-false}
-use lib.IntN.{pos}
-use lib.ListN.{get_or, drop}
-use mir.Facts.{to_z-of_z}
+use Rattle.std.proofs.Common.{rules, refl}
+use mir.Val.{SFits}
 use mir.Syntax.{w32}
-use Rattle.ranged1d.specs.Answer.{given, none, and_then}
-use Rattle.decimal.specs.declared.Natural.{Natural}
-use Rattle.decimal.specs.Read.{tell_natural, read_u32}
-use Rattle.line.specs.Line.{whole_fields, request_of, parse_numbers}
-use Rattle.ranged1d.proofs.Pieces.{rest_is}
-use Rattle.line.proofs.read_numbers.Lts as lts
-use Rattle.line.proofs.read_numbers.Reads as reads
-use Rattle.line.proofs.read_numbers.Tie as tie
+use mir.Facts.{to_z-of_z}
+use Rattle.line.specs.Line.{whole_fields, parse_numbers}
 use Rattle.line.proofs.read_numbers.Goals as goal
 
-abbrev at-After-four_fields : Type 0
-at-After-four_fields = lts.After-four_fields tie.the-claims reads.Pre reads.Post
+pub returns-in_err-a : goal.returns-in_err-a
+unfolding whole_fields parse_numbers
+returns-in_err-a c = rw (c.from_residual.ensures, c.in_err-a.ensures) refl
 
-abbrev at-After-read_u32 : Type 0
-at-After-read_u32 = lts.After-read_u32 tie.the-claims reads.Pre reads.Post
+pub returns-in_err-b : goal.returns-in_err-b
+unfolding whole_fields parse_numbers
+returns-in_err-b c = rw (c.from_residual-in_err-b.ensures, c.in_ok-a.ensures, c.in_err-b.ensures) refl
 
--- the first four numbers were not all there
-pub returns-then-not-four : goal.returns-then-not-four
-unfolding parse_numbers
-returns-then-not-four c =
-    let f = c.before.before.before.before in
-    let missing : f.four_fields-four.result.found ≡ false = not-true _ c.if-not-four.true in
-    rw (← f.four_fields-four.ensures.0, missing)
+pub returns-in_err-p : goal.returns-in_err-p
+unfolding whole_fields parse_numbers
+returns-in_err-p c = rw (c.from_residual-in_err-p.ensures, c.in_ok-a.ensures, c.in_ok-b.ensures, c.in_err-p.ensures) refl
 
-module _ (c : at-After-read_u32) where
-  f : at-After-four_fields
-  f = c.before.before.before.before.before
+pub returns-in_err-q : goal.returns-in_err-q
+unfolding whole_fields parse_numbers
+returns-in_err-q c = rw (c.from_residual-in_err-q.ensures, c.in_ok-a.ensures, c.in_ok-b.ensures, c.in_ok-p.ensures, c.in_err-q.ensures) refl
 
-  s : List ℕ
-  s = f.args.s.now
+pub returns-in_err-m : goal.returns-in_err-m
+unfolding whole_fields parse_numbers
+returns-in_err-m c = rw (c.from_residual-in_err-m.ensures, c.in_ok-a.ensures, c.in_ok-b.ensures, c.in_ok-p.ensures, c.in_ok-q.ensures, ← c.in_err-m.ensures) refl
 
-  rest : List ℕ
-  rest = drop f.four_fields-four.result.next s
-
-  four : whole_fields 4 s ≡ given (f.four_fields-four.result.values, rest)
-  unfolding f s rest
-  four = sym f.four_fields-four.ensures.0 ∙ ap (λ (t : Bool). cond t (given (f.four_fields-four.result.values, rest)) none) (not-false f.four_fields-four.result.found c.if-not-four.false)
-
-  told : tell_natural c.read_u32.result ≡ read_u32 rest
-  unfolding f s rest
-  told = rw (rest_is c.four_fields-four.result.next c.args.s.now) at c.read_u32.ensures
-
-  -- the rule goes by what was read of the last field
-  by_read : parse_numbers s ≡ and_then (tell_natural c.read_u32.result) (λ m. given (request_of f.four_fields-four.result.values m))
-  unfolding parse_numbers
-  by_read = rw (four, told)
-
-pub returns-in-Number : goal.returns-in-Number
-unfolding f s rest
-returns-in-Number c =
-    let r = c.before.before.before.before.before.before in
-    let v = (f r).four_fields-four.result.values in
-    rw (to_z-of_z {w = w32} {z = get_or v 0 (pos 0)} (record { sfits = c.result-1.given }), to_z-of_z {w = w32} {z = get_or v 1 (pos 0)} (record { sfits = c.result-in-Number-1.given }), to_z-of_z {w = w32} {z = get_or v 2 (pos 0)} (record { sfits = c.result-in-Number-2-1.given }), to_z-of_z {w = w32} {z = get_or v 3 (pos 0)} (record { sfits = c.result-in-Number-3-1.given }))
-    (sym (by_read r ∙ ap (λ (n : Natural). and_then (tell_natural n) (λ m. given (request_of v m))) c.in-Number.is))
-
-pub returns-in-Nothing : goal.returns-in-Nothing
-unfolding f s rest
-returns-in-Nothing c =
-    let r = c.before.before in
-    sym (by_read r ∙ ap (λ (n : Natural). and_then (tell_natural n) (λ m. given (request_of (f r).four_fields-four.result.values m))) c.in-Nothing.is)
+pub returns : goal.returns
+unfolding whole_fields parse_numbers
+returns c =
+    let a : SFits w32 c.in_ok-a.a = search rules in
+    let b : SFits w32 c.in_ok-b.b = search rules in
+    let p : SFits w32 c.in_ok-p.p = search rules in
+    let q : SFits w32 c.in_ok-q.q = search rules in
+    rw (c.in_ok-a.ensures, c.in_ok-b.ensures, c.in_ok-p.ensures, c.in_ok-q.ensures, ← c.in_ok-m.ensures, to_z-of_z a, to_z-of_z b, to_z-of_z p, to_z-of_z q) refl

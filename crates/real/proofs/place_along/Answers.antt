@@ -1,132 +1,64 @@
 -- `real::place_along` what the search leaves.
-use mathlib.Core.Path.{◌≡◌, sym, ap, subst, ◌∙◌}
-use mathlib.Core.Logic.{⊎_elim}
-use Prim.Native.Nat.{ℕ, ◌≤◌, ◌^◌}
-use native.Mathlib.Omega.{arith}
-use lib.Dec.{lit≤}
-use lib.IntN.{ℤ, pos, neg_ℤ, nat_abs, ◌+ℤ◌, ◌-ℤ◌, +ℤ_idl}
+use Rattle.std.specs.Prelude.{Option, Some}
+use Rattle.std.proofs.Common.{◌≡◌, ◌∙◌, ◌≤◌, ℕ, ℤ, pos, nat_abs, sym, ap, subst, arith, lit≤, to_z, of_z, to_z-of_z, w32, w64, SFits}
 use lib.Ieee.{Float, binary64, add, mul, of_int}
-use mir.Syntax.{w32, w64}
-use mir.Val.{SFits, to_z, of_z}
-use mir.Facts.{to_z-of_z, sfits_widen}
-use Rattle.ranged1d.proofs.Whole.{far32, fits64, add-far, neg-far, zero_minus_far}
+use Rattle.ranged1d.proofs.Whole.{far32}
 use Rattle.rounding.specs.Integral.{floors}
 use Rattle.rounding.specs.Within.{floor_within}
-use Rattle.rounding.specs.declared.Whole.{Whole}
-use Rattle.rounding.specs.declared.Whole.TheVariants.{Number}
-use Rattle.real.specs.Place.{rising, number}
-use Rattle.real.proofs.Cases.{along-none, facing, facing_up, facing_down, steps_near}
+use Rattle.real.specs.Place.{rising, number, milli, farthest}
+use Rattle.real.proofs.Cases.{along-none, steps_near}
 use Rattle.real.proofs.Mirror.{along-number, along_beyond}
-use Rattle.real.proofs.place_along.Lts as lts
-use Rattle.real.proofs.place_along.Reads as reads
-use Rattle.real.proofs.place_along.Tie as tie
+use Rattle.real.proofs.Wraps.{wide, Steps, turned_fits, down_steps, up_steps, sum_fits, sum_is}
 use Rattle.real.proofs.place_along.Goals as goal
-
-abbrev at-After-floor_within : Type 0
-at-After-floor_within = lts.After-floor_within tie.the-claims reads.Pre reads.Post
-
-abbrev at-Else1 : Type 0
-at-Else1 = lts.Else1 tie.the-claims reads.Pre reads.Post
-
-abbrev at-Joined2 : Type 0
-at-Joined2 = lts.Joined2 tie.the-claims reads.Pre reads.Post
-
-abbrev at-Past-After-known_told : Type 0
-at-Past-After-known_told = lts.Past-After-known_told tie.the-claims reads.Pre reads.Post
-
-abbrev at-Start : Type 0
-at-Start = lts.Start tie.the-claims reads.Pre reads.Post
-
-p64 : (s : at-Start) → SFits w64 s.args.p
-p64 s = sfits_widen tt s.ranges.p
-
-q64 : (s : at-Start) → SFits w64 s.args.q
-q64 s = sfits_widen tt s.ranges.q
+use Rattle.real.proofs.place_along.Goals.{then-l-lt0, else-l-lt0}
 
 pub returns-then-l-eq0 : goal.returns-then-l-eq0
 returns-then-l-eq0 c =
-    let s = c.before in
-    let a = s.args in
-    rw (to_z-of_z s.ranges.q, to_z-of_z (q64 s)) (sym (along-none a.p a.q a.l a.t (sym (to_z-of_z s.ranges.l) ∙ ap (to_z w32) c.if-l-eq0.true)))
+    rw (c.from.ensures, to_z-of_z c.ranges.q, wide _ c.ranges.q)
+    (sym (along-none c.args.p c.args.q c.args.l c.args.t (sym (to_z-of_z c.ranges.l) ∙ ap (to_z w32) c.if-l-eq0.true)))
 
--- ---- any other
-some : (c : at-Else1) → c.args.l ≡ pos 0 → ⊥
-some c e = c.if-l-eq0.false (ap (of_z w32) e)
+-- ---- any other l: the steps w of the film that runs upward
+rises : (l : ℤ) (t : Float) (k : ℕ) (x : Float) (w : Option ℤ) → SFits w32 l → k ≡ nat_abs (to_z w32 (of_z w32 l)) → x ≡ of_int binary64 (pos k)
+    → w ≡ floor_within farthest (add binary64 (mul binary64 x t) milli) → w ≡ rising (pos (nat_abs l)) t
+unfolding rising
+rises l t k x w f ek ex ew =
+    ew ∙ ap (λ (y : Float). floor_within farthest (add binary64 (mul binary64 y t) milli)) (ex ∙ ap (λ (j : ℕ). of_int binary64 (pos j)) (ek ∙ ap nat_abs (to_z-of_z f)))
 
-module _ (f : at-After-floor_within) where
-  abbrev E : at-Else1
-  E = f.before.before.before
+near : (x : Float) (n : ℤ) → Some n ≡ floor_within farthest x → nat_abs n ≤ farthest
+near x n e = subst (λ (w : Option ℤ). nat_abs (number w) ≤ farthest) (sym e) (steps_near floors farthest x (lit≤ tt))
 
-  abbrev S : at-Start
-  S = E.before
-
-  length_is : f.size_as_f64.result ≡ of_int binary64 (pos (nat_abs S.args.l))
-  length_is =
-      f.size_as_f64.ensures
-      ∙ ap (λ (k : ℕ). of_int binary64 (pos k)) (f.unsigned_abs.ensures ∙ ap nat_abs (to_z-of_z S.ranges.l))
-
-  rises : f.floor_within.result ≡ rising (pos (nat_abs S.args.l)) S.args.t
-  unfolding rising
-  rises = f.floor_within.ensures ∙ ap (λ (x : Float). floor_within _ (add binary64 (mul binary64 x S.args.t) _)) length_is
-
-module _ (c : at-Past-After-known_told) where
-  abbrev F : at-After-floor_within
-  F = c.before
-
-  abbrev n : ℤ
-  n = c.in-Number.n
-
-  near : nat_abs n ≤ 1_000_000_000
-  near = subst (λ (w : Whole). nat_abs (number w) ≤ 1_000_000_000) (sym F.floor_within.ensures ∙ c.in-Number.is) (steps_near floors _ _ (lit≤ tt))
-
-  n64 : SFits w64 n
-  n64 = fits64 n (omega (arith, near))
-
-  less64 : SFits w64 (pos 0 -ℤ n)
-  less64 = fits64 (pos 0 -ℤ n) (omega (arith, near, zero_minus_far n))
+pub returns-in_default : goal.returns-in_default
+returns-in_default c =
+    let a = c.args in
+    let r = c.ranges in
+    let w = rises a.l a.t _ _ _ r.l c.unsigned_abs.ensures.value c.size_as_f64.ensures c.floor_within.ensures in
+    rw (c.end_at.ensures, to_z-of_z r.p, to_z-of_z r.q) (sym (along_beyond a.p a.q a.l a.t (λ e. c.if-l-eq0.false (ap (of_z w32) e)) (sym w ∙ c.in_default.is)))
 
 pub overflow_sub-step : goal.overflow_sub-step
-overflow_sub-step c = rw (to_z-of_z (n64 c.before)) (less64 c.before)
+overflow_sub-step c = turned_fits c.in-Some.n (near _ c.in-Some.n c.in-Some.ensures)
 
-module _ (c : at-Joined2) where
-  abbrev K : at-Past-After-known_told
-  K = c.before
+-- the steps of this film, by the test that the code makes
+module _ (c : goal.After-from-2) where
+  abbrev k : ℤ
+  k = to_z w64 c.if-l-lt0.step-bits
 
-  abbrev A : at-Start
-  A = S (F K)
+  h : nat_abs c.in-Some.n ≤ farthest
+  h = near _ c.in-Some.n c.in-Some.ensures
 
-  abbrev step : ℤ
-  step = to_z w64 c.if-l-lt0.step-bits
-
-  step_is : (facing A.args.l (Number (n K)) ≡ Number step) × (nat_abs step ≤ 1_000_000_000)
-  step_is =
-      let l-is = to_z-of_z A.ranges.l in
-      ⊎_elim
-      (λ w.
-      let e : step ≡ neg_ℤ (n K) = w.step-is ∙ rw (to_z-of_z (n64 K), to_z-of_z (less64 K)) (+ℤ_idl (neg_ℤ (n K))) in
-      (facing_down A.args.l (Number (n K)) (rw l-is at w.if-l-lt0.true) ∙ ap Number (sym e), omega (arith, ap nat_abs e, neg-far (n K), near K)))
-      (λ w.
-      let e : step ≡ n K = w.step-is ∙ to_z-of_z (n64 K) in
-      (facing_up A.args.l (Number (n K)) (rw l-is at w.if-l-lt0.false) ∙ ap Number (sym e), omega (arith, ap nat_abs e, near K)))
-      c.if-l-lt0.branch-raw
-
-  sum64 : SFits w64 (A.args.p +ℤ step)
-  sum64 = fits64 (A.args.p +ℤ step) (omega (arith, step_is.1, far32 A.args.p A.ranges.p, add-far A.args.p step))
+  steps : Steps c.in-Some.n h c.args.l k
+  steps =
+      elim c.if-l-lt0.branch [
+        | then-l-lt0 w ↦ down_steps c.in-Some.n h c.args.l k (rw (to_z-of_z c.ranges.l) at w.if-l-lt0.true) w.step-is
+        | else-l-lt0 w ↦ up_steps c.in-Some.n h c.args.l k (rw (to_z-of_z c.ranges.l) at w.if-l-lt0.false) w.step-is
+      ]
 
 pub overflow_add-result : goal.overflow_add-result
-overflow_add-result c = rw (to_z-of_z (A c).ranges.p, to_z-of_z (p64 (A c))) (sum64 c)
+overflow_add-result c = rw (c.from-2.ensures, to_z-of_z c.ranges.p, wide _ c.ranges.p) (sum_fits c.args.p (k c) c.ranges.p (steps c).1)
 
-pub returns-after-l-lt0 : goal.returns-after-l-lt0
-returns-after-l-lt0 c =
-    let f = F (K c) in
-    let a = (A c).args in
-    let held : nat_abs a.l ≤ 2 ^ 53 = omega (arith, far32 a.l (A c).ranges.l) in
-    rw (to_z-of_z (A c).ranges.p, to_z-of_z (p64 (A c)), to_z-of_z (sum64 c))
-    (sym (along-number a.p a.q a.l a.t (some (E f)) (n (K c)) (step c) held (sym (rises f) ∙ (K c).in-Number.is) (step_is c).0))
-
-pub returns-in-Beyond : goal.returns-in-Beyond
-returns-in-Beyond c =
-    let told = c.before in
-    let f = told.before in
-    let a = (S f).args in
-    rw (c.end_at.ensures, to_z-of_z (S f).ranges.p, to_z-of_z (S f).ranges.q) (sym (along_beyond a.p a.q a.l a.t (some (E f)) (sym (rises f) ∙ told.in-Beyond.is)))
+pub returns : goal.returns
+returns c =
+    let a = c.args in
+    let r = c.ranges in
+    let w = rises a.l a.t _ _ _ r.l c.unsigned_abs.ensures.value c.size_as_f64.ensures c.floor_within.ensures in
+    rw (c.from-2.ensures, to_z-of_z r.p, wide _ r.p, sum_is a.p (k c) r.p (steps c).1)
+    (sym (along-number a.p a.q a.l a.t (λ e. c.if-l-eq0.false (ap (of_z w32) e)) c.in-Some.n (k c) (omega (arith, far32 a.l r.l)) (sym w ∙ c.in-Some.is) (steps c).0))

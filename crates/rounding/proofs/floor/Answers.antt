@@ -8,6 +8,7 @@ use Rattle.rounding.proofs.floor.Lts as lts
 use Rattle.rounding.proofs.floor.Reads as reads
 use Rattle.rounding.proofs.floor.Tie as tie
 use Rattle.rounding.proofs.floor.Goals as goal
+use Rattle.rounding.proofs.floor.Goals.{else-x-via-then-x+else-x-2, else-x-via-else-x}
 
 abbrev at-Then2 : Type 0
 at-Then2 = lts.Then2 tie.the-claims reads.Pre reads.Post tie.handed_clauses
@@ -31,10 +32,8 @@ returns-else-t-x c =
     let k = c.before in
     sym (stays_floor floors k.args.x (held k.before) (rw k.floor_small-t.ensures at c.if-t-x.false))
 
-pub returns-else-x-2 : goal.returns-else-x-2
-unfolding of_bits neg
-returns-else-x-2 c = let s = c.before.before in sym (stays_large floors s.args.x s.well_formed.0.1 (least_high 52 s.args.x c.if-x-2.false))
-
 pub returns-else-x : goal.returns-else-x
 unfolding of_bits neg
-returns-else-x c = let s = c.before in sym (stays_large floors s.args.x s.well_formed.0.1 (least_low 52 s.args.x c.if-x.false))
+returns-else-x c =
+    let s = c.before in
+    sym (stays_large floors s.args.x s.well_formed.0.1 (elim c.else-x.branch [ else-x-via-then-x+else-x-2 w ↦ least_high 52 s.args.x w.if-x-2.false | else-x-via-else-x w ↦ least_low 52 s.args.x w.if-x.false ]))

@@ -1,5 +1,5 @@
 -- `rounding::floor_within` what the search leaves.
-use Rattle.std.proofs.Common.{◌≡◌, ◌^◌, T, ℤ, sym, ap, ◌∙◌, ⊎_elim, arith, lit<, to_z-of_z, w64, SFits, to_z, of_z}
+use Rattle.std.proofs.Common.{◌≡◌, ◌^◌, T, ℤ, sym, ap, ◌∙◌, arith, lit<, to_z-of_z, w64, SFits, to_z, of_z}
 use lib.Ieee.{binary64, in_signed, to_signed, of_bits, neg}
 use Rattle.ranged1d.proofs.Whole.{fits_abs}
 use Rattle.rounding.specs.Integral.{floors}
@@ -10,6 +10,7 @@ use Rattle.rounding.proofs.floor_within.Lts as lts
 use Rattle.rounding.proofs.floor_within.Reads as reads
 use Rattle.rounding.proofs.floor_within.Tie as tie
 use Rattle.rounding.proofs.floor_within.Goals as goal
+use Rattle.rounding.proofs.floor_within.Goals.{else-x-via-then-x+else-x-2, else-x-via-else-x}
 
 abbrev at-After-floor_small : Type 0
 at-After-floor_small = lts.After-floor_small tie.the-claims reads.Pre reads.Post tie.handed_clauses
@@ -56,7 +57,7 @@ returns-then-x-3 c = let s = c.before.before in sym (within_nan floors s.args.bo
 
 far : (c : at-Joined1) → Large c.args.x
 unfolding of_bits neg
-far c = let x = c.args.x in ⊎_elim (λ w. least_high 52 x w.if-x-2.false) (λ w. least_low 52 x w.if-x.false) c.if-x.branch-raw
+far c = let x = c.args.x in elim c.else-x.branch [ else-x-via-then-x+else-x-2 w ↦ least_high 52 x w.if-x-2.false | else-x-via-else-x w ↦ least_low 52 x w.if-x.false ]
 
 pub returns : goal.returns
 returns c = let s = c.before.before in sym (within_large floors s.args.bound s.args.x (omega arith) c.if-x-3.false (far c.before))

@@ -31,21 +31,21 @@ stepped c t h =
     let k = c.before in
     let s = k.before.before in
     let e = k.floor_small-t.ensures in
-    rw e (sym (round_step s.args.x t (held k.before) s.requires (rw e at c.if-t-x.true) (rw e at h)))
+    rw e (sym (round_step s.args.x t (held k.before) s.requires (rw e at c.if-x-t.true) (rw e at h)))
 
-pub returns-then-t-x : goal.returns-then-t-x
+pub returns-then-x-t : goal.returns-then-x-t
 unfolding of_bits of_int
-returns-then-t-x c =
+returns-then-x-t c =
     let t = c.floor_small-t.result in
     ⊎_elim
-    (λ w. ap (add binary64 t) w.step-is ∙ stepped c.before true w.if-x-t.true)
-    (λ w. ap (add binary64 t) w.step-is ∙ stepped c.before false w.if-x-t.false)
-    c.if-x-t.branch-raw
+    (λ w. ap (add binary64 t) w.step-is ∙ stepped c.before true w.if-x-t-2.true)
+    (λ w. ap (add binary64 t) w.step-is ∙ stepped c.before false w.if-x-t-2.false)
+    c.if-x-t-2.branch-raw
 
-pub returns-else-t-x : goal.returns-else-t-x
-returns-else-t-x c =
+pub returns-else-x-t : goal.returns-else-x-t
+returns-else-x-t c =
     let k = c.before in
-    sym (stays_floor halves k.args.x (held k.before) (rw k.floor_small-t.ensures at c.if-t-x.false))
+    sym (stays_floor halves k.args.x (held k.before) (rw k.floor_small-t.ensures at c.if-x-t.false))
 
 pub returns-else-x : goal.returns-else-x
 unfolding of_bits

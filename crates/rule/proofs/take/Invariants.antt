@@ -1,5 +1,5 @@
-use Rattle.std.proofs.Common.{◌-◌, length}
+use Rattle.std.proofs.Common.{length}
 use Rattle.rule.proofs.take.Given as goal
 
-abbrev pub decreases-loop-at : goal.decreases-loop-at
-decreases-loop-at g l = length l.read - l.at
+abbrev pub decreases-loop-n : goal.decreases-loop-n
+decreases-loop-n g l = length l.rest

@@ -1,20 +1,21 @@
 -- `ruler::read` what the search leaves.
-use Rattle.std.proofs.Common.{sym, ◌∙◌, arith, to_z-of_z, w32, SFits}
-use Rattle.ruler.proofs.Reader.{seen_known, seen_nothing, read_known, read_nothing}
+use Rattle.std.proofs.Common.{sym, rules, to_z-of_z, w32, SFits}
+use Rattle.std.proofs.lemmas.Result.{err_from_is_err_and}
+use Rattle.ruler.proofs.Reader.{known_layout, known_none, no_ruler_14, read_known, read_nothing}
 use Rattle.ruler.proofs.read.Goals as goal
 
-pub returns-in-Nothing : goal.returns-in-Nothing
-returns-in-Nothing c = sym (read_nothing _ (seen_nothing _ (sym c.examine.ensures ∙ c.in-Nothing.is)))
+pub returns-in_err-layout : goal.returns-in_err-layout
+returns-in_err-layout c =
+    let r = err_from_is_err_and c.from_residual.result c.from_residual.ensures.1 in
+    let none = c.in_err-layout.ensures.ok_part in
+    rw (r.1, r.2, no_ruler_14 c.in_err-layout.ensures.value none) (sym (read_nothing _ (known_none c.args.bytes.now c.examine.ensures none)))
 
-pub returns-in-Ruler : goal.returns-in-Ruler
-returns-in-Ruler c =
-    let in-arm = c.before.before.before.before.before.before.before.before in
-    let d = in-arm.in-Ruler.d in
-    let p = in-arm.in-Ruler.p in
-    let known = seen_known (sym in-arm.examine.ensures ∙ in-arm.in-Ruler.is) in
-    let a_fits : SFits w32 d.a = record { sfits = omega arith } in
-    let b_fits : SFits w32 d.b = record { sfits = omega arith } in
-    let p_fits : SFits w32 d.limit.0 = record { sfits = omega arith } in
-    let q_fits : SFits w32 d.limit.1 = record { sfits = omega arith } in
-    let s-fits : SFits w32 p.step = record { sfits = omega arith } in
-    rw (to_z-of_z a_fits, to_z-of_z b_fits, to_z-of_z p_fits, to_z-of_z q_fits, to_z-of_z s-fits, c.kind_of.ensures, c.twist_of.ensures) (sym (read_known known))
+pub returns : goal.returns
+returns c =
+    let d = c.in_ok-layout.layout.drawing in
+    let p = c.in_ok-layout.layout.points in
+    let known = known_layout c.examine.ensures c.in_ok-layout.ensures.ok_part in
+    let a : SFits w32 d.a = search rules in
+    let b : SFits w32 d.b = search rules in
+    let s : SFits w32 p.step = search rules in
+    rw (to_z-of_z a, to_z-of_z b, to_z-of_z s) (sym (read_known known))

@@ -1,6 +1,5 @@
 -- `week::carried` what the search leaves.
-use Prim.Native.Nat.{◌+◌, ◌<◌, ◌≤◌}
-use native.Mathlib.Omega.{arith}
+use Rattle.std.proofs.Common.{◌+◌, ◌<◌, ◌≤◌, arith}
 use borrow.Author.Tests.{le-leb, lt-leb, lt-ltb, le-ltb}
 use Rattle.week.specs.Steps.{carried_to}
 use Rattle.week.proofs.carried.Goals as goal

@@ -1,7 +1,8 @@
 -- `week::clock` what the search leaves.
-use mathlib.Core.Path.{◌∙◌}
+use Rattle.std.proofs.Common.{rules, ◌∙◌}
+use Rattle.week.specs.Steps.{clock_in}
 use Rattle.week.proofs.Rules.{clock_is}
 use Rattle.week.proofs.clock.Goals as goal
 
 pub returns : goal.returns
-returns c = let s = c.args in c.survey.ensures ∙ clock_is s.windows.now s.running
+returns c = c.survey.ensures (clock_in c.args.running) (λ w r o p. search rules) ∙ clock_is c.args.windows.now c.args.running

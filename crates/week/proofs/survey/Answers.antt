@@ -1,79 +1,70 @@
--- `week::survey` what the search leaves: what is left to walk gives what the whole walk does.
-use mathlib.Core.Path.{◌≡◌, sym, ap, ◌∙◌}
-use mathlib.Core.Bool.{true}
-use Prim.Native.Nat.{ℕ, ◌+◌, ◌-◌, ◌≤◌, ◌<◌}
-use native.Mathlib.Omega.{arith}
-use borrow.Author.Tests.{le-ltb, lt-ltb, leb-true, ltb-true}
-use lib.ListN.{get_or, drop}
+-- `week::survey` what the search leaves.
+use Rattle.std.proofs.Common.{◌≡◌, ◌+◌, ◌-◌, ◌*◌, ◌∙◌, ℕ, [], ap, sym, refl, drop, get_or, length, eqb-true, arith}
+use Rattle.std.proofs.lemmas.Bool.{eqb-false}
 use Rattle.ranged1d.specs.Answer.{Answer}
-use Rattle.ranged1d.proofs.Bools.{both_true}
-use Rattle.week.specs.Week.{tell_minute}
-use Rattle.week.specs.Steps.{walked, surveyed, fits_from}
-use Rattle.week.proofs.Walk.{walk_on, walk_stop, walk_alone, walk_end}
-use Rattle.week.proofs.survey.Lts as lts
-use Rattle.week.proofs.survey.Reads as reads
-use Rattle.week.proofs.survey.Tie as tie
+use Rattle.ranged1d.specs.Told.{tell_option}
+use Rattle.week.specs.Steps.{walked, or_before}
+use Rattle.week.proofs.Walk.{pair-on, pair-stop, walk_end, placed, found-or, survey-many, survey-alone, survey-walk}
 use Rattle.week.proofs.survey.Goals as goal
+use Rattle.week.proofs.survey.Goals.{then-pairs-gt32-via-then-pairs-gt32, then-pairs-gt32-via-else-pairs-gt32+then-not-is_empty}
 
-abbrev at-At-loop : Type 0
-at-At-loop = lts.At-loop tie.the-claims reads.Pre reads.Post goal.the-invariant-loop-i goal.the-decreases-loop-i tie.handed_clauses
+pub returns-then-pairs-gt32 : goal.returns-then-pairs-gt32
+returns-then-pairs-gt32 g c = λ f h. elim c.then-pairs-gt32.branch [
+  | then-pairs-gt32-via-then-pairs-gt32 w ↦ survey-many f c.args.windows.now (omega (arith, c.as_chunks.ensures.front_len))
+  | then-pairs-gt32-via-else-pairs-gt32+then-not-is_empty w ↦
+      let some : length c.as_chunks.result.1.now ≡ 0 → ⊥ = eqb-false _ _ (sym w.is_empty.ensures ∙ w.if-not-is_empty.true) in
+      survey-alone f c.args.windows.now (omega (arith, c.as_chunks.ensures.front_len)) (omega (arith, c.as_chunks.ensures.back_len))
+]
 
-abbrev at-Else2 : Type 0
-at-Else2 = lts.Else2 tie.the-claims reads.Pre reads.Post goal.the-invariant-loop-i goal.the-decreases-loop-i tie.handed_clauses
-
-pub returns-then-windows-gt64 : goal.returns-then-windows-gt64
-unfolding surveyed
-returns-then-windows-gt64 c = rw (lt-ltb _ _ c.if-windows-gt64.true)
-
--- the whole walk, once it has come to a place
-from-loop : (c : at-At-loop) → let s = c.args in walked s.by_clock s.x c.loop-i.next c.loop-i.seen (tell_minute c.loop-i.found) (drop c.loop-i.i s.windows.now) ≡ surveyed s.by_clock s.x s.windows.now
-unfolding surveyed
-from-loop c = rw (le-ltb _ _ c.if-windows-gt64.false) (sym c.loop-i.invariant.3)
+pub loop-first-init : goal.loop-first-init
+loop-first-init g c = (omega arith, omega arith, λ f h. refl)
 
 pub returns-then-not-fits : goal.returns-then-not-fits
-returns-then-not-fits c =
-    let at = c.before.before.before.before.before.before in
-    let s = at.args in
-    sym (walk_stop s.by_clock s.x at.loop-i.next at.loop-i.seen (tell_minute at.loop-i.found) s.windows.now at.loop-i.i c.loop-i-test.true (sym c.before.before.fits.ensures ∙ c.if-not-fits.true))
-    ∙ from-loop at
+returns-then-not-fits g c = λ f h.
+    let s = c.args.windows.now in
+    let i = c.loop-first.first-index in
+    sym (c.loop-first.invariant.2 f h ∙ pair-stop f c.loop-first.next c.loop-first.seen (tell_option c.loop-first.found) s c.as_chunks.result.0.now i c.as_chunks.ensures.front (omega (arith, c.as_chunks.ensures.front_len)) (sym c.fits.ensures ∙ c.if-not-fits.true))
+    ∙ survey-walk f s (omega (arith, c.as_chunks.ensures.front_len))
 
-module _ (c : at-Else2) where
-  first : ℕ
-  first = get_or c.args.windows.now c.loop-i.i 0
+pub carry-requires : goal.carry-requires
+carry-requires g c =
+    let pair = get_or c.as_chunks.result.0.now c.loop-first.first-index [] in
+    let p = placed c.loop-first.next (get_or pair 0 0) (get_or pair 1 0) (sym c.fits.ensures ∙ c.if-not-fits.false) in
+    c.requires _ (record { some = p.1; last = p.2; few = omega arith })
 
-  end : ℕ
-  end = get_or c.args.windows.now (c.loop-i.i + 1) 0
+pub overflow_add-seen : goal.overflow_add-seen
+overflow_add-seen g c =
+    let pair = get_or c.as_chunks.result.0.now c.loop-first.first-index [] in
+    let p = placed c.loop-first.next (get_or pair 0 0) (get_or pair 1 0) (sym c.fits.ensures ∙ c.if-not-fits.false) in
+    omega arith
 
-  fitting : fits_from c.loop-i.next first end ≡ true
-  unfolding first end
-  fitting = sym c.before.fits.ensures ∙ c.if-not-fits.false
-
-  placed : (c.loop-i.next ≤ first) × (first < end) × (end ≤ 10080)
-  placed = let h = both_true _ _ fitting in let g = both_true _ _ h.1 in (leb-true _ _ h.0, ltb-true _ _ g.0, leb-true _ _ g.1)
-
-pub loop-i-preserved : goal.loop-i-preserved
-unfolding first end
-loop-i-preserved c =
-    let e = c.before.before in
-    let p = placed e in
-    let at = e.before.before.before.before.before in
-    let s = at.args in (
+pub loop-first-preserved : goal.loop-first-preserved
+loop-first-preserved g c =
+    let i = c.loop-first.first-index in
+    let s = c.args.windows.now in
+    let pair = get_or c.as_chunks.result.0.now i [] in
+    let first = get_or pair 0 0 in
+    let end = get_or pair 1 0 in
+    let next = c.loop-first.next in
+    let seen = c.loop-first.seen in
+    let fit = sym c.fits.ensures ∙ c.if-not-fits.false in
+    let p = placed next first end fit in (
       omega arith,
       omega arith,
-      omega arith,
-      at.loop-i.invariant.3
-          ∙ walk_on s.by_clock s.x at.loop-i.next at.loop-i.seen (tell_minute at.loop-i.found) s.windows.now at.loop-i.i e.loop-i-test.true (fitting e)
-          ∙ ap (λ (m : Answer ℕ). walked s.by_clock s.x (end e + 1) (at.loop-i.seen + (end e - first e)) m (drop (at.loop-i.i + 2) s.windows.now)) (sym c.look-found.ensures),
+      λ f h.
+          let found : tell_option c.or-found.result ≡ or_before (f (record { first = first; end = end; seen = seen })) (tell_option c.loop-first.found) =
+          ap tell_option c.or-found.ensures
+          ∙ found-or c.carry.result c.loop-first.found
+          ∙ ap (λ (a : Answer ℕ). or_before a (tell_option c.loop-first.found)) (h _ c.carry.result (record { some = p.1; last = p.2; few = omega arith }) c.carry.ensures) in
+          c.loop-first.invariant.2 f h
+          ∙ pair-on f next seen (tell_option c.loop-first.found) s c.as_chunks.result.0.now i c.as_chunks.ensures.front (omega (arith, c.as_chunks.ensures.front_len)) fit
+          ∙ ap (λ (a : Answer ℕ). walked f (end + 1) (seen + (end - first)) a (drop ((i + 1) * 2) s)) (sym found),
     )
 
-pub returns-then-i-windows : goal.returns-then-i-windows
-returns-then-i-windows c =
-    let at = c.before.before.before in
-    let s = at.args in
-    sym (walk_alone s.by_clock s.x at.loop-i.next at.loop-i.seen (tell_minute at.loop-i.found) s.windows.now at.loop-i.i c.loop-i-test.false c.if-i-windows.true) ∙ from-loop at
-
 pub returns : goal.returns
-returns c =
-    let at = c.before.before.before in
-    let s = at.args in
-    sym (walk_end s.by_clock s.x at.loop-i.next at.loop-i.seen (tell_minute at.loop-i.found) s.windows.now at.loop-i.i c.if-i-windows.false) ∙ from-loop at
+returns g c = λ f h.
+    let s = c.args.windows.now in
+    let i = c.loop-first.first-index in
+    let even : length c.as_chunks.result.1.now ≡ 0 = eqb-true _ _ (sym c.is_empty.ensures ∙ c.if-not-is_empty.false) in
+    sym (c.loop-first.invariant.2 f h ∙ walk_end f c.loop-first.next c.loop-first.seen (tell_option c.loop-first.found) s (i * 2) (omega (arith, c.as_chunks.ensures.front_len, c.as_chunks.ensures.back_len)))
+    ∙ survey-walk f s (omega (arith, c.as_chunks.ensures.front_len))

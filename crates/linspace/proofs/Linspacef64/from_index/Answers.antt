@@ -1,31 +1,24 @@
--- `linspace::Linspacef64::from_index` what the search leaves.
-use mathlib.Core.Path.{◌≡◌, sym, ◌∙◌}
+use Rattle.std.proofs.Common.{ap, ◌∙◌}
+use lib.Ieee.{Float}
+use Rattle.ranged1d.specs.Answer.{refused}
 use Rattle.linspace.specs.List.{real}
 use Rattle.linspace.specs.Calls.{step_from_index}
-use Rattle.linspace.proofs.Axis.{same-axis}
+use Rattle.linspace.proofs.Rules.{handed_found, same-axis}
 use Rattle.linspace.proofs.Counts.{from-against, from_empty}
-use Rattle.linspace.proofs.Linspacef64.from_index.Lts as lts
-use Rattle.linspace.proofs.Linspacef64.from_index.Reads as reads
-use Rattle.linspace.proofs.Linspacef64.from_index.Tie as tie
 use Rattle.linspace.proofs.Linspacef64.from_index.Goals as goal
 
-abbrev at-After-steps : Type 0
-at-After-steps = lts.After-steps tie.the-claims reads.Pre reads.Post tie.handed_clauses
+pub returns-in_err-w : goal.returns-in_err-w
+returns-in_err-w c =
+    let s = c.steps-s.result in
+    let e = c.in_err-w.ensures in
+    handed_found c.from_residual.result c.in_err-w.field-0.0 c.from_residual.ensures
+    ∙ ap refused e.0
+    ∙ from-against s.a s.b s.d e.1 c.args.k
+    ∙ same-axis (λ (a b d : Float). step_from_index real a b d c.args.k) c.steps-s.ensures
 
--- by the ends and the step themselves
-module _ (c : at-After-steps) where
-  told : let r = c.steps-s.result in let s = c.args in step_from_index real r.a r.b r.d s.k ≡ step_from_index real s.self.inner.0 s.self.inner.1 s.self.step s.k
-  told = same-axis (λ a b d. step_from_index real a b d c.args.k) c.steps-s.ensures
-
-pub returns-then-leads_away : goal.returns-then-leads_away
-returns-then-leads_away c =
-    let at = c.before.before in
-    let r = at.steps-s.result in
-    from-against r.a r.b r.d (sym c.leads_away.ensures ∙ c.if-leads_away.true) at.args.k ∙ told at
-
-pub returns-then-not-has_entries : goal.returns-then-not-has_entries
-returns-then-not-has_entries c =
-    let on = c.before.before in
-    let at = on.before.before in
-    let r = at.steps-s.result in
-    from_empty r.a r.b r.d (sym on.leads_away.ensures ∙ on.if-leads_away.false) (sym c.has_entries.ensures ∙ c.if-not-has_entries.true) at.args.k ∙ told at
+pub returns-in-None : goal.returns-in-None
+returns-in-None c =
+    let s = c.steps-s.result in
+    let e = rw c.in-None.is at c.in_ok-w.ensures in
+    from_empty s.a s.b s.d e.0 e.1 c.args.k
+    ∙ same-axis (λ (a b d : Float). step_from_index real a b d c.args.k) c.steps-s.ensures

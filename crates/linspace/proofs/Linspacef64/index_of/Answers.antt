@@ -1,36 +1,25 @@
--- `linspace::Linspacef64::index_of` what the search leaves.
-use mathlib.Core.Path.{◌≡◌, sym, ◌∙◌}
+use Rattle.std.proofs.Common.{ap, ◌∙◌}
+use lib.Ieee.{Float}
+use Rattle.ranged1d.specs.Answer.{refused}
 use Rattle.linspace.specs.List.{real}
 use Rattle.linspace.specs.Calls.{step_index_of}
-use Rattle.linspace.proofs.Axis.{same-axis}
+use Rattle.linspace.proofs.Rules.{handed_found, same-axis}
 use Rattle.linspace.proofs.Indices.{index-against, index-empty}
-use Rattle.linspace.proofs.Linspacef64.index_of.Lts as lts
-use Rattle.linspace.proofs.Linspacef64.index_of.Reads as reads
-use Rattle.linspace.proofs.Linspacef64.index_of.Tie as tie
 use Rattle.linspace.proofs.Linspacef64.index_of.Goals as goal
 
-abbrev at-After-steps : Type 0
-at-After-steps = lts.After-steps tie.the-claims reads.Pre reads.Post tie.handed_clauses
+pub returns-in_err-w : goal.returns-in_err-w
+returns-in_err-w c =
+    let s = c.steps-s.result in
+    let e = c.in_err-w.ensures in
+    handed_found c.from_residual.result c.in_err-w.field-0.0 c.from_residual.ensures
+    ∙ ap refused e.0
+    ∙ index-against s.a s.b s.d c.args.v c.args.method e.1
+    ∙ same-axis (λ (a b d : Float). step_index_of real a b d c.args.v c.args.method) c.steps-s.ensures
 
--- by the ends and the step themselves
-module _ (c : at-After-steps) where
-  told : step_index_of real c.steps-s.result.a c.steps-s.result.b c.steps-s.result.d c.args.v c.args.method
-      ≡ step_index_of real c.args.self.inner.0 c.args.self.inner.1 c.args.self.step c.args.v c.args.method
-  told = same-axis (λ a b d. step_index_of real a b d c.args.v c.args.method) c.steps-s.ensures
-
-pub returns-then-leads_away : goal.returns-then-leads_away
-returns-then-leads_away c =
-    let at = c.before.before in
-    let s = at.args in
-    let r = at.steps-s.result in
-    index-against r.a r.b r.d s.v s.method (sym c.leads_away.ensures ∙ c.if-leads_away.true) ∙ told at
-
-pub returns-then-not-has_entries : goal.returns-then-not-has_entries
-returns-then-not-has_entries c =
-    let has = c.before.before in
-    let on = has.before in
-    let at = on.before.before in
-    let s = at.args in
-    let r = at.steps-s.result in
+pub returns-in-None : goal.returns-in-None
+returns-in-None c =
+    let s = c.steps-s.result in
+    let e = rw c.in-None.is at c.in_ok-w.ensures in
     c.settle_nan.ensures
-    ∙ index-empty r.a r.b r.d s.v s.method (sym on.leads_away.ensures ∙ on.if-leads_away.false) (sym has.has_entries.ensures ∙ c.if-not-has_entries.true) ∙ told at
+    ∙ index-empty s.a s.b s.d c.args.v c.args.method e.0 e.1
+    ∙ same-axis (λ (a b d : Float). step_index_of real a b d c.args.v c.args.method) c.steps-s.ensures

@@ -1,87 +1,37 @@
--- `linspace::Linspacei32::map` what the search leaves.
+use Rattle.std.proofs.Common.{◌≡◌, refl, sym, ap, ◌∙◌, true, rules, to_z-of_z}
 use mir.Syntax.{w32}
 use mir.Val.{SFits}
-use mathlib.Core.Path.{◌≡◌, refl, sym, ap, ◌∙◌}
-use mathlib.Core.Bool.{true}
-use Prim.Native.Nat.{ℕ}
-use borrow.Author.Rules.{rules}
-use lib.IntN.{ℤ}
-use mir.Facts.{to_z-of_z}
-use Rattle.ranged1d.specs.Answer.{Answer}
-use Rattle.real.specs.declared.Place.{Place}
-use Rattle.real.specs.Place.{tell_place, whole_place}
-use Rattle.numeric.specs.Whole.{tell_count}
-use Rattle.numeric.specs.declared.whole.Count.{Count}
+use Rattle.ranged1d.specs.Answer.{refused}
 use Rattle.linspace.specs.List.{whole, axis_admitted}
-use Rattle.linspace.specs.Calls.{step_place}
-use Rattle.linspace.proofs.Rules.{counts, place_listed, place-refused, place_is}
+use Rattle.linspace.specs.Calls.{step_size}
+use Rattle.linspace.proofs.Rules.{handed, same-axis, place-refused, place_is}
 use Rattle.linspace.proofs.WholeRules.{ends-place}
-use Rattle.linspace.proofs.Linspacei32.map.Lts as lts
-use Rattle.linspace.proofs.Linspacei32.map.Reads as reads
-use Rattle.linspace.proofs.Linspacei32.map.Tie as tie
 use Rattle.linspace.proofs.Linspacei32.map.Goals as goal
 
-abbrev at-After-counted : Type 0
-at-After-counted = lts.After-counted tie.the-claims reads.Pre reads.Post
+pub returns-in_err-s : goal.returns-in_err-s
+returns-in_err-s c =
+    let i = c.args.self in
+    let e = c.in_err-s.ensures in
+    handed c.from_residual.result c.in_err-s.field-0.0 c.from_residual.ensures ∙ ap refused e.0 ∙ place-refused whole i.inner.0 i.inner.1 i.step e.1 c.args.v c.args.limit
 
-abbrev at-After-map : Type 0
-at-After-map = lts.After-map tie.the-claims reads.Pre reads.Post
+pub returns-in_err-z : goal.returns-in_err-z
+returns-in_err-z c =
+    let i = c.args.self in
+    let on : axis_admitted whole i.inner.0 i.inner.1 i.step ≡ true = sym (same-axis (axis_admitted whole) c.in_ok-s.ensures) ∙ c.in_ok-s.s.admitted in
+    handed c.from_residual-in_err-z.result c.in_err-z.field-0.0 c.from_residual-in_err-z.ensures
+    ∙ place_is whole i.inner.0 i.inner.1 i.step on refl c.args.v c.args.limit (sym (rw (to_z-of_z c.ranges.v) at c.in_err-z.ensures ∙ ends-place i.inner.0 i.inner.1 i.step on c.args.v c.args.limit))
 
-abbrev at-After-steps : Type 0
-at-After-steps = lts.After-steps tie.the-claims reads.Pre reads.Post
+pub returns-in_err-counted : goal.returns-in_err-counted
+returns-in_err-counted c =
+    let i = c.args.self in
+    let on : axis_admitted whole i.inner.0 i.inner.1 i.step ≡ true = sym (same-axis (axis_admitted whole) c.in_ok-s.ensures) ∙ c.in_ok-s.s.admitted in
+    handed c.from_residual-in_err-counted.result c.in_err-counted.field-0.0 c.from_residual-in_err-counted.ensures
+    ∙ place_is whole i.inner.0 i.inner.1 i.step on (sym (same-axis (step_size whole) c.in_ok-s.ensures) ∙ c.in_err-counted.ensures) c.args.v c.args.limit (sym (rw (to_z-of_z c.ranges.v) at c.in_ok-z.ensures ∙ ends-place i.inner.0 i.inner.1 i.step on c.args.v c.args.limit))
 
-abbrev at-Start : Type 0
-at-Start = lts.Start tie.the-claims reads.Pre reads.Post
-
-module _ (c : at-After-steps) where
-  abbrev start : at-Start
-  start = c.before.before.before.before.before.before
-
-  abbrev a : ℤ
-  a = start.args.self.inner.0
-
-  abbrev b : ℤ
-  b = start.args.self.inner.1
-
-  abbrev d : ℤ
-  d = start.args.self.step
-
-  axis : axis_admitted whole a b d ≡ true
-  axis = sym c.admitted.ensures ∙ c.if-not-admitted.false
-
-counts_are : (c : at-After-counted) {r : Count} → c.counted.result ≡ r → let s = c.before in counts whole (a s) (b s) (d s) ≡ tell_count r
-counts_are c e = sym (rw (c.steps.ensures.0, c.steps.ensures.1, c.steps.ensures.2) at c.counted.ensures) ∙ ap tell_count e
-
--- the place by the ends alone, then the list
-placed : (c : at-After-map) {p : Place} → c.map.result ≡ p → {n : Answer ℕ}
-    → let s = c.args in counts whole s.self.inner.0 s.self.inner.1 s.self.step ≡ n → place_listed (tell_place p) n ≡ step_place whole s.self.inner.0 s.self.inner.1 s.self.step s.v s.limit
-placed c e f =
-    let s = c.args in
-    let axis : axis_admitted whole s.self.inner.0 s.self.inner.1 s.self.step ≡ true = sym c.admitted.ensures ∙ c.if-not-admitted.false in
-    let by_ends : tell_place c.map.result ≡ whole_place s.self.inner.0 s.self.inner.1 s.v s.limit = rw (to_z-of_z c.ranges.v) at c.map.ensures in
-    place_is whole s.self.inner.0 s.self.inner.1 s.self.step axis f s.v s.limit
-    (sym (ap tell_place (sym e) ∙ by_ends ∙ ends-place s.self.inner.0 s.self.inner.1 s.self.step axis s.v s.limit))
-
-pub returns-then-not-admitted : goal.returns-then-not-admitted
-returns-then-not-admitted c = let s = c.args in place-refused whole s.self.inner.0 s.self.inner.1 s.self.step (sym c.admitted.ensures ∙ c.if-not-admitted.true) s.v s.limit
-
-pub returns-in-Refused : goal.returns-in-Refused
-returns-in-Refused c = placed c.before c.in-Refused.is refl
-
-pub returns-in-Refused-counted : goal.returns-in-Refused-counted
-returns-in-Refused-counted c =
-    let at = c.before in
-    let s = at.before in
-    let z = s.before in
-    placed z.before z.in-At.is (counts_are at c.in-Refused-counted.is)
-
-z_fits : (c : goal.In-Of) → SFits w32 c.in-At.z
-z_fits c = search rules
-
-pub returns-in-Of : goal.returns-in-Of
-returns-in-Of c =
-    let at = c.before in
-    let s = at.before in
-    let z = s.before in
-    rw (to_z-of_z (z_fits c))
-    (placed z.before z.in-At.is (counts_are at c.in-Of.is))
+pub returns : goal.returns
+returns c =
+    let i = c.args.self in
+    let on : axis_admitted whole i.inner.0 i.inner.1 i.step ≡ true = sym (same-axis (axis_admitted whole) c.in_ok-s.ensures) ∙ c.in_ok-s.s.admitted in
+    let fits : SFits w32 c.in_ok-z.z = search rules in
+    rw (to_z-of_z fits)
+    (place_is whole i.inner.0 i.inner.1 i.step on (sym (same-axis (step_size whole) c.in_ok-s.ensures) ∙ c.in_ok-counted.ensures.0) c.args.v c.args.limit (sym (rw (to_z-of_z c.ranges.v) at c.in_ok-z.ensures ∙ ends-place i.inner.0 i.inner.1 i.step on c.args.v c.args.limit)))

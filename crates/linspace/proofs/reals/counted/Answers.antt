@@ -1,9 +1,7 @@
--- `linspace::reals::counted` what the search leaves.
-use mathlib.Core.Path.{refl}
-use native.Mathlib.Omega.{arith}
+use Rattle.std.proofs.Common.{refl}
 use Rattle.linspace.specs.RealSteps.{after}
 use Rattle.linspace.proofs.reals.counted.Goals as goal
 
-pub counted_from-requires : goal.counted_from-requires
+pub counted_from-requires-clause-x_value : goal.counted_from-requires-clause-x_value
 unfolding after
-counted_from-requires c = record { k_bound = omega arith; x_value = refl }
+counted_from-requires-clause-x_value c = refl

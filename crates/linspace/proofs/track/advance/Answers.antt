@@ -1,15 +1,11 @@
--- `linspace::track::advance` what the search leaves.
-use mathlib.Core.Path.{refl}
-use native.Mathlib.Omega.{arith}
+use Rattle.std.proofs.Common.{refl}
 use Rattle.linspace.specs.RealSteps.{plus_step, after}
 use Rattle.linspace.proofs.Walks.{after_step}
 use Rattle.linspace.proofs.track.advance.Goals as goal
 
 pub loop-i-init : goal.loop-i-init
 unfolding after
-loop-i-init c = (omega arith, refl)
+loop-i-init c = refl
 
 pub loop-i-preserved : goal.loop-i-preserved
-loop-i-preserved c =
-    let s = c.args in
-    (omega arith, after_step (plus_step s.d) c.loop-i.i s.x c.loop-i.invariant.1)
+loop-i-preserved c = after_step (plus_step c.args.d) c.loop-i._i c.args.x c.loop-i.invariant

@@ -1,17 +1,6 @@
-use mathlib.Core.Path.{◌≡◌}
-use Prim.Native.Nat.{◌≤◌, ◌+◌, ◌-◌}
-use lib.ListN.{length}
-use lib.Ieee.{Float}
-use Rattle.linspace.specs.List.{real, toward, entries}
-use Rattle.linspace.specs.RealSteps.{plus_step}
-use Rattle.linspace.specs.Walks.{Tracked, head_of}
-use Rattle.linspace.proofs.Tracks.{Runs}
+use Rattle.std.specs.Float.Ieee.{lt}
+use Rattle.linspace.proofs.Tracks.{Counting}
 use Rattle.linspace.proofs.track.count_on.Given as goal
 
 abbrev pub invariant-loop-n : goal.invariant-loop-n
-invariant-loop-n l =
-    (l.n ≤ 65537)
-    × ((b d : Float) → Tracked l.rises b d l.x l.initial.t → Runs l.rises b d l.t × (l.n + length (entries (toward real l.rises b) (plus_step d) (65537 - l.n) (head_of l.rises l.t)) ≡ l.k + length (entries (toward real l.rises b) (plus_step d) (65537 - l.k) l.x)))
-
-abbrev pub decreases-loop-n : goal.decreases-loop-n
-decreases-loop-n l = 65537 - l.n
+invariant-loop-n l = let s = l.fn.s in Counting (lt s.a s.b) s.b s.d l.fn.x l.fn.k l.n l.t

@@ -1,9 +1,6 @@
-use Prim.Native.Nat.{◌≤◌, ◌-◌}
+use Rattle.std.specs.Float.Ieee.{lt}
 use Rattle.linspace.proofs.Tracks.{Along}
 use Rattle.linspace.proofs.track.reach.Given as goal
 
 abbrev pub invariant-loop-n : goal.invariant-loop-n
-invariant-loop-n l = (l.n ≤ 65537) × (l.n ≤ l.k) × Along l.rises l.initial.t l.n l.t
-
-abbrev pub decreases-loop-n : goal.decreases-loop-n
-decreases-loop-n l = 65537 - l.n
+invariant-loop-n l = let s = l.fn.s in Along (lt s.a s.b) s.b s.d s.a l.n l.t

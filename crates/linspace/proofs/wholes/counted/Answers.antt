@@ -1,30 +1,18 @@
--- `linspace::wholes::counted` what the search leaves.
-use mathlib.Core.Path.{◌≡◌, sym, ◌∙◌}
-use mathlib.Core.Bool.{false}
-use Rattle.linspace.specs.List.{whole, against}
-use Rattle.linspace.proofs.WholeRules.{count_long, count-given}
-use Rattle.linspace.proofs.wholes.counted.Lts as lts
-use Rattle.linspace.proofs.wholes.counted.Reads as reads
-use Rattle.linspace.proofs.wholes.counted.Tie as tie
+use Rattle.std.proofs.Common.{sym, ◌∙◌}
+use Rattle.linspace.proofs.WholeList.{list_is}
+use Rattle.linspace.proofs.WholeRules.{count-against, count_long, count-given}
 use Rattle.linspace.proofs.wholes.counted.Goals as goal
 
-abbrev at-After-count : Type 0
-at-After-count = lts.After-count tie.the-claims reads.Pre reads.Post tie.handed_clauses
-
-abbrev at-Else1 : Type 0
-at-Else1 = lts.Else1 tie.the-claims reads.Pre reads.Post tie.handed_clauses
-
-abbrev at-Start : Type 0
-at-Start = lts.Start tie.the-claims reads.Pre reads.Post tie.handed_clauses
-
-abbrev start : at-After-count → at-Start
-start c = c.before.before.before
-
-onward : (c : at-Else1) → let s = c.before.before in against whole s.args.s.a s.args.s.b s.args.s.d ≡ false
-onward c = sym c.leads_away.ensures ∙ c.if-leads_away.false
+pub returns-then-leads_away : goal.returns-then-leads_away
+returns-then-leads_away c = let s = c.args.s in count-against s.a s.b s.d s.admitted (sym c.leads_away.ensures ∙ c.if-leads_away.true)
 
 pub returns-then-n-gt65536 : goal.returns-then-n-gt65536
-returns-then-n-gt65536 c = let s = start c.before in count_long s.args.s.a s.args.s.b s.args.s.d (onward c.before.before) c.count-n.result c.count-n.ensures c.if-n-gt65536.true
+returns-then-n-gt65536 c =
+    let s = c.args.s in
+    count_long s.a s.b s.d s.admitted (sym c.leads_away.ensures ∙ c.if-leads_away.false) c.count-n.result c.count-n.ensures c.if-n-gt65536.true
 
 pub returns : goal.returns
-returns c = let s = start c.before in count-given s.args.s.a s.args.s.b s.args.s.d (onward c.before.before) c.count-n.result c.count-n.ensures c.if-n-gt65536.false
+returns c =
+    let s = c.args.s in
+    let on = sym c.leads_away.ensures ∙ c.if-leads_away.false in
+    (count-given s.a s.b s.d s.admitted on c.count-n.result c.count-n.ensures c.if-n-gt65536.false, list_is (record { admitted = s.admitted; onward = on; count = c.count-n.ensures; few = c.if-n-gt65536.false }))

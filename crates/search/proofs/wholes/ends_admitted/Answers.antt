@@ -1,17 +1,11 @@
--- `search::wholes::ends_admitted` what the search leaves.
-use mathlib.Core.Path.{sym, ◌∙◌}
-use mir.Facts.{to_z-of_z}
-use mir.Syntax.{w32}
+use Rattle.std.proofs.Common.{◌≡◌, ◌&&◌, ◌-◌, get_or, length, pos, rules}
+use Rattle.ranged1d.specs.Admitted.{whole_admitted}
+use Rattle.std.proofs.Common.{sym, ◌∙◌}
 use Rattle.search.proofs.Rules.{whole-ends}
 use Rattle.search.proofs.wholes.ends_admitted.Goals as goal
 
-pub returns : goal.returns
-returns c =
-    let last = c.before in
-    let first = last.before.before in
-    let test = first.before.before in
-    let s = test.before in
-    let l = s.args.list.now in
-    let F = rw (to_z-of_z {w = w32} (record { sfits = first.whole_admitted-arg-1.given })) at first.whole_admitted.ensures in
-    let L = rw (to_z-of_z {w = w32} (record { sfits = last.whole_admitted-arg-2-1.given })) at last.whole_admitted-2.ensures in
-    c.both.ensures ∙ rw (F, L) (sym (whole-ends l test.if-n-eq0.false s.requires))
+pub returns-else-n-eq0 : goal.returns-else-n-eq0
+returns-else-n-eq0 c =
+    let l = c.args.list.now in
+    let e : (c.whole_admitted.result && c.whole_admitted-else-n-eq0.result) ≡ (whole_admitted (get_or l 0 (pos 0)) && whole_admitted (get_or l (length l - 1) (pos 0))) = search rules in
+    e ∙ sym (whole-ends l c.if-n-eq0.false c.requires)

@@ -1,0 +1,118 @@
+// Searches of a lent list, whatever its entries are.
+ghost use Rattle.std.specs.Prelude.{◌≡◌, ℕ, suc, true, get_or};
+ghost use Rattle.ranged1d.specs.Told.{tell_option};
+ghost use Rattle.search.specs.Lists.{toward, ascends, searchable};
+ghost use Rattle.search.specs.Search.{search};
+ghost use Rattle.search.specs.Settled.{settled};
+ghost use Rattle.search.specs.Steps.{rises_first, PlaceOf};
+
+use crate::{Entry, RoundingMethod, settle};
+
+// Whether x comes before y in a list that rises or falls.
+// Kept: told whether the list rises, a truth that its first entries give. As a closure it would be written out for both ways in each caller.
+pub fn precedes<T: Entry>(rises: bool, x: T, y: T) -> bool
+    ensures { result ≡ toward rises T.numbers.less x y }
+{
+    if rises { x.is_less(y) } else { y.is_less(x) }
+}
+
+fn rising<T: Entry>(list: &[T]) -> bool
+    ensures { result ≡ rises_first T.numbers.less list.now }
+{
+    match list {
+        [x, y, ..] => x.is_less(*y),
+        _ => true,
+    }
+}
+
+// Whether each entry comes before the next. No pair is left out and none ends the loop, so that the compiler compares several at a time.
+fn in_line<T: Entry>(rises: bool, list: &[T]) -> bool
+    ensures { result ≡ ascends (toward rises T.numbers.less) list.now }
+{
+    let mut ok = true;
+    for w in list.windows(2) {
+        ok &= precedes(rises, w[0], w[1]);
+    }
+    ok
+}
+
+// The same by runs of 256 pairs, each from the last entry of the one before: a long list that is out of order near its start is left there.
+// Kept: a while. The library's chunks do not overlap, and these share an entry.
+fn ordered<T: Entry>(rises: bool, list: &[T]) -> bool
+    ensures { result ≡ ascends (toward rises T.numbers.less) list.now }
+{
+    let mut rest = list;
+    while 256 < rest.len() {
+        if !in_line(rises, &rest[..257]) {
+            return false;
+        }
+        rest = &rest[256..];
+    }
+    in_line(rises, rest)
+}
+
+// Whether the list can be searched.
+pub(crate) fn can_search<T: Entry>(list: &[T]) -> bool
+    ensures { result ≡ searchable T.numbers list.now }
+{
+    match list {
+        [x] => x.is_equal(*x),
+        _ => ordered(rising(list), list),
+    }
+}
+
+// How many entries come before t; the list is ordered, so that half of what is left is settled by the entry in its middle.
+fn position<T: Entry>(rises: bool, list: &[T], t: T) -> usize
+    requires { ascends (toward rises T.numbers.less) list.now ≡ true }
+    ensures { PlaceOf (toward rises T.numbers.less) list.now t t result }
+{
+    list.partition_point(|x| precedes(rises, *x, t))
+}
+
+// Entry i, or t where there is none.
+fn entry_or<T: Entry>(list: &[T], i: usize, t: T) -> T
+    ensures { result ≡ get_or list.now i t }
+{
+    list.get(i).copied().unwrap_or(t)
+}
+
+// The last entry before the target's place, or t where there is none.
+fn entry_before<T: Entry>(list: &[T], i: usize, t: T) -> T
+    ensures { (j : ℕ) → suc j ≡ i → result ≡ get_or list.now j t }
+{
+    if i == 0 {
+        return t;
+    }
+    entry_or(list, i - 1, t)
+}
+
+// What a search answers once the target's place is known: of n entries the first i come before t, x the last of them; y is the next.
+pub fn settle_entry<T: Entry>(
+    method: RoundingMethod,
+    rises: bool,
+    n: usize,
+    i: usize,
+    x: T,
+    t: T,
+    y: T,
+) -> Option<u64>
+    ensures { tell_option result ≡ settled T.numbers method rises n i x t y }
+{
+    if i < n && y.is_equal(t) {
+        return Some(i as u64);
+    }
+    settle(method, rises, n, i, t.is_closer(rises, x, y))
+}
+
+// The index that the search finds in a list that can be searched.
+pub(crate) fn find<T: Entry>(list: &[T], t: T, method: RoundingMethod) -> Option<u64>
+    requires list_value { searchable T.numbers list.now ≡ true }
+    requires t_value { T.numbers.equal t t ≡ true }
+    ensures { tell_option result ≡ search T.numbers t method list.now }
+{
+    let rises = rising(list);
+    let i = position(rises, list, t);
+    let x = entry_before(list, i, t);
+    let y = entry_or(list, i, t);
+    settle_entry(method, rises, list.len(), i, x, t, y)
+}
