@@ -52,8 +52,9 @@
 //!
 //! # Refusals
 //!
-//! Each call names those that it can give. If several apply it is the first in the order 1, 2, 18,
-//! 3 to 9, 20 to 22, 10 to 12, 17, 13 to 16.
+//! Each call names those that it can give. If several apply it is the first in the order 23, 26, 27,
+//! 1, 2, 18, 3 to 9, 20 to 22, 10, 19, 11, 12, 28, 17, 24, 25, 13 to 16; of a film, behind 23, that of
+//! its first border that is refused.
 //!
 //! | number | refusal | when |
 //! |---|---|---|
@@ -114,7 +115,7 @@ pub mod week;
 pub use chart::Chart;
 pub use label::FloatPrettyPrinter;
 pub use limit::Limit;
-pub use linspace::{Linspacef64, Linspacei32};
+pub use linspace::{Linspace, Linspacef64, Linspacei32};
 pub use numeric::{KeyPoints, RangedCoordf64, RangedCoordi32, RangedCoordusize};
 pub use places::ExactPlace;
 pub use refusal::Refusal;

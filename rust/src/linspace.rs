@@ -3,7 +3,7 @@
 use crate::refusal::{answered, answered_or_none, ask, declare, Refusal};
 use crate::{Limit, RangedCoordf64, RangedCoordi32, RoundingMethod};
 
-/// A whole axis by a step, within ±1,000,000,000, that leads from the first end to the second.
+/// An axis by a step that leads from the first end to the second.
 ///
 /// Its list is the first end and every further sum before the second end, which is no entry; it is
 /// empty where the first step reaches the second end.
@@ -18,24 +18,18 @@ use crate::{Limit, RangedCoordf64, RangedCoordi32, RoundingMethod};
 /// assert_eq!(axis.index_of(5, RoundingMethod::Floor), Ok(Some(1)));
 /// ```
 #[derive(Clone, Copy, Debug, PartialEq, Eq)]
-pub struct Linspacei32 {
+pub struct Linspace<A, T> {
     /// The axis.
-    pub inner: RangedCoordi32,
+    pub inner: A,
     /// The distance from an entry to the next.
-    pub step: i32,
+    pub step: T,
 }
 
-/// A real axis by a step that leads from the first end to the second.
-///
-/// Its list is the first end and every further sum, rounded, before the second end, which is no
-/// entry; it is empty where the first step reaches the second end, or with NaN.
-#[derive(Clone, Copy, Debug, PartialEq)]
-pub struct Linspacef64 {
-    /// The axis.
-    pub inner: RangedCoordf64,
-    /// What is added to an entry for the next.
-    pub step: f64,
-}
+/// A whole axis by a step, within ±1,000,000,000.
+pub type Linspacei32 = Linspace<RangedCoordi32, i32>;
+
+/// A real axis by a step. Each sum of its list is rounded, and with NaN the list is empty.
+pub type Linspacef64 = Linspace<RangedCoordf64, f64>;
 
 /// A stepped axis: the same calls for whole and for real numbers, by their C functions. `$also` is
 /// the refusal that whole numbers alone meet, `$search` are the others of a search.

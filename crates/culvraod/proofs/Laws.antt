@@ -1,6 +1,6 @@
 -- Laws of several crates, each over the rules alone: the guide names them beside the sentences that they stand for. Assumes nothing.
 use mathlib.Core.Path.{◌≡◌, refl, sym, ap, ◌∙◌}
-use mathlib.Core.Bool.{Bool, true, false, cond, not, ◌&&◌, ◌||◌}
+use mathlib.Core.Bool.{Bool, true, false, not, ◌&&◌, ◌||◌}
 use mathlib.Core.List.{List, [], ◌∷◌, ◌++◌}
 use Prim.Native.Nat.{ℕ, suc, ◌*◌, ◌^◌, ◌-◌, ◌≤◌, ◌<◌}
 use native.Mathlib.Omega.{arith}
@@ -36,6 +36,7 @@ use Rattle.segmented.proofs.WholeRules.{counted}
 use Rattle.linspace.proofs.Walks.{nth_past}
 use Rattle.ruler.specs.Bytes.{head_long}
 use Rattle.ruler.specs.Rule.{is_ruler, index_of, has_mark, record_at, nowhere, record_in}
+use Rattle.ruler.specs.Steps.{form_of}
 use Rattle.ruler.proofs.Reader.{Known, known-marks}
 use Rattle.float.specs.Calls.{printable, label_print}
 
@@ -146,9 +147,9 @@ module _ {l : List ℕ} {d : _} {p : KeyPoints} (v : ℤ) (k : Known l d p) wher
   unfolding has_mark
   has_is = rw (k.ruler, known-marks k, length_of (element p.first p.step) p.count)
 
-  pub record_found : place < p.count → record_in l v ≡ record_at (head_long d.form) place
+  pub record_found : place < p.count → record_in l v ≡ record_at (head_long (form_of d)) place
   unfolding record_in
-  record_found h = rw (has_is, lt-ltb place p.count h, known-marks k) (ap (λ x. record_at (head_long x.form) place) k.draft)
+  record_found h = rw (has_is, lt-ltb place p.count h, known-marks k) (ap (λ x. record_at (head_long (form_of x)) place) k.draft)
 
   pub record_absent : p.count ≤ place → record_in l v ≡ nowhere
   unfolding record_in

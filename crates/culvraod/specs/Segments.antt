@@ -1,5 +1,5 @@
 -- How values of segments cross the C interface: a number for the case, and the number that the value carries. Assumes nothing.
-use Rattle.std.specs.Prelude.{ℕ, zero, suc, false, ℤ, pos, Option, Some, None, Float}
+use Rattle.std.specs.Prelude.{ℕ, zero, suc, false, ℤ, pos, Float}
 use Rattle.std.specs.Float.{fin}
 use Rattle.ranged1d.specs.Answer.{Answer, given, refused}
 use Rattle.segmented.specs.Values.{Segment}
@@ -12,11 +12,6 @@ case_of zero v = given (Exact v)
 case_of (suc zero) v = given (CenterOf v)
 case_of (suc (suc zero)) v = given Last
 case_of (suc (suc (suc n))) v = refused 1
-
--- a case that was read
-abbrev pub tell_case : {A : Type 0} → Option (Segment A) → Answer (Segment A)
-tell_case (Some s) = given s
-tell_case None = refused 1
 
 -- on the way out: the same numbers; Last comes with 0, among reals with this one
 abbrev pub nil : Float

@@ -6,7 +6,9 @@
 pub mod segments;
 
 ghost use Rattle.std.specs.Prelude.{◌≡◌, ◌≤◌, pos};
+ghost use Rattle.std.specs.Result.{result_ok};
 ghost use Rattle.ranged1d.specs.Refusals.{number_of};
+ghost use Rattle.ranged1d.specs.Answer.{given};
 ghost use Rattle.ranged1d.specs.Told.{tell, tell_found};
 ghost use Rattle.ranged1d.specs.Admitted.{limit_of};
 ghost use Rattle.numeric.specs.Calls.{whole_key_points, index_key_points};
@@ -33,22 +35,24 @@ ghost use Rattle.culvraod.specs.Boundary.{code, single, double, held_c};
 ghost use Rattle.culvraod.specs.Numeric.{key_points_c};
 
 use float::FloatPrettyPrinter;
-use linspace::{Linspacef64, Linspacei32};
+use linspace::Linspace;
 use numeric::{Choice, RangedCoordf64, RangedCoordi32, RangedCoordusize};
 use ranged1d::{Limit, Refusal};
 use ruler::{Draft, Part};
 use search::RoundingMethod;
 
 // A search as C chooses it.
-fn method_of(method: u32) -> Option<RoundingMethod>
-    ensures { result ≡ method_of method }
+// Kept: a table, since search gives its methods no numbers, and an impl of TryFrom for its type cannot stand here.
+fn method_of(method: u32) -> Result<RoundingMethod, Refusal>
+    ensures value { result_ok result ≡ method_of method }
+    ensures refusal { tell result ≡ by_method (method_of method) given }
 {
     match method {
-        0 => Some(RoundingMethod::Exact),
-        1 => Some(RoundingMethod::Ceil),
-        2 => Some(RoundingMethod::Floor),
-        3 => Some(RoundingMethod::Round),
-        _ => None,
+        0 => Ok(RoundingMethod::Exact),
+        1 => Ok(RoundingMethod::Ceil),
+        2 => Ok(RoundingMethod::Floor),
+        3 => Ok(RoundingMethod::Round),
+        _ => Err(Refusal::WholeNotAdmitted),
     }
 }
 
@@ -122,23 +126,11 @@ fn give_part(part: Part, start: &mut usize, size: &mut usize) -> i32
     0
 }
 
-// The stepped axes that C names by their three numbers.
-pub(crate) fn wholes_by(a: i32, b: i32, d: i32) -> Linspacei32
-    ensures { (result.inner.0 ≡ a) × (result.inner.1 ≡ b) × (result.step ≡ d) }
+// The axis that C names by its ends and a step.
+pub(crate) fn steps_by<A: Copy, T: Copy>(inner: A, step: T) -> Linspace<A, T>
+    ensures { (result.inner ≡ inner) × (result.step ≡ step) }
 {
-    Linspacei32 {
-        inner: RangedCoordi32(a, b),
-        step: d,
-    }
-}
-
-pub(crate) fn reals_by(a: f64, b: f64, d: f64) -> Linspacef64
-    ensures { (result.inner.0 ≡ a) × (result.inner.1 ≡ b) × (result.step ≡ d) }
-{
-    Linspacef64 {
-        inner: RangedCoordf64(a, b),
-        step: d,
-    }
+    Linspace { inner, step }
 }
 
 #[unsafe(no_mangle)]
@@ -264,6 +256,19 @@ pub extern "C" fn culv_real_key_points(
     give(RangedCoordf64(a, b).key_points(m, out), count)
 }
 
+// What a ruler is drawn for, as C names it.
+fn draft(a: i32, b: i32, p: i32, q: i32, m: u32, choice: Choice) -> Draft
+    ensures { result ≡ record { a = a; b = b; limit = limit_of p q; m = m; choice = choice } }
+{
+    Draft {
+        a,
+        b,
+        limit: Limit(p, q),
+        m,
+        choice,
+    }
+}
+
 #[unsafe(no_mangle)]
 pub extern "C" fn culv_ruler_write(
     a: i32,
@@ -277,13 +282,7 @@ pub extern "C" fn culv_ruler_write(
 ) -> i32
     ensures { (result, out.new, bytes.new, marks.new) ≡ key_points_c (ruler_write a b (limit_of p q) m out.old) bytes.old marks.old }
 {
-    let whole = Draft {
-        a,
-        b,
-        limit: Limit(p, q),
-        m,
-        choice: Choice::Cut,
-    };
+    let whole = draft(a, b, p, q, m, Choice::Cut);
     give_two(whole.write(out), bytes, marks)
 }
 
@@ -300,13 +299,7 @@ pub extern "C" fn culv_ruler_write_inside(
 ) -> i32
     ensures { (result, out.new, bytes.new, marks.new) ≡ key_points_c (ruler_write_inside a b (limit_of p q) m out.old) bytes.old marks.old }
 {
-    let inside = Draft {
-        a,
-        b,
-        limit: Limit(p, q),
-        m,
-        choice: Choice::Inside,
-    };
+    let inside = draft(a, b, p, q, m, Choice::Inside);
     give_two(inside.write(out), bytes, marks)
 }
 
@@ -324,13 +317,7 @@ pub extern "C" fn culv_ruler_write_twisted(
 ) -> i32
     ensures { (result, out.new, bytes.new, marks.new) ≡ key_points_c (twisted_write Choice.Cut twist a b (limit_of p q) m out.old) bytes.old marks.old }
 {
-    let whole = Draft {
-        a,
-        b,
-        limit: Limit(p, q),
-        m,
-        choice: Choice::Cut,
-    };
+    let whole = draft(a, b, p, q, m, Choice::Cut);
     give_two(whole.write_twisted(twist, out), bytes, marks)
 }
 
@@ -348,13 +335,7 @@ pub extern "C" fn culv_ruler_write_inside_twisted(
 ) -> i32
     ensures { (result, out.new, bytes.new, marks.new) ≡ key_points_c (twisted_write Choice.Inside twist a b (limit_of p q) m out.old) bytes.old marks.old }
 {
-    let inside = Draft {
-        a,
-        b,
-        limit: Limit(p, q),
-        m,
-        choice: Choice::Inside,
-    };
+    let inside = draft(a, b, p, q, m, Choice::Inside);
     give_two(inside.write_twisted(twist, out), bytes, marks)
 }
 
@@ -468,12 +449,9 @@ pub extern "C" fn culv_ruler_pair(
 ) -> i32
     ensures { (result, which.new, start.new, size.new) ≡ pair_c value (record_in (side_of value left.now right.now) value) }
 {
-    if value < 0 {
-        *which = 0;
-        return give_part(ruler::find_record(left, value), start, size);
-    }
-    *which = 1;
-    give_part(ruler::find_record(right, value), start, size)
+    let (side, bytes) = if value < 0 { (0, left) } else { (1, right) };
+    *which = side;
+    give_part(ruler::find_record(bytes, value), start, size)
 }
 
 #[unsafe(no_mangle)]
@@ -481,8 +459,8 @@ pub extern "C" fn culv_search_whole(list: &[i32], target: i32, method: u32, k: &
     ensures { (result, k.new) ≡ single (by_method (method_of method) (whole_search list.now target)) k.old }
 {
     match method_of(method) {
-        Some(m) => give_found(search::search_whole(list, target, m), k),
-        None => 1,
+        Ok(m) => give_found(search::search_whole(list, target, m), k),
+        Err(r) => refused(r),
     }
 }
 
@@ -491,8 +469,8 @@ pub extern "C" fn culv_search_real(list: &[f64], target: f64, method: u32, k: &m
     ensures { (result, k.new) ≡ single (by_method (method_of method) (real_search list.now target)) k.old }
 {
     match method_of(method) {
-        Some(m) => give_found(search::search_real(list, target, m), k),
-        None => 1,
+        Ok(m) => give_found(search::search_real(list, target, m), k),
+        Err(r) => refused(r),
     }
 }
 
@@ -506,7 +484,7 @@ pub extern "C" fn culv_step_whole_values(
 ) -> i32
     ensures { (result, out.new, count.new) ≡ list_c (step_values whole a b d out.old) count.old }
 {
-    let wholes = wholes_by(a, b, d);
+    let wholes = steps_by(RangedCoordi32(a, b), d);
     give(wholes.values(out), count)
 }
 
@@ -514,7 +492,7 @@ pub extern "C" fn culv_step_whole_values(
 pub extern "C" fn culv_step_whole_size(a: i32, b: i32, d: i32, n: &mut u64) -> i32
     ensures { (result, n.new) ≡ single (step_size whole a b d) n.old }
 {
-    let wholes = wholes_by(a, b, d);
+    let wholes = steps_by(RangedCoordi32(a, b), d);
     give(wholes.size(), n)
 }
 
@@ -522,7 +500,7 @@ pub extern "C" fn culv_step_whole_size(a: i32, b: i32, d: i32, n: &mut u64) -> i
 pub extern "C" fn culv_step_whole_from_index(a: i32, b: i32, d: i32, k: u64, v: &mut i32) -> i32
     ensures { (result, v.new) ≡ single (step_from_index whole a b d k) v.old }
 {
-    let wholes = wholes_by(a, b, d);
+    let wholes = steps_by(RangedCoordi32(a, b), d);
     give_found(wholes.from_index(k), v)
 }
 
@@ -537,10 +515,10 @@ pub extern "C" fn culv_step_whole_index_of(
 ) -> i32
     ensures { (result, k.new) ≡ single (by_method (method_of method) (step_index_of whole a b d v)) k.old }
 {
-    let wholes = wholes_by(a, b, d);
+    let wholes = steps_by(RangedCoordi32(a, b), d);
     match method_of(method) {
-        Some(m) => give_found(wholes.index_of(v, m), k),
-        None => 1,
+        Ok(m) => give_found(wholes.index_of(v, m), k),
+        Err(r) => refused(r),
     }
 }
 
@@ -556,7 +534,7 @@ pub extern "C" fn culv_step_whole_map(
 ) -> i32
     ensures { (result, pixel.new) ≡ single (step_place whole a b d v (limit_of p q)) pixel.old }
 {
-    let wholes = wholes_by(a, b, d);
+    let wholes = steps_by(RangedCoordi32(a, b), d);
     give(wholes.map(v, Limit(p, q)), pixel)
 }
 
@@ -572,7 +550,7 @@ pub extern "C" fn culv_step_whole_unmap(
 ) -> i32
     ensures { (result, v.new) ≡ single (step_reading whole a b d x (limit_of p q)) v.old }
 {
-    let wholes = wholes_by(a, b, d);
+    let wholes = steps_by(RangedCoordi32(a, b), d);
     give_found(wholes.unmap(x, Limit(p, q)), v)
 }
 
@@ -587,7 +565,7 @@ pub extern "C" fn culv_step_whole_key_points(
 ) -> i32
     ensures { (result, out.new, count.new) ≡ list_c (step_key_points whole a b d m out.old) count.old }
 {
-    let wholes = wholes_by(a, b, d);
+    let wholes = steps_by(RangedCoordi32(a, b), d);
     give(wholes.key_points(m, out), count)
 }
 
@@ -601,7 +579,7 @@ pub extern "C" fn culv_step_real_values(
 ) -> i32
     ensures { (result, out.new, count.new) ≡ list_c (step_values real a b d out.old) count.old }
 {
-    let reals = reals_by(a, b, d);
+    let reals = steps_by(RangedCoordf64(a, b), d);
     give(reals.values(out), count)
 }
 
@@ -609,7 +587,7 @@ pub extern "C" fn culv_step_real_values(
 pub extern "C" fn culv_step_real_size(a: f64, b: f64, d: f64, n: &mut u64) -> i32
     ensures { (result, n.new) ≡ single (step_size real a b d) n.old }
 {
-    let reals = reals_by(a, b, d);
+    let reals = steps_by(RangedCoordf64(a, b), d);
     give(reals.size(), n)
 }
 
@@ -617,7 +595,7 @@ pub extern "C" fn culv_step_real_size(a: f64, b: f64, d: f64, n: &mut u64) -> i3
 pub extern "C" fn culv_step_real_from_index(a: f64, b: f64, d: f64, k: u64, v: &mut f64) -> i32
     ensures { (result, v.new) ≡ single (step_from_index real a b d k) v.old }
 {
-    let reals = reals_by(a, b, d);
+    let reals = steps_by(RangedCoordf64(a, b), d);
     give_found(reals.from_index(k), v)
 }
 
@@ -632,10 +610,10 @@ pub extern "C" fn culv_step_real_index_of(
 ) -> i32
     ensures { (result, k.new) ≡ single (by_method (method_of method) (step_index_of real a b d v)) k.old }
 {
-    let reals = reals_by(a, b, d);
+    let reals = steps_by(RangedCoordf64(a, b), d);
     match method_of(method) {
-        Some(m) => give_found(reals.index_of(v, m), k),
-        None => 1,
+        Ok(m) => give_found(reals.index_of(v, m), k),
+        Err(r) => refused(r),
     }
 }
 
@@ -651,7 +629,7 @@ pub extern "C" fn culv_step_real_map(
 ) -> i32
     ensures { (result, pixel.new) ≡ single (step_place real a b d v (limit_of p q)) pixel.old }
 {
-    let reals = reals_by(a, b, d);
+    let reals = steps_by(RangedCoordf64(a, b), d);
     give(reals.map(v, Limit(p, q)), pixel)
 }
 
@@ -667,7 +645,7 @@ pub extern "C" fn culv_step_real_unmap(
 ) -> i32
     ensures { (result, v.new) ≡ single (step_reading real a b d x (limit_of p q)) v.old }
 {
-    let reals = reals_by(a, b, d);
+    let reals = steps_by(RangedCoordf64(a, b), d);
     give_found(reals.unmap(x, Limit(p, q)), v)
 }
 
@@ -682,7 +660,7 @@ pub extern "C" fn culv_step_real_key_points(
 ) -> i32
     ensures { (result, out.new, count.new) ≡ list_c (step_key_points real a b d m out.old) count.old }
 {
-    let reals = reals_by(a, b, d);
+    let reals = steps_by(RangedCoordf64(a, b), d);
     give(reals.key_points(m, out), count)
 }
 
@@ -690,7 +668,7 @@ pub extern "C" fn culv_step_real_key_points(
 pub extern "C" fn culv_chart_clear(a: i32, b: i32, d: i32, counts: &mut [u16]) -> i32
     ensures { (result, counts.new) ≡ held_c (chart_clear a b d counts.old) }
 {
-    let wholes = wholes_by(a, b, d);
+    let wholes = steps_by(RangedCoordi32(a, b), d);
     give_done(chart::clear(wholes, counts))
 }
 
@@ -698,7 +676,7 @@ pub extern "C" fn culv_chart_clear(a: i32, b: i32, d: i32, counts: &mut [u16]) -
 pub extern "C" fn culv_chart_set(a: i32, b: i32, d: i32, pin: i32, counts: &mut [u16]) -> i32
     ensures { (result, counts.new) ≡ held_c (chart_set a b d pin counts.old) }
 {
-    let wholes = wholes_by(a, b, d);
+    let wholes = steps_by(RangedCoordi32(a, b), d);
     give_done(chart::set(wholes, pin, counts))
 }
 
@@ -706,7 +684,7 @@ pub extern "C" fn culv_chart_set(a: i32, b: i32, d: i32, pin: i32, counts: &mut 
 pub extern "C" fn culv_chart_pull(a: i32, b: i32, d: i32, pin: i32, counts: &mut [u16]) -> i32
     ensures { (result, counts.new) ≡ held_c (chart_pull a b d pin counts.old) }
 {
-    let wholes = wholes_by(a, b, d);
+    let wholes = steps_by(RangedCoordi32(a, b), d);
     give_done(chart::pull(wholes, pin, counts))
 }
 

@@ -1,9 +1,8 @@
 // The C calls on segments: every call under its C name. include/culvraod.h documents them.
 ghost use Rattle.std.specs.Prelude.{◌≡◌, pos, length};
 ghost use Rattle.ranged1d.specs.Answer.{and_then};
-ghost use Rattle.ranged1d.specs.Told.{tell_found};
+ghost use Rattle.ranged1d.specs.Told.{tell, tell_found};
 ghost use Rattle.ranged1d.specs.Admitted.{limit_of};
-ghost use Rattle.ranged1d.specs.Told.{tell_found};
 ghost use Rattle.numeric.specs.Marks.{marks, step_of};
 ghost use Rattle.linspace.specs.List.{whole, real};
 ghost use Rattle.linspace.specs.Calls.{step_marks};
@@ -12,24 +11,25 @@ ghost use Rattle.segmented.specs.Axes.{whole_axis, whole_finder, stepped_axis, s
 ghost use Rattle.culvraod.specs.Boundary.{single};
 ghost use Rattle.culvraod.specs.Numeric.{key_points_c};
 ghost use Rattle.culvraod.specs.Search.{method_of, by_method};
-ghost use Rattle.culvraod.specs.Segments.{case_of, tell_case, nil, kind_of, carried, segment_c};
+ghost use Rattle.culvraod.specs.Segments.{case_of, nil, kind_of, carried, segment_c};
 ghost use Rattle.culvraod.specs.Steps.{list_c};
 
-use crate::{give, give_found, give_two, method_of, reals_by, refused, wholes_by};
-use numeric::RangedCoordi32;
+use crate::{give, give_found, give_two, method_of, refused, steps_by};
+use numeric::{RangedCoordf64, RangedCoordi32};
 use ranged1d::{Limit, Refusal};
 use search::RoundingMethod;
 use segmented::{Axis, SegmentValue, Segmented};
 
 // A value of segments as C writes it.
-fn case_of<T: Copy>(kind: u32, v: T) -> Option<SegmentValue<T>>
-    ensures { tell_case result ≡ case_of kind v }
+// Kept: tables both ways, as method_of; TryFrom would take the pair and could not stand here either, and a case that carries a value has no number.
+fn case_of<T: Copy>(kind: u32, v: T) -> Result<SegmentValue<T>, Refusal>
+    ensures { tell result ≡ case_of kind v }
 {
     match kind {
-        0 => Some(SegmentValue::Exact(v)),
-        1 => Some(SegmentValue::CenterOf(v)),
-        2 => Some(SegmentValue::Last),
-        _ => None,
+        0 => Ok(SegmentValue::Exact(v)),
+        1 => Ok(SegmentValue::CenterOf(v)),
+        2 => Ok(SegmentValue::Last),
+        _ => Err(Refusal::WholeNotAdmitted),
     }
 }
 
@@ -76,8 +76,8 @@ fn give_place<A: Axis<Way = RoundingMethod>>(
     ensures { (result, pixel.new) ≡ single (by_method (method_of method) (λ m. and_then (case_of kind v) (λ s. segment_place (A.axis axis) (A.finder axis m) s limit))) pixel.old }
 {
     match (method_of(method), case_of(kind, v)) {
-        (Some(m), Some(s)) => give(Segmented(axis).map(m, s, limit), pixel),
-        _ => 1,
+        (Ok(m), Ok(s)) => give(Segmented(axis).map(m, s, limit), pixel),
+        (Err(r), _) | (_, Err(r)) => refused(r),
     }
 }
 
@@ -91,8 +91,8 @@ fn give_index<A: Axis<Way = RoundingMethod>>(
     ensures { (result, k.new) ≡ single (by_method (method_of method) (λ m. and_then (case_of kind v) (segment_index_of (A.axis axis) (A.finder axis m)))) k.old }
 {
     match (method_of(method), case_of(kind, v)) {
-        (Some(m), Some(s)) => give_found(Segmented(axis).index_of(m, s), k),
-        _ => 1,
+        (Ok(m), Ok(s)) => give_found(Segmented(axis).index_of(m, s), k),
+        (Err(r), _) | (_, Err(r)) => refused(r),
     }
 }
 
@@ -138,8 +138,8 @@ pub extern "C" fn culv_seg_whole_map(
 {
     let wholes = Segmented(RangedCoordi32(a, b));
     match case_of(kind, v) {
-        Some(s) => give(wholes.map(s, Limit(p, q)), pixel),
-        None => 1,
+        Ok(s) => give(wholes.map(s, Limit(p, q)), pixel),
+        Err(r) => refused(r),
     }
 }
 
@@ -149,8 +149,8 @@ pub extern "C" fn culv_seg_whole_index_of(a: i32, b: i32, kind: u32, v: i32, k: 
 {
     let wholes = Segmented(RangedCoordi32(a, b));
     match case_of(kind, v) {
-        Some(s) => give_found(wholes.index_of(s), k),
-        None => 1,
+        Ok(s) => give_found(wholes.index_of(s), k),
+        Err(r) => refused(r),
     }
 }
 
@@ -203,7 +203,7 @@ pub extern "C" fn culv_seg_whole_key_points(
 pub extern "C" fn culv_seg_step_whole_size(a: i32, b: i32, d: i32, n: &mut u64) -> i32
     ensures { (result, n.new) ≡ single (segment_size (stepped_axis whole a b d)) n.old }
 {
-    let steps = Segmented(wholes_by(a, b, d));
+    let steps = Segmented(steps_by(RangedCoordi32(a, b), d));
     give(steps.size(), n)
 }
 
@@ -221,7 +221,7 @@ pub extern "C" fn culv_seg_step_whole_map(
 ) -> i32
     ensures { (result, pixel.new) ≡ single (by_method (method_of method) (λ m. and_then (case_of kind v) (λ s. segment_place (stepped_axis whole a b d) (stepped_finder whole a b d m) s (limit_of p q)))) pixel.old }
 {
-    let steps = wholes_by(a, b, d);
+    let steps = steps_by(RangedCoordi32(a, b), d);
     give_place(steps, method, kind, v, Limit(p, q), pixel)
 }
 
@@ -237,7 +237,7 @@ pub extern "C" fn culv_seg_step_whole_index_of(
 ) -> i32
     ensures { (result, k.new) ≡ single (by_method (method_of method) (λ m. and_then (case_of kind v) (segment_index_of (stepped_axis whole a b d) (stepped_finder whole a b d m)))) k.old }
 {
-    let steps = wholes_by(a, b, d);
+    let steps = steps_by(RangedCoordi32(a, b), d);
     give_index(steps, method, kind, v, k)
 }
 
@@ -252,7 +252,7 @@ pub extern "C" fn culv_seg_step_whole_from_index(
 ) -> i32
     ensures { (result, kind.new, v.new) ≡ segment_c (pos 0) (segment_from_index (stepped_axis whole a b d) k) kind.old v.old }
 {
-    let steps = wholes_by(a, b, d);
+    let steps = steps_by(RangedCoordi32(a, b), d);
     give_value(steps, k, 0, kind, v)
 }
 
@@ -269,7 +269,7 @@ pub extern "C" fn culv_seg_step_whole_unmap(
 ) -> i32
     ensures { (result, kind.new, v.new) ≡ segment_c (pos 0) (segment_reading (stepped_axis whole a b d) x (limit_of p q)) kind.old v.old }
 {
-    let steps = wholes_by(a, b, d);
+    let steps = steps_by(RangedCoordi32(a, b), d);
     give_reading(steps, x, Limit(p, q), 0, kind, v)
 }
 
@@ -284,7 +284,7 @@ pub extern "C" fn culv_seg_step_whole_key_points(
 ) -> i32
     ensures { (result, out.new, count.new) ≡ list_c (segment_key_points (stepped_axis whole a b d) (length (step_marks whole a b d m)) m out.old) count.old }
 {
-    let steps = Segmented(wholes_by(a, b, d));
+    let steps = Segmented(steps_by(RangedCoordi32(a, b), d));
     give(steps.key_points(m, out), count)
 }
 
@@ -292,7 +292,7 @@ pub extern "C" fn culv_seg_step_whole_key_points(
 pub extern "C" fn culv_seg_step_real_size(a: f64, b: f64, d: f64, n: &mut u64) -> i32
     ensures { (result, n.new) ≡ single (segment_size (stepped_axis real a b d)) n.old }
 {
-    let reals = Segmented(reals_by(a, b, d));
+    let reals = Segmented(steps_by(RangedCoordf64(a, b), d));
     give(reals.size(), n)
 }
 
@@ -310,7 +310,7 @@ pub extern "C" fn culv_seg_step_real_map(
 ) -> i32
     ensures { (result, pixel.new) ≡ single (by_method (method_of method) (λ m. and_then (case_of kind v) (λ s. segment_place (stepped_axis real a b d) (stepped_finder real a b d m) s (limit_of p q)))) pixel.old }
 {
-    let reals = reals_by(a, b, d);
+    let reals = steps_by(RangedCoordf64(a, b), d);
     give_place(reals, method, kind, v, Limit(p, q), pixel)
 }
 
@@ -326,7 +326,7 @@ pub extern "C" fn culv_seg_step_real_index_of(
 ) -> i32
     ensures { (result, k.new) ≡ single (by_method (method_of method) (λ m. and_then (case_of kind v) (segment_index_of (stepped_axis real a b d) (stepped_finder real a b d m)))) k.old }
 {
-    let reals = reals_by(a, b, d);
+    let reals = steps_by(RangedCoordf64(a, b), d);
     give_index(reals, method, kind, v, k)
 }
 
@@ -341,7 +341,7 @@ pub extern "C" fn culv_seg_step_real_from_index(
 ) -> i32
     ensures { (result, kind.new, v.new) ≡ segment_c nil (segment_from_index (stepped_axis real a b d) k) kind.old v.old }
 {
-    let reals = reals_by(a, b, d);
+    let reals = steps_by(RangedCoordf64(a, b), d);
     give_value(reals, k, 0.0, kind, v)
 }
 
@@ -358,7 +358,7 @@ pub extern "C" fn culv_seg_step_real_unmap(
 ) -> i32
     ensures { (result, kind.new, v.new) ≡ segment_c nil (segment_reading (stepped_axis real a b d) x (limit_of p q)) kind.old v.old }
 {
-    let reals = reals_by(a, b, d);
+    let reals = steps_by(RangedCoordf64(a, b), d);
     give_reading(reals, x, Limit(p, q), 0.0, kind, v)
 }
 
@@ -373,6 +373,6 @@ pub extern "C" fn culv_seg_step_real_key_points(
 ) -> i32
     ensures { (result, out.new, count.new) ≡ list_c (segment_key_points (stepped_axis real a b d) (length (step_marks real a b d m)) m out.old) count.old }
 {
-    let reals = Segmented(reals_by(a, b, d));
+    let reals = Segmented(steps_by(RangedCoordf64(a, b), d));
     give(reals.key_points(m, out), count)
 }

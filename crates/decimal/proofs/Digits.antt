@@ -13,7 +13,7 @@ use Rattle.ranged1d.proofs.Bools.{chosen}
 use lib.ListN.{length, set, drop, replicate, length-append, length-replicate, replicate-append-replicate}
 use lib.Seq.{set_at, drop_at}
 use Rattle.decimal.specs.declared.Text.{Text}
-use Rattle.decimal.specs.Print.{digit, minus, digits, natural, signed_digits, decimal, filled_with, filled_to, padded, text_of, long_text_of}
+use Rattle.decimal.specs.Print.{digit, minus, digits, natural, signed_digits, decimal, filled_with, filled_to, padded, text_of}
 
 pub tenth_small : (n k : ℕ) → n < 10 ^ suc k → n / 10 < 10 ^ k
 tenth_small n k h = (div-lt_iff_lt-mul (zero-lt-suc 9)).1 (rw (pow-suc 10 k) at h)
@@ -107,21 +107,18 @@ module _ {f N i n : ℕ} {t : List ℕ} (s : Spelt f N i n t) where
   pub spelt_count : n ≤ 9 → i + length (digits f N) ≡ f + 2
   spelt_count h = rw (← s.told, digits-one (i - 1) n h) (omega (arith, s.long))
 
--- the whole text of w bytes, without a sign and with one
-pub fill_plain : (w : ℕ) (l : List ℕ) (i : ℕ) → i + length l ≡ w → (replicate i 32 ++ l ≡ filled_to w l) × (i ≡ w - length l)
-fill_plain w l i e = let f : w - length l ≡ i = omega arith in rw f (refl, refl)
+-- ---- w bytes that are blank up to the place i, where a text begins: without a sign in front of it, and with one
+module _ (w i : ℕ) (l t : List ℕ) (begins : i + length l ≡ w) (whole : t ≡ replicate i 32 ++ l) (negative : Bool) (bytes : List ℕ) (blanks : ℕ) where
+  pub padded-plain : negative ≡ false → bytes ≡ t → blanks ≡ i → ◌≡◌ {A = Text w} (record { bytes = bytes; blanks = blanks }) (padded w (cond negative (minus ∷ l) l))
+  padded-plain s e f = let k : w - length l ≡ i = omega arith in rw (s, e, f, k, whole) refl
 
-pub fill_minus : (w : ℕ) (l : List ℕ) (i : ℕ) → 0 < i → i + length l ≡ w → (set (replicate i 32 ++ l) (i - 1) 45 ≡ filled_to w (minus ∷ l)) × (i - 1 ≡ w - length (minus ∷ l))
-fill_minus w l i p e = (ap (λ (k : ℕ). set (replicate k 32 ++ l) (i - 1) 45) g ∙ stored, f)
-  where
-    g : i ≡ i - 1 + 1
-    g = omega arith
-
-    f : i - 1 ≡ w - suc (length l)
-    f = omega arith
-
-    stored : set (replicate (i - 1 + 1) 32 ++ l) (i - 1) 45 ≡ replicate (w - suc (length l)) 32 ++ (45 ∷ l)
-    stored = set-blank (i - 1) 45 l ∙ ap (λ (k : ℕ). replicate k 32 ++ (45 ∷ l)) f
+  pub padded-minus : 0 < i → negative ≡ true → bytes ≡ set t (i - 1) 45 → blanks ≡ i - 1
+      → ◌≡◌ {A = Text w} (record { bytes = bytes; blanks = blanks }) (padded w (cond negative (minus ∷ l) l))
+  padded-minus h s e f =
+      let k : w - suc (length l) ≡ i - 1 = omega arith in
+      let g : i ≡ i - 1 + 1 = omega arith in
+      rw (s, e, f, k)
+      (ap (λ (u : List ℕ). record { bytes = u; blanks = i - 1 }) (ap (λ (u : List ℕ). set u (i - 1) 45) (whole ∙ ap (λ (j : ℕ). replicate j 32 ++ l) g) ∙ set-blank (i - 1) 45 l))
 
 -- what holds of a last digit, and of one more digit behind those before it, holds of all digits
 pub digits_by : (P : ℕ → List ℕ → Type 0) → ((n : ℕ) → P n (digit n ∷ [])) → ((n : ℕ) (l : List ℕ) → P (n / 10) l → P n (l ++ (digit (n % 10) ∷ []))) → (f n : ℕ) → P n (digits f n)
@@ -167,9 +164,6 @@ padded_told w l h e = subst (λ (u : Text w). Told w u.blanks u.bytes l) (sym e)
 
 pub text_told : (l : List ℕ) → length l ≤ 11 → {t : Text 11} → t ≡ text_of l → Told 11 t.blanks t.bytes l
 text_told l h e = padded_told 11 l h e
-
-pub long_told : (l : List ℕ) → length l ≤ 21 → {t : Text 21} → t ≡ long_text_of l → Told 21 t.blanks t.bytes l
-long_told l h e = padded_told 21 l h e
 
 -- ---- enough digits: a number below 10 ^ k has at most k, and more fuel than it needs changes nothing
 pub digits_fuel : (f n : ℕ) → n < 10 ^ suc f → digits f n ≡ digits (suc f) n

@@ -2,7 +2,6 @@
 use mathlib.Core.Path.{◌≡◌, refl, ap, ◌∙◌, subst}
 use mathlib.Core.Bool.{Bool, true, false, true≢false, cond, ◌&&◌}
 use mathlib.Core.List.{List, [], ◌∷◌, ◌++◌}
-use mathlib.Core.Logic.{◌⊎◌, inl, inr}
 use Prim.Native.Nat.{ℕ, zero, suc, ◌+◌, ◌-◌, ◌*◌, ◌/◌, ◌%◌, ◌^◌, ◌≤◌, ◌<◌}
 use native.Mathlib.Nat.{div-add-mod'}
 use native.Mathlib.Omega.{arith}
@@ -21,28 +20,12 @@ use mir.Val.{SFits, to_z, of_z}
 use Rattle.ranged1d.specs.Answer.{given, none}
 use Rattle.ranged1d.specs.Numbers.{is_i32}
 use Rattle.ranged1d.proofs.Answers.{choice}
-use Rattle.ranged1d.proofs.Bools.{both_true, le_or}
+use Rattle.ranged1d.proofs.Bools.{both_true}
+use Rattle.ranged1d.proofs.Fits.{fits-i32, not-i32}
 use Rattle.decimal.specs.Print.{digit, digits, natural, decimal}
 use Rattle.decimal.specs.Read.{value_of, signed_value, same_bytes, read_i32, read_u32}
 use Rattle.decimal.proofs.Digits.{digits_by, digits-most, decimal-most}
 use Rattle.decimal.proofs.Texts.{same_self, same-equal, same_no}
-
--- ---- what is an i32
-fits-i32 : (z : ℤ) → SFits w32 z → is_i32 z ≡ true
-fits-i32 (pos n) f = le-leb n 2147483647 (omega (arith, f.sfits))
-fits-i32 (negsuc n) f = rw (le-leb n 2147483647 (omega (arith, f.sfits)))
-
-not-i32 : (z : ℤ) → (SFits w32 z → ⊥) → is_i32 z ≡ false
-not-i32 (pos n) f = go (le_or n 2147483647)
-  where
-    go : (n ≤ 2147483647) ⊎ (2147483647 < n) → leb n 2147483647 ≡ false
-    go (inl h) = absurd (f (record { sfits = omega arith }))
-    go (inr h) = lt-leb n 2147483647 h
-not-i32 (negsuc n) f = go (le_or n 2147483647)
-  where
-    go : (n ≤ 2147483647) ⊎ (2147483647 < n) → (leb n 2147483647 && true) ≡ false
-    go (inl h) = absurd (f (record { sfits = omega arith }))
-    go (inr h) = rw (lt-leb n 2147483647 h)
 
 -- ---- a text's own length
 -- digits begin with one, not with a minus sign

@@ -21,6 +21,11 @@ unfoldable pub digits : ℕ → ℕ → List ℕ
 digits zero n = digit n ∷ []
 digits (suc f) n = cond (ltb n 10) (digit n ∷ []) (digits f (n / 10) ++ (digit (n % 10) ∷ []))
 
+-- the last f digits of n; where n has fewer, zeros stand in front
+unfoldable pub last_digits : ℕ → ℕ → List ℕ
+last_digits zero n = []
+last_digits (suc f) n = last_digits f (n / 10) ++ (digit (n % 10) ∷ [])
+
 -- ten digits are enough for every number of 32 bits
 abbrev pub natural : ℕ → List ℕ
 natural n = digits 9 n

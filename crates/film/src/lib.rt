@@ -26,20 +26,6 @@ fn twist_handed(z: i32) -> u32
     u32::try_from(z).unwrap_or(2)
 }
 
-// The marks that border i of n may use: m shared out, and what is left over to the first ones.
-fn share_of(m: u32, n: usize, i: usize) -> u32
-    requires { (0 < n) × (n ≤ 16) }
-    ensures { result ≡ share m n i }
-{
-    let k = n as u32;
-    let each = m / k;
-    let over = (m % k) as usize;
-    if i < over {
-        return each + 1;
-    }
-    each
-}
-
 impl Border {
     // The border of five numbers.
     #[tactic(auto, unfolding(crate::specs::Steps::border_from))]
@@ -84,33 +70,55 @@ impl Border {
     }
 }
 
-// What is answered for the borders, each lent what the rulers before it leave of `room` bytes; nothing is written.
-fn measure(borders: &[[i32; 5]], m: u32, room: usize) -> Result<(usize, usize), Refusal>
-    requires { length borders.now ≤ 16 }
-    ensures { tell result ≡ walked m (length borders.now) 0 (map border_from borders.now) room }
-{
-    let mut at = 0;
-    let mut marks = 0;
-    for (i, numbers) in borders.iter().enumerate() {
-        let share = share_of(m, borders.len(), i);
-        let (size, count) = Border::of(numbers).settle(share, room - at)?;
-        at += size;
-        marks += count;
-    }
-    Ok((at, marks))
+// The borders of a film, as five numbers each, and the mark limit for all of them.
+#[derive(Clone, Copy)]
+struct Film<'a> {
+    borders: &'a [[i32; 5]],
+    m: u32,
+    ghost few: { length borders.now ≤ 16 },
 }
 
-// The rulers of borders that are all taken, one behind another.
-fn put(borders: &[[i32; 5]], m: u32, out: &mut [u8])
-    requires few { length borders.now ≤ 16 }
-    requires accepted { Accepted (walked m (length borders.now) 0 (map border_from borders.now) (length out.old)) }
-    ensures { out.new ≡ film_bytes m (length borders.now) 0 (map border_from borders.now) ++ drop (length (film_bytes m (length borders.now) 0 (map border_from borders.now))) out.old }
-{
-    let mut at = 0;
-    for (k, numbers) in borders.iter().enumerate() {
-        let x = Border::of(numbers);
-        let share = share_of(m, borders.len(), k);
-        at += put_border(x, share, &mut out[at..]);
+impl<'a> Film<'a> {
+    // The marks that border i may use: the mark limit shared out, and what is left over to the first ones.
+    fn share_of(self, i: usize) -> u32
+        requires { i < length self.borders.now }
+        ensures { result ≡ share self.entry.m (length self.entry.borders.now) i }
+    {
+        let n = self.borders.len() as u32;
+        let each = self.m / n;
+        let over = (self.m % n) as usize;
+        if i < over {
+            return each + 1;
+        }
+        each
+    }
+
+    // What is answered for the borders, each lent what the rulers before it leave of `room` bytes; nothing is written.
+    fn measure(self, room: usize) -> Result<(usize, usize), Refusal>
+        ensures { tell result ≡ walked self.entry.m (length self.entry.borders.now) 0 (map border_from self.entry.borders.now) room }
+    {
+        let mut at = 0;
+        let mut marks = 0;
+        for (i, numbers) in self.borders.iter().enumerate() {
+            let share = self.share_of(i);
+            let (size, count) = Border::of(numbers).settle(share, room - at)?;
+            at += size;
+            marks += count;
+        }
+        Ok((at, marks))
+    }
+
+    // The rulers of borders that are all taken, one behind another.
+    fn put(self, out: &mut [u8])
+        requires { Accepted (walked self.m (length self.borders.now) 0 (map border_from self.borders.now) (length out.old)) }
+        ensures { out.new ≡ film_bytes self.entry.m (length self.entry.borders.now) 0 (map border_from self.entry.borders.now) ++ drop (length (film_bytes self.entry.m (length self.entry.borders.now) 0 (map border_from self.entry.borders.now))) out.old }
+    {
+        let mut at = 0;
+        for (k, numbers) in self.borders.iter().enumerate() {
+            let x = Border::of(numbers);
+            let share = self.share_of(k);
+            at += put_border(x, share, &mut out[at..]);
+        }
     }
 }
 
@@ -134,7 +142,8 @@ pub fn write(borders: &[i32], m: u32, out: &mut [u8]) -> Result<(usize, usize), 
     if fives.is_empty() || 16 < fives.len() || !rest.is_empty() {
         return Err(Refusal::BorderCount);
     }
-    let (size, marks) = measure(fives, m, out.len())?;
-    put(fives, m, out);
+    let film = Film { borders: fives, m };
+    let (size, marks) = film.measure(out.len())?;
+    film.put(out);
     Ok((size, marks))
 }

@@ -4,17 +4,16 @@ use mathlib.Core.Bool.{Bool, true, false, cond, not, ◌&&◌}
 use mathlib.Core.List.{List}
 use Prim.Native.Nat.{ℕ, ◌≤◌, ◌<◌}
 use native.Mathlib.Omega.{arith}
-use borrow.Author.Tests.{le-ltb, lt-ltb, leb-true, ltb-true, ltb-false}
-use lib.Dec.{ltb}
+use borrow.Author.Tests.{le-ltb, lt-ltb, leb-true}
 use lib.IntN.{ℤ, nat_abs}
 use lib.ListN.{length}
 use Rattle.ranged1d.specs.Answer.{Answer, given, none, refused, list_written}
 use Rattle.ranged1d.specs.Admitted.{whole_admitted}
-use Rattle.ranged1d.proofs.Answers.{given_is, not_none}
+use Rattle.ranged1d.proofs.Answers.{not_none}
 use Rattle.decimal.specs.Read.{same_bytes}
 use Rattle.decimal.proofs.Texts.{same_no}
 use Rattle.fixed.specs.Fixed.{fixed_text, number_in, is_printed, fixed_print, fixed_read}
-use Rattle.fixed.specs.Steps.{decimals, printed}
+use Rattle.fixed.specs.Steps.{printed}
 use Rattle.ranged1d.specs.Told.{tell, tell_option}
 use Rattle.ranged1d.specs.declared.Refusal.TheVariants.{NotADecimal}
 use Rattle.decimal.proofs.Reader.{then-told}
@@ -61,21 +60,6 @@ module _ (s : List ℕ) (f : ℕ) where
       go : (t : Bool) → whole_admitted (number_in s) ≡ t → (t && same_bytes s (fixed_text f (number_in s))) ≡ false
       go true a = same_no s (fixed_text f (number_in s)) (other a)
       go false a = refl
-
--- ---- how many decimals
-pub few : (f x : ℕ) → ◌≡◌ {A = Answer ℕ} (given x) (decimals f) → (f ≤ 6) × (x ≡ f)
-few f x e = go (ltb 6 f) refl e
-  where
-    go : (t : Bool) → ltb 6 f ≡ t → ◌≡◌ {A = Answer ℕ} (given x) (cond t (refused 24) (given f)) → (f ≤ 6) × (x ≡ f)
-    go true q h = cc
-    go false q h = (ltb-false 6 f q, given_is h)
-
-pub many : (f n : ℕ) → ◌≡◌ {A = Answer ℕ} (refused n) (decimals f) → (6 < f) × (n ≡ 24)
-many f n e = go (ltb 6 f) refl e
-  where
-    go : (t : Bool) → ltb 6 f ≡ t → ◌≡◌ {A = Answer ℕ} (refused n) (cond t (refused 24) (given f)) → (6 < f) × (n ≡ 24)
-    go true q h = let s : n ≡ 24 = cc in (ltb-true 6 f q, s)
-    go false q h = cc
 
 -- ---- the reader's answer
 pub printed-by : (s : List ℕ) (f : ℕ) (x : ℤ) (b : Bool) → x ≡ number_in s → b ≡ (whole_admitted x && same_bytes s (fixed_text f x)) → tell_option (then_some b x) ≡ printed f s

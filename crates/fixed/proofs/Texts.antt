@@ -14,17 +14,19 @@ use borrow.Author.Tests.{le-ltb, eq-eqb, ne_eqb}
 use lib.Dec.{eqb}
 use lib.IntN.{ℤ, pos, negsuc, neg_ℤ, nat_abs}
 use lib.Signed.{lt_z}
-use lib.ListN.{length, get_or, take, drop, replicate, length-append, length-replicate, drop_of_length-le, get_or-append}
+use lib.ListN.{length, get_or, set, take, drop, replicate, take-append-drop, length-append, length-replicate, drop_of_length-le, get_or-append}
 use Rattle.std.proofs.lemmas.List.{take-replicate}
 use lib.Seq.{drop-cons, drop_at, take-append-le}
 use Rattle.ranged1d.proofs.Bools.{both_true}
-use Rattle.decimal.specs.Print.{point, digit, minus, digits, natural}
+use Rattle.decimal.specs.Print.{point, digit, minus, digits, natural, padded}
 use Rattle.decimal.specs.Read.{value_of}
-use Rattle.decimal.proofs.Digits.{digits_by, digits-few}
+use Rattle.decimal.proofs.Digits.{digits_by, digits-few, padded-plain, padded-minus}
+use Rattle.decimal.specs.declared.Text.{Text}
 use Rattle.fixed.proofs.Written.{digits-written}
 use Rattle.decimal.proofs.Reader.{digits_head, value-append, value-digits}
 use Rattle.fixed.specs.Fixed.{last_digits, fraction, size_text, fixed_text, unpointed, number_in}
-use Rattle.fixed.proofs.Fractions.{tenths, fraction-most}
+use Rattle.fixed.proofs.Fractions.{fraction-most}
+use Rattle.decimal.proofs.LastDigits.{tenths}
 
 -- ---- how long a text is
 pub tens_pos : (f : ℕ) → 0 < 10 ^ f
@@ -89,9 +91,16 @@ module _ (f n r e : ℕ) (few : f ≤ 6) (small : n ≤ 1000000000) (rest : r �
         let m : i ≤ length (replicate {A = ℕ} e 32) = omega (arith, length-replicate {A = ℕ} e 32) in
         before ∙ ap (λ (l : List ℕ). take i l) front ∙ take-append-le i (replicate e 32) (fraction f n) m ∙ take-replicate i e 32 l
 
-    -- where the text begins, that a blank is left there, what stands from there on, and what before
-    pub stands : (i + length (size_text f n) ≡ 12) × (0 < i) × (drop i t ≡ size_text f n) × (take i t ≡ replicate i 32)
-    stands = (begins, some-left, text-behind, blanks-before)
+    whole : t ≡ replicate i 32 ++ size_text f n
+    whole = sym (take-append-drop i t) ∙ ap₂ (λ (a b : List ℕ). a ++ b) blanks-before text-behind
+
+    -- the text without a sign, and with one
+    module _ (x : ℤ) (size : n ≡ nat_abs x) where
+      pub spelt-plain : lt_z x (pos 0) ≡ false → ◌≡◌ {A = Text 12} (record { bytes = t; blanks = i }) (padded 12 (fixed_text f x))
+      spelt-plain s = padded-plain 12 i (size_text f n) t begins whole (lt_z x (pos 0)) t i s refl refl ∙ ap (padded 12) (text-signed f x n size)
+
+      pub spelt-minus : lt_z x (pos 0) ≡ true → ◌≡◌ {A = Text 12} (record { bytes = set t (i - 1) 45; blanks = i - 1 }) (padded 12 (fixed_text f x))
+      spelt-minus s = padded-minus 12 i (size_text f n) t begins whole (lt_z x (pos 0)) (set t (i - 1) 45) (i - 1) some-left s refl refl ∙ ap (padded 12) (text-signed f x n size)
 
 -- ---- the number that a text stands for
 unpoint_append : (l k : List ℕ) → unpointed (l ++ k) ≡ unpointed l ++ unpointed k

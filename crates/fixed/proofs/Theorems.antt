@@ -24,7 +24,7 @@ use Rattle.decimal.proofs.Reader.{digits_head}
 use Rattle.fixed.specs.Fixed.{fraction, size_text, fixed_text, number_in, is_printed, fixed_reasons, fixed_print, fixed_read}
 use Rattle.fixed.specs.Theorems.{Undone, Shaped, NoPoint}
 use Rattle.fixed.proofs.Texts.{tens_pos, number-text, fixed_most}
-use Rattle.fixed.proofs.Fractions.{last-length}
+use Rattle.decimal.proofs.LastDigits.{last-length}
 use Rattle.fixed.proofs.Calls.{print-text, read_by}
 
 module _ (f : ℕ) where

@@ -1,17 +1,13 @@
 -- 02 (k): a whole number whose last f digits are taken as decimals, as a text, and the reader of such texts. A text is a list of bytes. f is a variable
 -- throughout: no rule has a case for each f, but that 0 has no point. Assumes nothing.
-use Rattle.std.specs.Prelude.{ℕ, zero, suc, ◌/◌, ◌%◌, ◌^◌, Bool, cond, not, ◌&&◌, List, [], ◌∷◌, ◌++◌, ltb, eqb, ℤ, pos, negsuc, neg_ℤ, length, get_or, drop}
+use Rattle.std.specs.Prelude.{ℕ, zero, suc, ◌/◌, ◌^◌, Bool, cond, not, ◌&&◌, List, [], ◌∷◌, ◌++◌, ltb, eqb, ℤ, pos, negsuc, neg_ℤ, length, get_or, drop}
 use Rattle.ranged1d.specs.Answer.{Answer, given, Reason, ◌when◌, lowest, written}
 use Rattle.ranged1d.specs.Admitted.{whole_admitted}
-use Rattle.decimal.specs.Print.{digit, minus, point, natural}
+use Rattle.decimal.specs.Print.{minus, point, natural}
+unfoldable pub use Rattle.decimal.specs.Print.{last_digits}
 use Rattle.decimal.specs.Read.{value_of, same_bytes}
 
 -- ---- the text
--- the last f digits of n; where n has fewer, zeros stand in front
-unfoldable pub last_digits : ℕ → ℕ → List ℕ
-last_digits zero n = []
-last_digits (suc f) n = last_digits f (n / 10) ++ (digit (n % 10) ∷ [])
-
 -- behind the whole part: a point and f digits; nothing where f is 0
 unfoldable pub fraction : ℕ → ℕ → List ℕ
 fraction zero n = []

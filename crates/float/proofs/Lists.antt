@@ -12,13 +12,13 @@ use Rattle.std.proofs.Common.{length-take-le}
 use borrow.Author.Tests.{eqb-true, eqb-false}
 use borrow.Rule.Slice.PartMut.{put_mid}
 use Rattle.decimal.specs.declared.Text.{Text}
-use Rattle.decimal.specs.Print.{long_natural, padded}
+use Rattle.decimal.specs.Print.{long_natural, padded, last_digits}
 use Rattle.decimal.proofs.Digits.{digits-most}
 use Rattle.ranged1d.specs.Answer.{Answer, given, list_written}
 use Rattle.ranged1d.proofs.Answers.{all-written}
 use Rattle.float.specs.Text.{filled_up, pointed, front}
-use Rattle.float.specs.Steps.{Taken, placed, tail_of, tail_length, bytes_of}
-use Rattle.float.proofs.Decimals.{placed-length, placed-some}
+use Rattle.float.specs.Steps.{Taken, tail_of, tail_length, bytes_of}
+use Rattle.decimal.proofs.LastDigits.{last-length}
 
 -- a text that was filled with blanks, without them
 pub text_kept : (w : ℕ) (t : List ℕ) → length t ≤ w → (x : Text w) → x ≡ padded w t → (s : List ℕ) → s ≡ drop x.blanks x.bytes → s ≡ t
@@ -38,10 +38,6 @@ put_end h q zs y n k w e f g =
     let l : k ≡ length zs = omega (arith, ap length w, length-append h q) in
     let d : length q ≤ k = omega arith in
     ap (λ (a : List ℕ). put_mid n k a zs) w ∙ put_behind h q zs n k e l ∙ ap (λ (a : List ℕ). (h ++ zs) ++ a) (drop_of_length-le q d) ∙ append-nil (h ++ zs)
-
--- what is left of a list behind a new front
-pub rest_long : (w l : List ℕ) (n k : ℕ) → length w ≡ n → n + k ≡ length l → length (take (length (w ++ drop n l) - n) (drop n (w ++ drop n l))) ≡ k
-rest_long w l n k e f = simp (length-take, length-drop, length-append) (omega arith)
 
 -- ---- how long a number is
 pub long_most : (w : ℕ) → length (long_natural w) ≤ 21
@@ -63,17 +59,19 @@ filled-length : (e : ℕ) (l : List ℕ) → length (filled_up e l) ≡ max (len
 filled-length e l = rw (length-append l (replicate (e - length l) 48), length-replicate {A = ℕ} (e - length l) 48) (omega arith)
 
 pub tail_0 : (k d e : ℕ) → e ≤ k → k ≡ 0 → tail_of k d e ≡ []
+unfolding last_digits
 tail_0 k d e h z =
     let w : e ≡ 0 = omega arith in
     rw (z, w)
 
--- the digits behind zeros
-pub decimals_put : (d : ℕ) (l s w x : List ℕ) → (length l ≡ 0 → ⊥) → s ≡ long_natural d → length s ≤ length l → w ≡ replicate (length l - length s) 48 → x ≡ s
-    → put_mid (length l - length s) (length (w ++ drop (length l - length s) l) - (length l - length s)) (w ++ drop (length l - length s) l) x ≡ placed (length l) d
-decimals_put d l s w x z e h f g =
-    let m : length l - length s ≡ length w = omega (arith, ap length f, length-replicate {A = ℕ} (length l - length s) 48) in
-    put_end w (drop (length l - length s) l) x _ _ _ refl m (omega (arith, ap length g, length-drop (length l - length s) l)) refl
-    ∙ rw (f, g, e) (sym (placed-some (length l) d z))
+-- no room for a tail is left where there is none
+pub tail_none : (k d : ℕ) (l : List ℕ) → length l ≡ 0 → tail_length k (length l - 1) ≡ length l → l ≡ tail_of k d (length l - 1)
+tail_none k d [] z t = go (eqb k 0) refl t
+  where
+    go : (a : Bool) → eqb k 0 ≡ a → cond (a && eqb 0 0) 0 (1 + max k 0) ≡ 0 → [] ≡ tail_of k d 0
+    go true p h = sym (tail_0 k d 0 (omega arith) (eqb-true k 0 p))
+    go false p h = absurd (omega arith)
+tail_none k d (x ∷ l) z t = absurd (omega arith)
 
 -- the point, the digits, and zeros to the end
 long_tail : (k m : ℕ) → tail_length k m ≡ suc m → (k ≤ m) × (0 < m)
@@ -84,14 +82,14 @@ long_tail k m t = go (eqb k 0) (eqb m 0) refl refl t
     go true false p q h = (omega (arith, eqb-true k 0 p), pos_of_ne-zero (eqb-false m 0 q))
     go false b p q h = (omega arith, omega (arith, pos_of_ne-zero (eqb-false k 0 p)))
 
-pub tail_point : (k d m : ℕ) (r p zs : List ℕ) → length r ≡ m → tail_length k m ≡ suc m → d < 10 ^ k → p ≡ placed k d → zs ≡ replicate (m - k) 48
+pub tail_point : (k d m : ℕ) (r p zs : List ℕ) → length r ≡ m → tail_length k m ≡ suc m → d < 10 ^ k → p ≡ last_digits k d → zs ≡ replicate (m - k) 48
     → put_mid (1 + k) (length (put_mid 1 (1 + k - 1) (46 ∷ r) p) - (1 + k)) (put_mid 1 (1 + k - 1) (46 ∷ r) p) zs ≡ tail_of k d m
 tail_point k d m r p zs e t h f g =
     put_end (46 ∷ p) (drop (1 + k - 1) r) zs (put_mid 1 (1 + k - 1) (46 ∷ r) p) (1 + k) _ refl a b refl
-    ∙ rw (f, g) (ap (λ (j : ℕ). 46 ∷ (placed k d ++ replicate (m - j) 48)) (sym (placed-length k d h)) ∙ sym (pointed-some (filled_up m (placed k d)) (rw (filled-length m (placed k d)) (omega (arith, (long_tail k m t).1)))))
+    ∙ rw (f, g) (ap (λ (j : ℕ). 46 ∷ (last_digits k d ++ replicate (m - j) 48)) (sym (last-length k d)) ∙ sym (pointed-some (filled_up m (last_digits k d)) (rw (filled-length m (last_digits k d)) (omega (arith, (long_tail k m t).1)))))
   where
     w : length p ≡ k
-    w = ap length f ∙ placed-length k d h
+    w = ap length f ∙ last-length k d
 
     a : 1 + k ≡ length (46 ∷ p)
     a = omega (arith, w)
@@ -103,7 +101,7 @@ rest_is : (n : ℕ) (l : List ℕ) → length (take (length l - n) (drop n l)) �
 rest_is n l = simp (length-take, length-drop) (omega arith)
 
 pub tail_put : (k d : ℕ) (l p zs : List ℕ) → (length l ≡ 0 → ⊥) → tail_length k (length l - 1) ≡ length l → d < 10 ^ k
-    → p ≡ placed (length (take (1 + k - 1) (drop 1 (set l 0 46)))) d
+    → p ≡ last_digits (length (take (1 + k - 1) (drop 1 (set l 0 46)))) d
     → zs ≡ replicate (length (take (length (put_mid 1 (1 + k - 1) (set l 0 46) p) - (1 + k)) (drop (1 + k) (put_mid 1 (1 + k - 1) (set l 0 46) p)))) 48
     → put_mid (1 + k) (length (put_mid 1 (1 + k - 1) (set l 0 46) p) - (1 + k)) (put_mid 1 (1 + k - 1) (set l 0 46) p) zs ≡ tail_of k d (length l - 1)
 tail_put k d [] p zs z t h f g = absurd (z refl)
@@ -111,8 +109,8 @@ tail_put k d (x ∷ r) p zs z t h f g =
     let m : length (x ∷ r) - 1 ≡ length r = omega arith in
     let q : tail_length k (length r) ≡ suc (length r) = rw m at t in
     let n : length (take (1 + k - 1) r) ≡ k = length-take-le (1 + k - 1) r (omega (arith, (long_tail k (length r) q).0)) ∙ omega arith in
-    let e : p ≡ placed k d = f ∙ ap (λ (j : ℕ). placed j d) n in
-    rw m (tail_point k d (length r) r p zs refl q h e (g ∙ ap (λ (j : ℕ). replicate j 48) (rest_is (1 + k) (46 ∷ (p ++ drop (1 + k - 1) r)) ∙ omega (arith, length-append p (drop (1 + k - 1) r), length-drop (1 + k - 1) r, ap length e, placed-length k d h))))
+    let e : p ≡ last_digits k d = f ∙ ap (λ (j : ℕ). last_digits j d) n in
+    rw m (tail_point k d (length r) r p zs refl q h e (g ∙ ap (λ (j : ℕ). replicate j 48) (rest_is (1 + k) (46 ∷ (p ++ drop (1 + k - 1) r)) ∙ omega (arith, length-append p (drop (1 + k - 1) r), length-drop (1 + k - 1) r, ap length e, last-length k d))))
 
 -- ---- the whole label
 tail_length_lem : (k d e : ℕ) → d < 10 ^ k → length (tail_of k d e) ≡ tail_length k e
@@ -120,9 +118,9 @@ tail_length_lem k d e h = go (eqb k 0) (eqb e 0) refl refl
   where
     some : 0 < max k e → length (tail_of k d e) ≡ 1 + max k e
     some l =
-        let p = placed-length k d h in
-        let f : length (filled_up e (placed k d)) ≡ max k e = filled-length e (placed k d) ∙ ap (λ (j : ℕ). max j e) p in
-        rw (pointed-some (filled_up e (placed k d)) (omega arith)) (omega arith)
+        let p = last-length k d in
+        let f : length (filled_up e (last_digits k d)) ≡ max k e = filled-length e (last_digits k d) ∙ ap (λ (j : ℕ). max j e) p in
+        rw (pointed-some (filled_up e (last_digits k d)) (omega arith)) (omega arith)
 
     go : (a b : Bool) → eqb k 0 ≡ a → eqb e 0 ≡ b → length (tail_of k d e) ≡ cond (a && b) 0 (1 + max k e)
     go true true p q = ap length (tail_0 k d e (omega (arith, eqb-true k 0 p, eqb-true e 0 q)) (eqb-true k 0 p))
@@ -146,9 +144,9 @@ tail_less k e = go (eqb k 0) (eqb e 0) refl refl
 
 tail_same : (k d e : ℕ) → d < 10 ^ k → tail_of k d (tail_length k e - 1) ≡ tail_of k d e
 tail_same k d e h =
-    let p = placed-length k d h in
-    let j : tail_length k e - 1 - length (placed k d) ≡ e - length (placed k d) = ap (λ (n : ℕ). tail_length k e - 1 - n) p ∙ tail_less k e ∙ sym (ap (λ (n : ℕ). e - n) p) in
-    ap (λ (n : ℕ). pointed (placed k d ++ replicate n 48)) j
+    let p = last-length k d in
+    let j : tail_length k e - 1 - length (last_digits k d) ≡ e - length (last_digits k d) = ap (λ (n : ℕ). tail_length k e - 1 - n) p ∙ tail_less k e ∙ sym (ap (λ (n : ℕ). e - n) p) in
+    ap (λ (n : ℕ). pointed (last_digits k d ++ replicate n 48)) j
 
 pub bytes_put : (t : Taken) (e : ℕ) (o w z : List ℕ) (n k : ℕ) → t.decimals < 10 ^ t.places → w ≡ front t.minus t.whole → n ≡ length w → k ≡ tail_length t.places e → n + k ≤ length o
     → z ≡ tail_of t.places t.decimals (length (take (n + k - n) (drop n (w ++ drop n o))) - 1)

@@ -18,6 +18,7 @@ use Rattle.float.specs.Text.{sign_of, whole_part, decimals_of, fills_up, decimal
 use Rattle.float.specs.Calls.{printable, label_print}
 use Rattle.float.specs.Steps.{Taken, parts, parts_of, trimmed, bytes_of, decimals_for}
 use Rattle.float.proofs.Cases.{stops, Few, trim_few, tail_le, shorten-few}
+use Rattle.decimal.specs.Print.{last_digits}
 use Rattle.float.proofs.Decimals.{decimals-kept}
 use Rattle.float.proofs.Lists.{front-most, bytes-length}
 use Rattle.float.proofs.Bounds.{near, stays_near, printable_at_most}
@@ -55,7 +56,7 @@ bytes-kept s w p d e l h = rw (decimals-kept s w p d l h, (trim_keeps s w p d).0
 
 -- what is written of the parts is the rule's text
 pub bytes-shown : (x : Float) (p e : ℕ) → p ≤ 10 → bytes_of (parts_of x p) e ≡ shown x p e
-unfolding parts_of shown decimals trimmed bytes_of
+unfolding parts_of shown decimals trimmed bytes_of last_digits
 bytes-shown x zero e l = refl
 bytes-shown x (suc p) e l = go (fills_up x (suc p)) refl
   where

@@ -15,9 +15,9 @@ use Rattle.decimal.proofs.Digits.{tenth_small, digits-one}
 use Rattle.float.specs.Shorten.{shorten, tolerance}
 use Rattle.float.specs.Text.{sign_of, whole_part, decimals_of, fills_up, decimals, filled_up, pointed, front, shown, plotters_text, is_nonzero, all_zero, has_minus, without_minus, zero_unsigned, label_of}
 use Rattle.float.specs.Calls.{printable}
-use Rattle.float.specs.Steps.{Taken, parts, trimmed, parts_of, unsigned_parts, placed, tail_of, bytes_of}
+use Rattle.float.specs.Steps.{Taken, parts, trimmed, parts_of, unsigned_parts, tail_of, bytes_of}
 use Rattle.float.proofs.Cases.{Few}
-use Rattle.float.proofs.Decimals.{placed_step}
+use Rattle.decimal.specs.Print.{last_digits}
 use Rattle.float.proofs.Bounds.{near}
 use Rattle.float.proofs.Casts.{whole_le}
 use Rattle.float.proofs.Printed.{parts-few, bytes-shown, whole_grows, text-short}
@@ -81,11 +81,11 @@ parts_cut : (x : Float) (p : ℕ) → Cut (parts_of x p)
 unfolding parts_of
 parts_cut x p = chosen Cut (fills_up x p) (λ z. absurd (z refl)) (trim_cut (sign_of x) (whole_part x) p (decimals_of x p))
 
-placed_counts : (k d : ℕ) → k ≤ 10 → d < 10 ^ k → (k ≡ 0 → ⊥) → (d % 10 ≡ 0 → ⊥) → all_zero (placed k d) ≡ false
-placed_counts zero d l h z c = absurd (z refl)
-placed_counts (suc k) d l h z c =
-    ap all_zero (placed_step k d (omega arith) h)
-    ∙ not_right (placed k (d / 10)) (digit (d % 10) ∷ []) (rw (count-digit (d % 10) (omega arith) c))
+last_counts : (k d : ℕ) → (k ≡ 0 → ⊥) → (d % 10 ≡ 0 → ⊥) → all_zero (last_digits k d) ≡ false
+unfolding last_digits
+last_counts zero d z c = absurd (z refl)
+last_counts (suc k) d z c =
+    not_right (last_digits k (d / 10)) (digit (d % 10) ∷ []) (rw (count-digit (d % 10) (omega arith) c))
 
 pointed_counts : (t : List ℕ) → all_zero t ≡ false → all_zero (pointed t) ≡ false
 pointed_counts [] h = h
@@ -101,7 +101,7 @@ zeros-pointed zero = refl
 zeros-pointed (suc k) = zeros_zero k
 
 zero_text : (s : Bool) (d e : ℕ) → bytes_of (parts false 0 0 0) e ≡ zero_unsigned (front s 0 ++ tail_of 0 d e)
-unfolding bytes_of zero_unsigned
+unfolding bytes_of zero_unsigned last_digits
 zero_text true d e = rw (digits-one 19 0 (omega arith)) (rw (zeros-pointed (e - 0)))
 zero_text false d e = rw (digits-one 19 0 (omega arith)) (rw (zeros-pointed (e - 0)))
 
@@ -123,7 +123,7 @@ unsigned_bytes t e l f c = go (eqb t.whole 0) (eqb t.places 0) refl refl
     go true false p q =
         let z = eqb-false t.places 0 q in
         ap (λ (u : Taken). bytes_of u e) (parts-places t z)
-        ∙ kept (bytes_of t e) (not_right (front t.minus t.whole) (tail_of t.places t.decimals e) (pointed_counts (filled_up e (placed t.places t.decimals)) (not_left (placed t.places t.decimals) (replicate (e - length (placed t.places t.decimals)) 48) (placed_counts t.places t.decimals f.0 f.1 z (c z)))))
+        ∙ kept (bytes_of t e) (not_right (front t.minus t.whole) (tail_of t.places t.decimals e) (pointed_counts (filled_up e (last_digits t.places t.decimals)) (not_left (last_digits t.places t.decimals) (replicate (e - length (last_digits t.places t.decimals)) 48) (last_counts t.places t.decimals z (c z)))))
     go false b p q =
         let z = eqb-false t.whole 0 p in
         ap (λ (u : Taken). bytes_of u e) (parts_whole t z)

@@ -3,11 +3,11 @@ use Rattle.std.specs.Prelude.{Bool, false, cond, ◌&&◌, List, [], ◌∷◌, 
 use Rattle.std.specs.Float.{binary64}
 use Rattle.std.specs.Float.Ieee.{add, div}
 use Rattle.ranged1d.specs.Answer.{Answer, given, ◌when◌, lowest}
-use Rattle.decimal.specs.Print.{long_natural}
+use Rattle.decimal.specs.Print.{last_digits}
 use Rattle.float.specs.declared.Shortened.{Shortened}
 use Rattle.float.specs.Shorten.{ten}
 use Rattle.float.specs.Calls.{printable}
-use Rattle.float.specs.Text.{sign_of, whole_part, decimals_of, fills_up, padded, filled_up, pointed, front}
+use Rattle.float.specs.Text.{sign_of, whole_part, decimals_of, fills_up, filled_up, pointed, front}
 
 -- back from a level whose floor is f
 abbrev pub above : Float → Shortened → Shortened
@@ -42,14 +42,9 @@ parts_of x p =
 unfoldable pub unsigned_parts : Taken → Taken
 unsigned_parts t = cond (eqb t.whole 0 && eqb t.places 0) (parts false 0 0 0) t
 
--- k decimals, which are the digits of d
-abbrev pub placed : ℕ → ℕ → List ℕ
-placed zero d = []
-placed (suc k) d = padded (suc k) (long_natural d)
-
--- the point, k decimals, and zeros to e of them
+-- the point, k decimals, which are the digits of d, and zeros to e of them
 abbrev pub tail_of : ℕ → ℕ → ℕ → List ℕ
-tail_of k d e = pointed (filled_up e (placed k d))
+tail_of k d e = pointed (filled_up e (last_digits k d))
 
 abbrev pub tail_length : ℕ → ℕ → ℕ
 tail_length k e = cond (eqb k 0 && eqb e 0) 0 (1 + max k e)

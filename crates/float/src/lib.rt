@@ -1,16 +1,16 @@
 // Labels of real numbers, after data/float.rs, plain and in scientific notation, into lent bytes.
 #![tactic(auto)]
 
-ghost use Rattle.std.specs.Prelude.{◌≡◌, true, false, ◌∷◌, ◌++◌, ◌-◌, ◌^◌, ◌≤◌, ◌<◌, length, take, [], ◌+◌};
+ghost use Rattle.std.specs.Prelude.{◌≡◌, true, false, ◌∷◌, ◌++◌, ◌-◌, ◌^◌, ◌≤◌, ◌<◌, length, take, ◌+◌, MatchResult};
 ghost use Rattle.std.specs.Float.Ieee as Ieee;
-ghost use Rattle.ranged1d.specs.Answer.{list_written};
+ghost use Rattle.ranged1d.specs.Answer.{given, refused, list_written};
+ghost use Rattle.ranged1d.specs.Refusals.{number_of};
 ghost use Rattle.ranged1d.specs.Told.{tell};
 ghost use Rattle.rounding.specs.Within.{AtMost};
 ghost use Rattle.float.specs.Shorten.{shorten, tolerance, plain};
-ghost use Rattle.float.specs.Text.{nought};
 ghost use Rattle.float.specs.Scientific.{zero_float, letter, table_index, scale_of, scientific_of};
 ghost use Rattle.float.specs.Calls.{printable, too_small, label_print, label_scientific};
-ghost use Rattle.float.specs.Steps.{Taken, back, parts, trimmed, parts_of, unsigned_parts, placed, tail_of, tail_length, bytes_of, decimals_for};
+ghost use Rattle.float.specs.Steps.{Taken, back, parts, trimmed, parts_of, unsigned_parts, tail_of, tail_length, bytes_of, decimals_for};
 
 use decades::Power;
 use ranged1d::Refusal;
@@ -21,6 +21,13 @@ use std::marker::Model;
 pub struct FloatPrettyPrinter {
     pub min_decimal: u32,
     pub max_decimal: u32,
+}
+
+// How many decimals may say anything of a number: ten at most.
+#[derive(Clone, Copy)]
+struct Precision {
+    number: usize,
+    ghost few: { number ≤ 10 },
 }
 
 // A shortened number, and how many decimals it has at most.
@@ -86,12 +93,15 @@ fn descend(n: f64, eps: f64, floors: &mut [f64]) -> Shortened
 
 // n by as few decimals as bring it nearer than the tolerance of h decimals, and no more than h: down to the level that is near enough, and back
 // through the floors. There is room for the floors of ten levels, which are all that a label has.
-fn find_minimal_repr(n: f64, h: usize) -> Shortened
-    requires { h ≤ 10 }
-    ensures { result ≡ shorten h n (tolerance h) }
+fn find_minimal_repr(n: f64, h: Precision) -> Shortened
+    ensures { result ≡ shorten h.number n (tolerance h.number) }
 {
     let mut floors = [0.0; 10];
-    let r = descend(n, 1.0 / 10u64.pow(h as u32) as f64, &mut floors[..h]);
+    let r = descend(
+        n,
+        1.0 / 10u64.pow(h.number as u32) as f64,
+        &mut floors[..h.number],
+    );
     let levels = r.levels;
     let value = floors[..levels]
         .iter()
@@ -100,13 +110,12 @@ fn find_minimal_repr(n: f64, h: usize) -> Shortened
 }
 
 // Without the zeros at the end of the decimals.
-fn trim(minus: bool, whole: u64, p: usize, d: u64) -> Parts
-    requires few { p ≤ 10 }
-    requires below { d < 10 ^ p }
-    ensures { result ≡ trimmed minus whole p d }
+fn trim(minus: bool, whole: u64, p: Precision, d: u64) -> Parts
+    requires { d < 10 ^ p.number }
+    ensures { result ≡ trimmed minus whole p.number d }
 {
     let mut decimals = d;
-    for places in (1..=p).rev() {
+    for places in (1..=p.number).rev() {
         if decimals % 10 != 0 {
             return Parts {
                 minus,
@@ -121,6 +130,7 @@ fn trim(minus: bool, whole: u64, p: usize, d: u64) -> Parts
 }
 
 // A shortened number taken apart. Both casts are exact: neither number is near the end of a u64.
+// Kept: asked of Shortened, not held by it. It is a word of the rule, by which a number of any size is shortened.
 fn take_apart(r: Shortened) -> Parts
     requires few { r.levels ≤ 10 }
     requires near { AtMost (2 ^ 53 + 2) r.value }
@@ -137,7 +147,7 @@ fn take_apart(r: Shortened) -> Parts
     if unit <= d {
         return Parts::whole(minus, whole + 1);
     }
-    trim(minus, whole, r.levels, d)
+    trim(minus, whole, Precision { number: r.levels }, d)
 }
 
 impl Parts {
@@ -173,21 +183,6 @@ impl Parts {
     }
 }
 
-// Writes the digits of d as decimals into all of out: zeros, and the digits at their end.
-fn put_decimals(out: &mut [u8], d: u64)
-    requires { d < 10 ^ length out.old }
-    ensures { out.new ≡ placed (length out.old) d }
-{
-    if out.is_empty() {
-        return;
-    }
-    let text = decimal::long_label(false, d);
-    let digits = text.as_slice();
-    let lead = out.len() - digits.len();
-    out[..lead].fill(b'0');
-    out[lead..].copy_from_slice(digits);
-}
-
 // Writes the point and the decimals, and zeros behind them to the end; or nothing where there is nothing to write.
 fn put_tail(t: Parts, tail: &mut [u8])
     requires { tail_length t.places (length tail.old - 1) ≡ length tail.old }
@@ -198,7 +193,7 @@ fn put_tail(t: Parts, tail: &mut [u8])
     }
     let end = 1 + t.places;
     tail[0] = b'.';
-    put_decimals(&mut tail[1..end], t.decimals);
+    decimal::put_last_digits(&mut tail[1..end], t.decimals);
     tail[end..].fill(b'0');
 }
 
@@ -265,24 +260,12 @@ fn put_scientific(t: Parts, e: u32, exponent: &[u8], out: &mut [u8]) -> Result<u
     Ok(all)
 }
 
-// Writes a zero.
-fn put_zero(out: &mut [u8]) -> Result<usize, Refusal>
-    ensures { (tell result, out.new) ≡ list_written (nought ∷ []) out.old }
-{
-    if out.is_empty() {
-        return Err(Refusal::OutTooShort);
-    }
-    out[0] = b'0';
-    Ok(1)
-}
-
 // Writes the plain or the scientific text of a number that is neither zero nor too small.
-fn put_either(n: f64, h: usize, e: u32, out: &mut [u8]) -> Result<usize, Refusal>
-    requires few { h ≤ 10 }
+fn put_either(n: f64, h: Precision, e: u32, out: &mut [u8]) -> Result<usize, Refusal>
     requires has_label { printable n ≡ true }
     requires nonzero { Ieee.eq n zero_float ≡ false }
     requires large { too_small n ≡ false }
-    ensures { (tell result, out.new) ≡ list_written (scientific_of n h e) out.old }
+    ensures { (tell result, out.new) ≡ list_written (scientific_of n h.number e) out.old }
 {
     let r = find_minimal_repr(n, h);
     let t = take_apart(r);
@@ -291,7 +274,7 @@ fn put_either(n: f64, h: usize, e: u32, out: &mut [u8]) -> Result<usize, Refusal
     if exponent.unsigned_abs() < 3 {
         return put_plain(t, e, out);
     }
-    let u = take_apart(find_minimal_repr(n / p.value, 5));
+    let u = take_apart(find_minimal_repr(n / p.value, Precision { number: 5 }));
     let text = decimal::label(exponent);
     let x = text.as_slice();
     if u.length(e) + 1 + x.len() + 1 < t.length(e) || r.value == 0.0 {
@@ -309,8 +292,8 @@ fn has_label(n: f64) -> bool
 
 impl FloatPrettyPrinter {
     // How many decimals may say anything of n, if it has a label with so many decimals.
-    fn decimals_for(self, n: f64) -> Result<usize, Refusal>
-        ensures { tell result ≡ decimals_for n self.max_decimal self.min_decimal }
+    fn decimals_for(self, n: f64) -> Result<Precision, Refusal>
+        ensures { MatchResult result (λ h. given h.number ≡ decimals_for n self.max_decimal self.min_decimal) (λ r. refused (number_of r) ≡ decimals_for n self.max_decimal self.min_decimal) }
     {
         if !has_label(n) {
             return Err(Refusal::NotPrintable);
@@ -318,7 +301,9 @@ impl FloatPrettyPrinter {
         if 10 < self.max_decimal || 20 < self.min_decimal {
             return Err(Refusal::TooManyDecimals);
         }
-        Ok(self.max_decimal as usize)
+        Ok(Precision {
+            number: self.max_decimal as usize,
+        })
     }
 
     // The label of n, written to the start of out: 38 bytes are always enough.
@@ -335,7 +320,7 @@ impl FloatPrettyPrinter {
     {
         let most = self.decimals_for(n)?;
         if n == 0.0 {
-            return put_zero(out);
+            return decimal::put_text(b"0", out);
         }
         if n.abs() < 1e-307 {
             return Err(Refusal::TooSmall);

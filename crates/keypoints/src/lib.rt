@@ -3,8 +3,9 @@
 #![tactic(auto)]
 
 ghost use Rattle.std.specs.Prelude.{◌≡◌, ◌++◌, ltb, ◌≤◌, length, drop};
+ghost use Rattle.rounding.specs.Operations.{◌⊘◌};
 ghost use Rattle.ranged1d.specs.Told.{tell, tell_option};
-ghost use Rattle.keypoints.specs.Scale.{is_small, unless_next, rest_of, first_mark, last_mark, points_by, start_of, chosen, most_rounds};
+ghost use Rattle.keypoints.specs.Scale.{is_small, unless_next, rest_of, first_mark, last_mark, points_by, ten, start_of, chosen, most_rounds};
 ghost use Rattle.keypoints.specs.Marks.{passes, shifted, marks_from, marks_by, marks_for, most_marks, unmarked_for, end_admitted, axis_admitted, put_unless, smaller, larger, real_key_points};
 
 use ranged1d::Refusal;
@@ -39,6 +40,7 @@ struct Scale {
 
 // What the loop over the marks goes by: a mark is the base and a distance from there, which grows by the step until it passes the right
 // end.
+// Kept: the four numbers of the rule (specs/Marks), two of them a scale's. Within a Scale each would be named by two words.
 #[derive(Clone, Copy)]
 struct Run {
     step: f64,
@@ -93,6 +95,28 @@ fn last_mark(hi: f64, s: f64) -> f64
     ensures { result ≡ last_mark hi s }
 {
     hi - rem_euclid(hi, s)
+}
+
+impl Scale {
+    // Another step, with the same granularity.
+    fn with_step(self, step: f64) -> Scale
+        ensures { result ≡ record { step = step; grain = self.grain } }
+    {
+        Scale {
+            step,
+            grain: self.grain,
+        }
+    }
+
+    // A tenth of both.
+    fn tenth(self) -> Scale
+        ensures { result ≡ record { step = self.step ⊘ ten; grain = self.grain ⊘ ten } }
+    {
+        Scale {
+            step: self.step / 10.0,
+            grain: self.grain / 10.0,
+        }
+    }
 }
 
 impl Run {
@@ -203,30 +227,23 @@ impl Span {
     }
 
     // The scale that is chosen, if the rounds begin with this one and come to one.
+    // Kept: three tests in a row. A `find` over the three parts and their steps divides before it is asked: 131 ns for the marks, and 119 so.
     #[tactic(auto, using(crate::proofs::Rules::rounds))]
     fn choose(self, m: u64, first: Scale) -> Option<Scale>
         ensures { tell_option result ≡ chosen self.lo self.hi m most_rounds first.step first.grain }
     {
-        let mut step = first.step;
-        let mut grain = first.grain;
+        let mut s = first;
         for _ in 0..MOST_ROUNDS {
-            if m < self.points(step, 2.0) {
-                return Some(Scale { step, grain });
+            if m < self.points(s.step, 2.0) {
+                return Some(s);
             }
-            if m < self.points(step, 5.0) {
-                return Some(Scale {
-                    step: step / 2.0,
-                    grain,
-                });
+            if m < self.points(s.step, 5.0) {
+                return Some(s.with_step(s.step / 2.0));
             }
-            if m < self.points(step, 10.0) {
-                return Some(Scale {
-                    step: step / 5.0,
-                    grain,
-                });
+            if m < self.points(s.step, 10.0) {
+                return Some(s.with_step(s.step / 5.0));
             }
-            step /= 10.0;
-            grain /= 10.0;
+            s = s.tenth();
         }
         None
     }

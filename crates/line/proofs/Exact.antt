@@ -117,7 +117,7 @@ fields_of (z ∷ zs) r h = rw (whole_of z (joined zs r) h.0, fields_of zs r h.1)
 -- ---- the whole line
 -- the four numbers of a request, and its line by them
 four : Request → List ℤ
-four r = r.a ∷ r.b ∷ r.p ∷ r.q ∷ []
+four r = r.a ∷ r.b ∷ r.limit.0 ∷ r.limit.1 ∷ []
 
 line_form : (r : Request) → line_of r ≡ keyword ++ (32 ∷ joined (four r) (natural r.m))
 unfolding joined four
@@ -127,8 +127,8 @@ line_form r = simp append_assoc
 pub record Within (r : Request) : Type 0 where
   pub a_fits : is_i32 r.a ≡ true
   pub b_fits : is_i32 r.b ≡ true
-  pub p_fits : is_i32 r.p ≡ true
-  pub q_fits : is_i32 r.q ≡ true
+  pub p_fits : is_i32 r.limit.0 ≡ true
+  pub q_fits : is_i32 r.limit.1 ≡ true
   pub m_fits : r.m ≤ 4294967295
 
 keyword_no_blank : NoBlank keyword

@@ -1,6 +1,7 @@
 -- 01 "From the drafting table": the lines that the ruler program reads. Assumes nothing.
 use Rattle.std.specs.Prelude.{ℕ, zero, suc, cond, List, [], ◌∷◌, ◌++◌, eqb, ltb, ℤ, pos, length, get_or, drop}
 use Rattle.ranged1d.specs.Answer.{Answer, given, none, and_then}
+use Rattle.ranged1d.specs.Admitted.{limit_of}
 use Rattle.decimal.specs.Print.{blank, natural, decimal}
 use Rattle.decimal.specs.Read.{same_bytes, read_i32, read_u32}
 use Rattle.line.specs.declared.Request.{Request}
@@ -9,14 +10,14 @@ use Rattle.line.specs.declared.Request.{Request}
 abbrev pub keyword : List ℕ
 keyword = 114 ∷ 117 ∷ 108 ∷ 101 ∷ []
 
--- a line: the word, then a, b, p, q and m in base ten as labels have them without their blanks, one blank before each
+-- a line: the word, then a and b, the limits p and q, and m in base ten as labels have them without their blanks, one blank before each
 abbrev pub line_of : Request → List ℕ
 line_of r =
     keyword
     ++ (blank ∷ decimal r.a)
     ++ (blank ∷ decimal r.b)
-    ++ (blank ∷ decimal r.p)
-    ++ (blank ∷ decimal r.q)
+    ++ (blank ∷ decimal r.limit.0)
+    ++ (blank ∷ decimal r.limit.1)
     ++ (blank ∷ natural r.m)
 
 -- ---- how a line is taken apart, from its left
@@ -42,9 +43,9 @@ unfoldable pub whole_fields : ℕ → List ℕ → Answer (List ℤ × List ℕ)
 whole_fields zero s = given ([], s)
 whole_fields (suc k) s = and_then (whole_field s) (λ z. and_then (whole_fields k z.1) (λ r. given (z.0 ∷ r.0, r.1)))
 
--- a, b, p and q, in this order, and m
+-- a and b, the limits p and q, in this order, and m
 abbrev pub request_of : List ℤ → ℕ → Request
-request_of l m = record { a = get_or l 0 (pos 0); b = get_or l 1 (pos 0); p = get_or l 2 (pos 0); q = get_or l 3 (pos 0); m = m }
+request_of l m = record { a = get_or l 0 (pos 0); b = get_or l 1 (pos 0); limit = limit_of (get_or l 2 (pos 0)) (get_or l 3 (pos 0)); m = m }
 
 -- the numbers of a line: four i32s, and a u32, which ends the line
 unfoldable pub parse_numbers : List ℕ → Answer Request

@@ -8,12 +8,14 @@ ghost use Rattle.decimal.specs.Print.{decimal};
 ghost use Rattle.line.specs.Mark.{put_mark};
 ghost use Rattle.line.specs.Line.{field, whole_field, parse_numbers, parse_line};
 
+use ranged1d::Limit;
+
+// What a line asks for: an axis, its limits on the film, and how many marks at most.
 #[derive(Clone, Copy)]
 pub struct Request {
     pub a: i32,
     pub b: i32,
-    pub p: i32,
-    pub q: i32,
+    pub limit: Limit,
     pub m: u32,
 }
 
@@ -42,7 +44,8 @@ fn read_numbers(s: &[u8]) -> Option<Request>
     let (p, rest) = whole_field(rest)?;
     let (q, rest) = whole_field(rest)?;
     let m = decimal::read_u32(rest)?;
-    Some(Request { a, b, p, q, m })
+    let limit = Limit(p, q);
+    Some(Request { a, b, limit, m })
 }
 
 // What a line asks for: the numbers of a line that begins with the word rule, or that it is a bad one.

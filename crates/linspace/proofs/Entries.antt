@@ -2,13 +2,13 @@
 -- Assumes nothing.
 use mathlib.Core.Path.{◌≡◌, refl, sym, ap, ◌∙◌}
 use mathlib.Core.Bool.{Bool, true, false, cond}
-use mathlib.Core.List.{List, [], ◌∷◌, ◌++◌, append-nil}
+use mathlib.Core.List.{List, [], ◌∷◌}
 use Prim.Native.Nat.{ℕ, zero, suc, ◌≤◌, ◌<◌, min}
 use native.Mathlib.Nat.{zero-min, min-zero, suc-min-suc}
 use native.Mathlib.Omega.{arith}
 use borrow.Author.Tests.{lt-ltb}
 use lib.Dec.{ltb, leb-suc-suc}
-use lib.ListN.{length, drop, get_or, get_or-eq_default, drop_of_length-le}
+use lib.ListN.{length, get_or, get_or-eq_default}
 use Rattle.ranged1d.specs.Answer.{given, none}
 use Rattle.numeric.specs.Marks.{list_of}
 use Rattle.numeric.proofs.Lists.{entry, length_of, list_cons}

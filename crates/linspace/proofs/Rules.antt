@@ -13,7 +13,7 @@ use Rattle.std.proofs.Common.{rules}
 use Rattle.ranged1d.specs.Refusals.{number_of}
 use Rattle.ranged1d.specs.Told.{tell, tell_option, tell_found}
 use Rattle.ranged1d.specs.declared.Refusal.{Refusal}
-use Rattle.ranged1d.specs.Answer.{Answer, given, none, refused, Reason, ◌when◌, lowest, written, and_then, list_written}
+use Rattle.ranged1d.specs.Answer.{Answer, given, refused, Reason, ◌when◌, lowest, written, and_then, list_written}
 use Rattle.ranged1d.specs.Admitted.{reading_admitted}
 use Rattle.ranged1d.specs.declared.Limit.{Limit}
 use Rattle.ranged1d.proofs.Answers.{given_is}
@@ -23,7 +23,7 @@ use Rattle.real.specs.Place.{number, real_place_reasons}
 use Rattle.search.specs.declared.RoundingMethod.{RoundingMethod}
 use Rattle.search.specs.Search as rule
 use Rattle.linspace.specs.List.{Kind, most, stepped, against, too_long, axis_admitted}
-use Rattle.linspace.specs.Calls.{nth, nth_of, unlisted, step_values, step_size, step_from_index, step_index_of, among, step_spot, step_place, step_reading, step_marks, step_key_points, unserved}
+use Rattle.linspace.specs.Calls.{nth, nth_of, unlisted, step_values, step_size, step_from_index, step_index_of, step_spot, step_place, step_reading, step_marks, step_key_points, unserved}
 
 -- ---- a refusal that is handed on
 pub handed : {A : Type 0} (r : Result A Refusal) (e : Refusal) → IsErr r × IsErrAnd r (λ x. x ≡ e) → tell r ≡ refused (number_of e)

@@ -3,14 +3,13 @@
 use mathlib.Core.Path.{◌≡◌, refl, sym, ap, ap₂, subst, ◌∙◌}
 use mathlib.Core.Logic.{◌⊎◌, inl, inr}
 use mathlib.Core.List.{List, [], ◌∷◌, ◌++◌, append_assoc, append-nil}
-use Prim.Native.Nat.{ℕ, zero, suc, ◌+◌, ◌-◌, ◌*◌, ◌≤◌, ◌<◌}
+use Prim.Native.Nat.{ℕ, zero, suc, ◌+◌, ◌*◌, ◌≤◌, ◌<◌}
 use native.Mathlib.Nat.{zero-add, add-mul, mul_assoc}
 use native.Mathlib.Numerals.{add-one}
 use native.Mathlib.Omega.{arith}
 use native.Mathlib.Decide.{dec_lt}
-use lib.ListN.{length, set, take, drop, get_or, length-set, length-append, length-drop, drop_of_length-le}
-use lib.Seq.{take_at, length-take-le, drop-cons, drop-drop, drop-append-add, drop-set-lt, get_or-set_same, get_or-set_other, get_or-take, ext_get_or}
-use borrow.Rule.Slice.PartMut.{mid_of, post_of, put_mid, mid_len, Post-is}
+use lib.ListN.{length, set, take, drop, get_or, length-set, drop_of_length-le}
+use lib.Seq.{length-take-le, drop-cons, get_or-set_same, get_or-set_other, get_or-take, ext_get_or}
 use Rattle.numeric.specs.Marks.{list_of}
 use Rattle.numeric.proofs.Lists.{length_of, entry, list_cons, write_more}
 use Rattle.linspace.specs.RealSteps.{after, sums_by, Kept, one_run, four_runs}
@@ -81,19 +80,18 @@ runs_join {A} next by x m (suc n) =
     ∙ ap (λ (y : A). list_of F (m + n) ++ (y ∷ [])) (after_more next (n * by) (m * by) x ∙ ap (λ (k : ℕ). after next k x) p)
     ∙ ap (list_of F) q
 
--- ---- four runs of g, one behind the other, of which the first k are written; what lies behind them is as it was
-module _ {A : Type 0} (e : A) (o : List A) (g : ℕ) (room : 4 * g ≤ length o) (f0 f1 f2 f3 : ℕ → A) where
+-- ---- four runs of g, one behind the other, of which the first k are written
+module _ {A : Type 0} (e : A) (o : List A) (g : ℕ) (room : length o ≡ 4 * g) (f0 f1 f2 f3 : ℕ → A) where
   pub record Four (k : ℕ) (l : List A) : Type 0 where
     pub size : length l ≡ length o
     pub run0 : Run e l 0 k f0
     pub run1 : Run e l g k f1
     pub run2 : Run e l (2 * g) k f2
     pub run3 : Run e l (3 * g) k f3
-    pub rest : drop (4 * g) l ≡ drop (4 * g) o
 
   pub four_starts : Four 0 o
   four_starts =
-      record { size = refl; run0 = run_starts e o 0 f0; run1 = run_starts e o g f1; run2 = run_starts e o (2 * g) f2; run3 = run_starts e o (3 * g) f3; rest = refl }
+      record { size = refl; run0 = run_starts e o 0 f0; run1 = run_starts e o g f1; run2 = run_starts e o (2 * g) f2; run3 = run_starts e o (3 * g) f3 }
 
   module _ {k : ℕ} {l : List A} (w : Four k l) (h : k < g) (x0 x1 x2 x3 : A) where
     abbrev l0 : List A
@@ -139,14 +137,6 @@ module _ {A : Type 0} (e : A) (o : List A) (g : ℕ) (room : 4 * g ≤ length o)
     keep3 : Keeps (3 * g + k) l2 l3
     keep3 base j f = run_keeps e l2 base j f (3 * g + k) x3
 
-    rest_stays : drop (4 * g) l3 ≡ drop (4 * g) o
-    rest_stays =
-        drop-set-lt (4 * g) l2 (3 * g + k) x3 (omega (arith, h))
-        ∙ drop-set-lt (4 * g) l1 (2 * g + k) x2 (omega (arith, h))
-        ∙ drop-set-lt (4 * g) l0 (g + k) x1 (omega (arith, h))
-        ∙ drop-set-lt (4 * g) l k x0 (omega (arith, h))
-        ∙ w.rest
-
     pub four_turn : x0 ≡ f0 k → x1 ≡ f1 k → x2 ≡ f2 k → x3 ≡ f3 k → Four (k + 1) l3
     four_turn q0 q1 q2 q3 = record {
       size = size3;
@@ -154,15 +144,14 @@ module _ {A : Type 0} (e : A) (o : List A) (g : ℕ) (room : 4 * g ≤ length o)
       run1 = keep3 g (k + 1) f1 (inr (omega (arith, h))) (keep2 g (k + 1) f1 (inr (omega (arith, h))) (run_grows e l0 g k f1 x1 (omega (arith, h, room, size0)) q1 (keep0 g k f1 (inl h) w.run1)));
       run2 = keep3 (2 * g) (k + 1) f2 (inr (omega (arith, h))) (run_grows e l1 (2 * g) k f2 x2 (omega (arith, h, room, size1)) q2 (keep1 (2 * g) k f2 (inl (omega (arith, h))) (keep0 (2 * g) k f2 (inl (omega (arith, h))) w.run2)));
       run3 = run_grows e l2 (3 * g) k f3 x3 (omega (arith, h, room, size2)) q3 (keep2 (3 * g) k f3 (inl (omega (arith, h))) (keep1 (3 * g) k f3 (inl (omega (arith, h))) (keep0 (3 * g) k f3 (inl (omega (arith, h))) w.run3)));
-      rest = rest_stays;
     }
 
-  pub four-whole : {l : List A} → Four g l → l ≡ list_of f0 g ++ (list_of f1 g ++ (list_of f2 g ++ (list_of f3 g ++ drop (4 * g) o)))
+  pub four-whole : {l : List A} → Four g l → l ≡ list_of f0 g ++ (list_of f1 g ++ (list_of f2 g ++ (list_of f3 g ++ [])))
   four-whole {l} w =
       go 0 g f0 (omega (arith, room, w.size)) w.run0 (omega arith)
       (go g (2 * g) f1 (omega (arith, room, w.size)) w.run1 (omega arith)
       (go (2 * g) (3 * g) f2 (omega (arith, room, w.size)) w.run2 (omega arith)
-      (go (3 * g) (4 * g) f3 (omega (arith, room, w.size)) w.run3 (omega arith) w.rest)))
+      (go (3 * g) (4 * g) f3 (omega (arith, room, w.size)) w.run3 (omega arith) (drop_of_length-le l (omega (arith, room, w.size))))))
     where
       go : (base n : ℕ) (f : ℕ → A) {t : List A} → base + g ≤ length l → Run e l base g f → base + g ≡ n → drop n l ≡ t → drop base l ≡ list_of f g ++ t
       go base n f h r q d = run-whole e l base g f h r ∙ ap (λ (z : List A). list_of f g ++ z) (ap (λ (m : ℕ). drop m l) q ∙ d)
@@ -210,33 +199,8 @@ module _ {A : Type 0} (next : A → A) (by : ℕ) (a : A) where
       ∙ sym (list_cons F k)
       ∙ ap (list_of F) (sym (q ∙ ap suc n))
 
-  -- the first m are there, and those from m to n are put behind them
-  pub rest_put : (m n : ℕ) (o l y : List A) (x : A) → m ≤ n → n ≤ length o → l ≡ list_of F m ++ drop m o → x ≡ after next (m * by) a
-      → y ≡ list_of (λ k. after next (k * by) x) (length (mid_of m (n - m) l)) → put_mid m (n - m) l y ≡ list_of F n ++ drop n o
-  rest_put m n o l y x h r e s q =
-      ap (λ (z : List A). take m z ++ (y ++ post_of m (n - m) l)) e
-      ∙ ap (λ (z : List A). z ++ (y ++ post_of m (n - m) l)) (take_at (list_of F m) (drop m o) m (length_of F m))
-      ∙ ap (λ (z : List A). list_of F m ++ (z ++ post_of m (n - m) l)) (q ∙ ap (list_of (λ k. after next (k * by) x)) (mid_len m n l inside))
-      ∙ join_on m (n - m) x (post_of m (n - m) l) s
-      ∙ ap (λ (k : ℕ). list_of F k ++ post_of m (n - m) l) whole
-      ∙ ap (λ (z : List A). list_of F n ++ z) (Post-is m n l h ∙ behind)
-    where
-      whole : m + (n - m) ≡ n
-      whole = omega (arith, h)
-
-      size : length l ≡ length o
-      size = ap length e ∙ length-append (list_of F m) (drop m o) ∙ omega (arith, length_of F m, length-drop m o, h, r)
-
-      inside : n ≤ length l
-      inside = omega (arith, size, r)
-
-      there : n ≡ length (list_of F m) + (n - m)
-      there = omega (arith, h, length_of F m)
-
-      behind : drop n l ≡ drop n o
-      behind =
-          ap (drop n) e
-          ∙ ap (λ (k : ℕ). drop k (list_of F m ++ drop m o)) there
-          ∙ drop-append-add (list_of F m) (drop m o) (n - m)
-          ∙ drop-drop (n - m) m o
-          ∙ ap (λ (k : ℕ). drop k o) whole
+  -- the first m are there, and those behind them are put
+  pub rest_put : (m k n : ℕ) (l y : List A) (x : A) → k + m ≡ n → l ≡ list_of F m → x ≡ after next (m * by) a → y ≡ list_of (λ j. after next (j * by) x) k → l ++ y ≡ list_of F n
+  rest_put m k n l y x h e s q =
+      let whole : m + k ≡ n = omega (arith, h) in
+      ap₂ (λ (u v : List A). u ++ v) e (q ∙ ap (λ (z : A). list_of (λ j. after next (j * by) z) k) s) ∙ runs_join next by a m k ∙ ap (list_of F) whole

@@ -1,7 +1,7 @@
 -- A track along a real stepped axis: its one comparison is the test of the list, in either direction, and a step of it is a step of the list. A second
 -- sum behind it. Assumes nothing.
 use mathlib.Core.Path.{◌≡◌, refl, sym, ap, ap₂, subst, ◌∙◌}
-use mathlib.Core.Bool.{Bool, true, false, cond, true≢false}
+use mathlib.Core.Bool.{Bool, true, false, cond}
 use mathlib.Core.List.{[], ◌∷◌}
 use Prim.Native.Nat.{ℕ, zero, suc, ◌+◌, ◌-◌, ◌*◌, ◌/◌, ◌≤◌, ◌<◌}
 use native.Mathlib.Nat.{zero-mul, suc-mul}
@@ -14,7 +14,7 @@ use Rattle.real.proofs.Signs.{zero_of}
 use Rattle.search.proofs.Orders.{past_too, turned, way}
 use Rattle.search.proofs.RealOrder.{real-order}
 use Rattle.linspace.specs.List.{real, entries, toward}
-use Rattle.linspace.specs.RealSteps.{plus_step, after, all, Walked, Reached, Going, Parted, Behind, nearest}
+use Rattle.linspace.specs.RealSteps.{plus_step, after, all, Walked, Going, Behind, nearest}
 use Rattle.linspace.specs.Walks.{Tracked, Stepped, head_of, Trails}
 use Rattle.linspace.specs.declared.track.Track.{Track}
 use Rattle.linspace.specs.declared.track.Trail.{Trail}

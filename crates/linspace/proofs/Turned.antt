@@ -16,7 +16,6 @@ use Rattle.search.proofs.Orders.{Order}
 use Rattle.search.proofs.Turned.{Turns, each-length, search-turned, exact_stays}
 use Rattle.linspace.specs.List.{Kind, entries, most, toward, headed, run, stepped, against, too_long, axis_admitted}
 use Rattle.linspace.specs.Calls.{has_entries, marks_of, count_reasons, unmarked, step_marks, step_values, step_size, step_index_of, step_key_points}
-use Rattle.linspace.proofs.Rules.{counts}
 
 -- y mirrors x
 pub record KindTurns {A : Type 0} (kind : Kind A) (R : A → A → Type 0) : Type 0 where

@@ -1,7 +1,7 @@
 -- The index of v on a whole stepped axis: how many entries come before it, by division, is its place in the list. Assumes nothing.
 use mathlib.Core.Path.{◌≡◌, refl, sym, ap, ◌∙◌}
 use mathlib.Core.Bool.{Bool, true, false, cond, true≢false}
-use Prim.Native.Nat.{ℕ, min, zero, suc, ◌+◌, ◌-◌, ◌*◌, ◌/◌, ◌≤◌, ◌<◌}
+use Prim.Native.Nat.{ℕ, min, zero, suc, ◌+◌, ◌-◌, ◌*◌, ◌/◌, ◌<◌}
 use native.Mathlib.Nat.{suc-mul}
 use native.Mathlib.Omega.{arith}
 use borrow.Author.Tests.{lt-ltb, le-ltb, ltb-true, ltb-false, leb-true, leb-false, eq-eqb, ne_eqb}
@@ -9,8 +9,7 @@ use lib.Dec.{ltb, eqb}
 use lib.IntN.{ℤ, pos, negsuc, nat_abs, ◌+ℤ◌, ◌-ℤ◌}
 use lib.ListN.{get_or}
 use lib.Signed.{lt_z, le_z}
-use Rattle.ranged1d.specs.Admitted.{whole_admitted}
-use Rattle.ranged1d.proofs.Whole.{minus-far, neg-minus, start_to, same_yes}
+use Rattle.ranged1d.proofs.Whole.{neg-minus, start_to, same_yes}
 use Rattle.numeric.specs.Marks.{list_of}
 use Rattle.numeric.specs.Calls.{element}
 use Rattle.numeric.proofs.Lists.{length_of, entry}
@@ -27,10 +26,9 @@ use Rattle.search.proofs.Settles.{settles}
 use Rattle.ranged1d.specs.Numbers.{same, every}
 use mathlib.Core.List.{List, [], ◌∷◌}
 use Rattle.search.specs.Search as rule
-use Rattle.linspace.specs.List.{whole, axis_admitted}
 use Rattle.linspace.specs.WholeSteps.{past, cut_at, whole_position, Known}
 use Rattle.linspace.proofs.Entries.{ascends_list}
-use Rattle.linspace.proofs.WholeList.{way, rounded_up, Sloped, element-toward, element_is, known_sloped, admitted-near}
+use Rattle.linspace.proofs.WholeList.{way, rounded_up, Sloped, element-toward, element_is, known_sloped}
 
 -- v lies so far past a on the way
 past_way : (rises : Bool) (a v : ℤ) → v ≡ a +ℤ way rises (cond rises (v -ℤ a) (a -ℤ v))

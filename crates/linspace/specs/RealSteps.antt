@@ -24,9 +24,8 @@ after next (suc k) x = next (after next k x)
 abbrev pub sums_by : {A : Type 0} → (A → A) → ℕ → A → ℕ → List A
 sums_by next by x g = list_of (λ k. after next (k * by) x) g
 
--- sums h steps apart, from a on, and one at least
+-- sums h steps apart, from a on
 pub record Kept {A : Type 0} (next : A → A) (a : A) (h : ℕ) (l : List A) : Type 0 where
-  pub some : 1 ≤ length l
   pub are : l ≡ sums_by next h a (length l)
 
 -- so many sums, so many steps apart, are one at least, and the last is not past the entries that are counted

@@ -1,6 +1,6 @@
 // Entries of a real stepped axis, written from the sums that a walk has kept: those sums themselves, or four runs at once that begin at them. A sum
 // waits for the one before it; four runs wait together.
-ghost use Rattle.std.specs.Prelude.{◌≡◌, ◌++◌, ◌*◌, ◌≤◌, length, drop, MatchOption};
+ghost use Rattle.std.specs.Prelude.{◌≡◌, ◌*◌, ◌≤◌, [], length, MatchOption};
 ghost use Rattle.linspace.specs.RealSteps.{plus_step, after, sums_by, Kept, four_runs};
 
 use crate::steps::Steps;
@@ -39,10 +39,11 @@ fn advance_four(q: Four, d: f64, k: usize) -> Four
     x
 }
 
-// Four runs of g entries, `by` steps apart, one behind the other; returns the sum behind the last.
+// Four runs of g entries, `by` steps apart, one behind the other, in all of out; returns the sum behind the last.
+// Kept: four indices. As slices the runs are split off by three calls and zipped as ((a, b), (c, d)), and put into four names again in each turn.
 fn put_four(out: &mut [f64], q: Four, d: f64, by: usize, g: usize) -> f64
-    requires { 4 * g ≤ length out.old }
-    ensures { (out.new ≡ four_runs (plus_step d) by g q.x0 q.x1 q.x2 q.x3 (drop (4 * g) out.old)) × (result ≡ after (plus_step d) (g * by) q.x3) }
+    requires { length out.old ≡ 4 * g }
+    ensures { (out.new ≡ four_runs (plus_step d) by g q.x0 q.x1 q.x2 q.x3 []) × (result ≡ after (plus_step d) (g * by) q.x3) }
 {
     let mut y = q;
     for k in 0..g {
@@ -80,30 +81,46 @@ fn run_length(size: usize, h: usize, by: usize, n: usize) -> Option<usize>
     Some(h / by)
 }
 
+// None of the sums, where a list is not worth it.
+pub(crate) fn unkept<'a>(s: Steps<f64>) -> Sums<'a>
+    ensures { result.s ≡ s }
+{
+    Sums { s, kept: &[], h: 0 }
+}
+
 impl Sums<'_> {
-    // n entries, as far apart as the kept sums, written to the start of out: the kept sums, as far as they go, and then further ones.
-    fn put_kept(self, out: &mut [f64], n: usize)
-        requires { n ≤ length out.old }
-        ensures { out.new ≡ sums_by (plus_step self.entry.s.d) self.entry.h self.entry.s.a n ++ drop n out.old }
+    // The sum behind the kept ones.
+    fn next(self) -> f64
+        ensures { result ≡ after (plus_step self.entry.s.d) (length self.entry.kept.now * self.entry.h) self.entry.s.a }
     {
-        let g = self.kept.len();
-        if n <= g {
-            out[0..n].copy_from_slice(&self.kept[0..n]);
-            return;
+        match self.kept.last() {
+            Some(x) => advance(*x, self.s.d, self.h),
+            None => self.s.a,
         }
-        out[0..g].copy_from_slice(self.kept);
-        let x = advance(self.kept[g - 1], self.s.d, self.h);
-        put_entries(&mut out[g..n], x, self.s.d, self.h);
     }
 
-    // n entries, `by` apart, from the first on, written to the start of out.
-    pub(crate) fn put_all(self, out: &mut [f64], by: usize, n: usize)
-        requires { n ≤ length out.old }
-        ensures { out.new ≡ sums_by (plus_step self.entry.s.d) by self.entry.s.a n ++ drop n out.old }
+    // Entries in all of out, as far apart as the kept sums: those, as far as they go, and then further ones.
+    fn put_kept(self, out: &mut [f64])
+        ensures { out.new ≡ sums_by (plus_step self.entry.s.d) self.entry.h self.entry.s.a (length out.old) }
+    {
+        let n = out.len();
+        let g = self.kept.len();
+        if n <= g {
+            out.copy_from_slice(&self.kept[..n]);
+            return;
+        }
+        let (first, rest) = out.split_at_mut(g);
+        first.copy_from_slice(self.kept);
+        put_entries(rest, self.next(), self.s.d, self.h);
+    }
+
+    // Entries in all of out, `by` apart, from the first on.
+    pub(crate) fn put_all(self, out: &mut [f64], by: usize)
+        ensures { out.new ≡ sums_by (plus_step self.entry.s.d) by self.entry.s.a (length out.old) }
     {
         let s = self.s;
-        let Some(g) = run_length(self.kept.len(), self.h, by, n) else {
-            put_entries(&mut out[0..n], s.a, s.d, by);
+        let Some(g) = run_length(self.kept.len(), self.h, by, out.len()) else {
+            put_entries(out, s.a, s.d, by);
             return;
         };
         let q = Four {
@@ -112,19 +129,19 @@ impl Sums<'_> {
             x2: self.kept[2],
             x3: self.kept[3],
         };
-        let x = put_four(out, q, s.d, by, g);
-        put_entries(&mut out[4 * g..n], x, s.d, by);
+        let (runs, rest) = out.split_at_mut(4 * g);
+        let x = put_four(runs, q, s.d, by, g);
+        put_entries(rest, x, s.d, by);
     }
 
     // The same, where the kept sums may be the entries.
-    pub(crate) fn put_spaced(self, out: &mut [f64], by: usize, n: usize)
-        requires { n ≤ length out.old }
-        ensures { out.new ≡ sums_by (plus_step self.entry.s.d) by self.entry.s.a n ++ drop n out.old }
+    pub(crate) fn put_spaced(self, out: &mut [f64], by: usize)
+        ensures { out.new ≡ sums_by (plus_step self.entry.s.d) by self.entry.s.a (length out.old) }
     {
         if self.h == by {
-            self.put_kept(out, n);
+            self.put_kept(out);
             return;
         }
-        self.put_all(out, by, n);
+        self.put_all(out, by);
     }
 }

@@ -9,17 +9,14 @@ mod wholes;
 
 use numeric::{RangedCoordf64, RangedCoordi32};
 
-// A whole axis by a step.
+// An axis by a step.
 #[derive(Clone, Copy)]
-pub struct Linspacei32 {
-    pub inner: RangedCoordi32,
-    pub step: i32,
+pub struct Linspace<A, T> {
+    pub inner: A,
+    pub step: T,
 }
 
-// A real axis by a step.
-// Kept: a struct for each. One over the axis and the step's type would be no plainer, since a list has a closed form here and is walked there.
-#[derive(Clone, Copy)]
-pub struct Linspacef64 {
-    pub inner: RangedCoordf64,
-    pub step: f64,
-}
+// A whole axis by a step, whose list has a closed form, and a real one, whose list is walked.
+pub type Linspacei32 = Linspace<RangedCoordi32, i32>;
+
+pub type Linspacef64 = Linspace<RangedCoordf64, f64>;

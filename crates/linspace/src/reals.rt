@@ -11,12 +11,12 @@ ghost use Rattle.linspace.specs.Calls.{has_entries, unserved, step_values, step_
 ghost use Rattle.linspace.specs.RealSteps.{plus_step, after, Kept, InReach, Walked};
 
 use crate::Linspacef64;
-use crate::lanes::{Sums, put_entries};
+use crate::lanes::{Sums, put_entries, unkept};
 use crate::steps::{Steps, space_marks};
 use crate::track::{Spot, approach, count_on, reach, share, walk_both};
 use numeric::RangedCoordi32;
 use ranged1d::{Limit, Refusal};
-use search::RoundingMethod;
+use search::{Place, RoundingMethod};
 
 // How many sums a walk keeps, and how many steps they are apart: at most 32, since room for more would be cleared by a call.
 #[derive(Clone, Copy)]
@@ -51,29 +51,30 @@ fn longest(s: Steps<f64>) -> f64 {
     longer(s.a + s.d - s.a, longer(s.b - (s.b - s.d), s.d))
 }
 
-// The number of entries, by a division; 0 of a list that is short or too long, and of one by a step so small that rounding may make it much shorter.
-fn roughly(s: Steps<f64>) -> usize
-    ensures { result ≤ 65536 }
+// The number of entries, by a division. Not of a list that is short or too long, nor of one by a step so small that rounding may make it much shorter.
+fn roughly(s: Steps<f64>) -> Option<usize>
+    ensures { MatchOption result (Unit {0}) (λ k. (32 ≤ k) × (k ≤ 65536)) }
 {
     let k = rounding::to_u64((s.b - s.a) / s.d);
-    if k < 32 {
-        return 0;
+    if k < 32 || 65536 < k || !is_coarse(s) {
+        return None;
     }
-    if 65536 < k {
-        return 0;
-    }
-    if is_coarse(s) { k as usize } else { 0 }
+    Some(k as usize)
 }
 
-// A rough number k, which is not more than a few entries off where a list is so long that this is worth another division.
-fn nearly(s: Steps<f64>, k: usize) -> usize
-    ensures { result ≤ k }
+// The same, not more than a few entries off where a list is so long that this is worth another division.
+fn nearly(s: Steps<f64>) -> Option<usize>
+    ensures { MatchOption result (Unit {0}) (λ k. (32 ≤ k) × (k ≤ 65536)) }
 {
+    let k = roughly(s)?;
     if k < 256 {
-        return k;
+        return Some(k);
     }
-    let n = rounding::to_u64((s.b - s.a) / longest(s));
-    if n < k as u64 { n as usize } else { k }
+    let n = rounding::to_u64((s.b - s.a) / longest(s)).min(k as u64);
+    if n < 32 {
+        return None;
+    }
+    Some(n as usize)
 }
 
 // A list that has entries, along which a walk leads.
@@ -133,8 +134,12 @@ impl Walk {
         if 65536 < n {
             return Err(Refusal::ListTooLong);
         }
-        let rises = self.s.rises();
-        Ok(search::settle_entry(method, rises, n, at.n, at.left, v, at.right))
+        let place = Place {
+            rises: self.s.rises(),
+            n,
+            i: at.n,
+        };
+        Ok(place.settle(method, at.left, v, at.right))
     }
 
     // Entry k, the list being walked once.
@@ -194,40 +199,47 @@ fn walk_along(kept: &mut [f64], s: Steps<f64>, w: Likely) -> Result<usize, Refus
 // Which sums to keep of a list of about k entries, with a mark at each `step`: those at the marks, if they are few, or four where runs of marks begin.
 // The last is to be an entry: from a sum past the end nothing is counted, and the list would be walked again. So a mark within a thousandth of the end
 // is left out.
-fn spread(k: usize, step: usize) -> Likely
+fn spread(k: usize, step: usize) -> Option<Likely>
     requires k_bound { k ≤ 65536 }
     requires le_k { 32 ≤ k }
 {
     if step == 0 {
-        return Likely { size: 1, by: 0 };
+        return None;
     }
     let far = (k - k / 1024 - 2) / step;
     if far < 32 {
-        return Likely {
+        return Some(Likely {
             size: far + 1,
             by: step,
-        };
+        });
     }
     let h = k / 4;
-    Likely {
+    Some(Likely {
         size: 4,
         by: h - h % step,
-    }
+    })
 }
 
 // Which sums to keep, by the marks that a list of the rough number of entries has.
-fn likely_marks(s: Steps<f64>, m: u32) -> Likely {
-    let k = nearly(s, roughly(s));
-    if k < 32 {
-        return Likely { size: 1, by: 0 };
-    }
-    match RangedCoordi32(0, (k - 1) as i32).plan(m) {
-        Err(_) => Likely { size: 1, by: 0 },
-        Ok(p) => spread(k, p.step.unsigned_abs() as usize),
-    }
+fn likely_marks(s: Steps<f64>, m: u32) -> Option<Likely> {
+    let k = nearly(s)?;
+    let p = RangedCoordi32(0, (k - 1) as i32).plan(m).ok()?;
+    spread(k, p.step.unsigned_abs() as usize)
 }
 
-// The entries at the marks of the n indices.
+// The n entries, written to the start of out.
+fn put_values(sums: Sums, n: usize, out: &mut [f64]) -> Result<usize, Refusal>
+    requires { step_size real sums.s.a sums.s.b sums.s.d ≡ given n }
+    ensures { (tell result, out.new) ≡ step_values real sums.entry.s.a sums.entry.s.b sums.entry.s.d out.old }
+{
+    if out.len() < n {
+        return Err(Refusal::ListTooLong);
+    }
+    sums.put_all(&mut out[..n], 1);
+    Ok(n)
+}
+
+// The entries at the marks of the n indices, written to the start of out.
 fn put_marks(sums: Sums, n: usize, m: u32, out: &mut [f64]) -> Result<usize, Refusal>
     requires d_value { step_size real sums.s.a sums.s.b sums.s.d ≡ given n }
     requires m_value { unserved real sums.s.a sums.s.b sums.s.d m ≡ false }
@@ -236,7 +248,7 @@ fn put_marks(sums: Sums, n: usize, m: u32, out: &mut [f64]) -> Result<usize, Ref
     let Some(p) = space_marks(n as u32, m, out.len())? else {
         return Ok(0);
     };
-    sums.put_spaced(out, p.by as usize, p.count);
+    sums.put_spaced(&mut out[..p.count], p.by as usize);
     Ok(p.count)
 }
 
@@ -285,22 +297,22 @@ impl Linspacef64 {
         ensures { (tell result, out.new) ≡ step_values real self.inner.0 self.inner.1 self.step out.old }
     {
         let s = self.steps();
-        let w = Likely {
-            size: 4,
-            by: nearly(s, roughly(s)) / 4,
+        let Some(k) = nearly(s) else {
+            let n = counted(s)?;
+            return put_values(unkept(s), n, out);
         };
+        let w = Likely { size: 4, by: k / 4 };
         let mut kept = [0.0; 4];
-        let size = walk_along(&mut kept, s, w)?;
-        if out.len() < size {
-            return Err(Refusal::ListTooLong);
-        }
-        let sums = Sums {
-            s,
-            kept: &kept,
-            h: w.by,
-        };
-        sums.put_all(out, 1, size);
-        Ok(size)
+        let n = walk_along(&mut kept, s, w)?;
+        put_values(
+            Sums {
+                s,
+                kept: &kept,
+                h: w.by,
+            },
+            n,
+            out,
+        )
     }
 
     // The number of entries.
@@ -364,7 +376,10 @@ impl Linspacef64 {
         if s.lacks_mark(m) {
             return Err(Refusal::NoStep);
         }
-        let w = likely_marks(s, m);
+        let Some(w) = likely_marks(s, m) else {
+            let n = counted(s)?;
+            return put_marks(unkept(s), n, m, out);
+        };
         let mut kept = [0.0; 32];
         marks_along(&mut kept[0..w.size], s, w, m, out)
     }

@@ -51,7 +51,8 @@ pub(crate) struct Sides {
 }
 
 // The track of a list that stands at x, on the way to b by d.
-// Kept: told whether the list rises. It is asked once before a walk, which then has no branch by it; a closure would be called in each step.
+// Kept: told whether the list rises, which is asked once before a walk. As a const each of the walks would begin with
+// `if s.rises() { walk::<true>(…) } else { walk::<false>(…) }`, and stand twice in the program.
 fn track_at(rises: bool, b: f64, d: f64, x: f64) -> Track
     ensures { Tracked rises b d x result }
 {
@@ -84,6 +85,7 @@ fn step_on(t: Track) -> Track
 }
 
 // The entry that a track stands at.
+// Kept: told whether the list rises, as `track_at` is.
 fn head(rises: bool, t: Track) -> f64
     ensures { result ≡ head_of rises t }
 {
@@ -91,6 +93,8 @@ fn head(rises: bool, t: Track) -> f64
 }
 
 // The number of entries, 65,537 where there are more, of which x is entry k if there is one.
+// Kept: four walks. One walk would be handed what a step takes along as a closure of one line, and promise a fold of it, of which each caller would have
+// to show what it is: longer than a loop of five lines. And k is below the bound of the loop, where a count begins and where a walk sets out.
 pub(crate) fn count_on(s: Steps<f64>, x: f64, k: usize) -> usize
     requires { k ≤ 65537 }
     ensures { result ≡ k + length (entries (toward real (lt s.a s.b) s.b) (plus_step s.d) (65537 - k) x) }
@@ -128,6 +132,7 @@ pub(crate) fn reach(s: Steps<f64>, k: u64) -> Spot
 }
 
 // t or b, whichever comes first: what comes before it comes before both.
+// Kept: told whether the list rises, as `track_at` is.
 fn nearer(rises: bool, t: f64, b: f64) -> f64
     ensures { result ≡ nearest rises b t }
 {

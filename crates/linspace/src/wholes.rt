@@ -14,7 +14,7 @@ ghost use Rattle.linspace.specs.WholeSteps.{whole_count, past, whole_position, K
 use crate::Linspacei32;
 use crate::steps::{Spacing, Steps, space_marks};
 use ranged1d::{Limit, Refusal};
-use search::RoundingMethod;
+use search::{Place, RoundingMethod};
 
 // A list that is not refused: its ends and its step, and how many entries it has.
 #[derive(Clone, Copy)]
@@ -54,6 +54,7 @@ fn counted(s: Steps<i32>) -> Result<Entries, Refusal>
 
 impl Entries {
     // Entry k.
+    // Kept: first + k · step in place. A public function that asks that it fits would be called by a line as long.
     fn entry(self, k: u32) -> i32
         requires { k < self.n }
         ensures { result ≡ element self.s.a self.s.d k }
@@ -72,6 +73,7 @@ impl Entries {
     }
 
     // How far v lies past a on the way to b, below zero where it lies behind.
+    // Kept: v is admitted here and in the two below. `index_among` tests it once, and a type that holds it would be taken apart in each of the three.
     fn past(self, v: i32) -> i32
         requires { whole_admitted v ≡ true }
         ensures { result ≡ past self.s.a self.s.b v }
@@ -99,6 +101,7 @@ impl Entries {
     }
 
     // Entry i, or v where there is none.
+    // Kept: search has this and the next of a lent list. Over a closure that gives entry i they would be one, and each caller would show what it gives.
     fn entry_or(self, i: u32, v: i32) -> i32
         ensures { result ≡ get_or (list_of (element self.s.a self.s.d) self.n) i v }
     {
@@ -126,7 +129,12 @@ impl Entries {
         let i = self.position(v);
         let x = self.entry_before(i, v);
         let y = self.entry_or(i, v);
-        search::settle_entry(method, self.s.rises(), self.n as usize, i as usize, x, v, y)
+        let place = Place {
+            rises: self.s.rises(),
+            n: self.n as usize,
+            i: i as usize,
+        };
+        place.settle(method, x, v, y)
     }
 
     // The entries, in all of out, each from the one before it. The sum behind the last is at most 2,000,000,000 in size.

@@ -7,6 +7,7 @@ use std::io;
 fn print_marks(rt: &impl Print, p: KeyPoints) -> io::Result<()> {
     let step = p.step;
     print!(rt; " step {step}, marks")?;
+    // Kept: a chain over `get`. An iterator of a plan's marks was tried, and the proof of its `next` did not close.
     for v in (0..p.count).filter_map(|i| p.get(i)) {
         print!(rt; " {v}")?;
     }

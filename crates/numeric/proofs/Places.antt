@@ -13,6 +13,7 @@ use Rattle.ranged1d.specs.declared.Limit.{Limit}
 use Rattle.std.specs.Prelude.{Some, None}
 use Rattle.ranged1d.proofs.Bools.{both_false}
 use Rattle.ranged1d.proofs.Whole.{fits32, length-near, same_yes, some_size, no_difference}
+use Rattle.real.specs.Exact.{whole_exact}
 use Rattle.real.proofs.Error.{between-share}
 use Rattle.ranged1d.specs.Numbers.{same}
 use Rattle.real.specs.Reading.{outside}
@@ -62,7 +63,12 @@ module _ (a b v : ℤ) (limit : Limit) where
 
 pub ruleset places = (no_whole, no_limit, too_far, whole_fits, whole_given)
 
--- ---- the sizes that the exact place is made of, where the axis has length and v lies on it
+-- ---- the exact place: refused where an end or v is not admitted
+pub exact_off : (a b v : ℤ) (limit : Limit) → (ends_admitted a b && whole_admitted v) ≡ false → whole_exact a b v limit ≡ refused 1
+unfolding whole_exact
+exact_off a b v limit e = rw e refl
+
+-- the sizes that it is made of, where the axis has length and v lies on it
 pub exact_sizes : (a b v : ℤ) (limit : Limit) → limit_admitted limit ≡ true → (same a b || outside v a b) ≡ false
     → (nat_abs (limit.1 -ℤ limit.0) ≤ 2000000) × (nat_abs (v -ℤ a) ≤ nat_abs (b -ℤ a)) × (0 < nat_abs (b -ℤ a))
 exact_sizes a b v limit film h =

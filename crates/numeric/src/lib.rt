@@ -6,13 +6,14 @@ ghost use Rattle.std.specs.Int.Signed.{le_z};
 ghost use Rattle.ranged1d.specs.Admitted.{index_admitted};
 ghost use Rattle.ranged1d.specs.Answer.{given, ◌when◌, lowest};
 ghost use Rattle.ranged1d.specs.Told.{tell, tell_option};
-ghost use Rattle.numeric.specs.Marks.{step_at, serves, chosen, first_index, last_by, how_many, list_of, no_step_for};
+ghost use Rattle.numeric.specs.Marks.{low, high, step_at, serves, chosen, first_index, last_by, how_many, list_of, no_step_for};
 ghost use Rattle.numeric.specs.Calls.{Computes, key_points_as, whole_key_points, plan_with, plan_by, whole_plan, inside_plan, element, point_at, index_key_points};
 
 mod whole;
 
 use ranged1d::Refusal;
 pub use real::RangedCoordf64;
+use whole::Ends;
 
 // An axis with two whole ends, in either order.
 #[derive(Clone, Copy)]
@@ -44,14 +45,20 @@ const STEPS: [u32; 28] = [
     500000000, 1000000000,
 ];
 
+// A step of the table.
+#[derive(Clone, Copy)]
+struct Step {
+    by: u32,
+    ghost some: { 0 < by },
+    ghost most: { by ≤ 1000000000 },
+}
+
 // Step k.
-fn step_at(k: usize) -> u32
+fn step_at(k: usize) -> Step
     requires { k < 28 }
-    ensures value { result ≡ step_at k }
-    ensures some { 0 < result }
-    ensures most { result ≤ 1000000000 }
+    ensures { result.by ≡ step_at k }
 {
-    STEPS[k]
+    Step { by: STEPS[k] }
 }
 
 // Whether step k serves the distance d. d + s - 1 stays below 2^32.
@@ -60,7 +67,7 @@ fn serves_at(d: u32, m: u32, k: usize) -> bool
     requires d_bound { d ≤ 2000000000 }
     ensures { result ≡ serves d m k }
 {
-    let s = step_at(k);
+    let s = step_at(k).by;
     let n = (d + (s - 1)) / s;
     if k % 3 == 0 { n <= m } else { n < m }
 }
@@ -73,32 +80,6 @@ fn choose(d: u32, m: u32) -> Option<usize>
     (0..28).find(|k| serves_at(d, m, *k))
 }
 
-// Which multiple of s is the least that is not below lo.
-fn first_index(lo: i32, s: u32) -> i32
-    requires lo_bound { nat_abs lo ≤ 1000000000 }
-    requires s_nonzero { (0 < s) × (s ≤ 1000000000) }
-    ensures { result ≡ first_index lo s }
-{
-    let t = s as i32;
-    if lo < 0 { lo / t } else { (lo + (t - 1)) / t }
-}
-
-impl Choice {
-    // Which multiple of s is the last mark. The source cuts hi toward zero by `range.1 - range.1 % scale`.
-    #[tactic(auto, using(crate::proofs::Inside::last_near_hi))]
-    fn last(self, hi: i32, s: u32) -> i32
-        requires hi_bound { nat_abs hi ≤ 1000000000 }
-        requires s_nonzero { (0 < s) × (s ≤ 1000000000) }
-        ensures value { result ≡ last_by self hi s }
-        ensures near { nat_abs result ≤ 1000000000 }
-    {
-        match self {
-            Choice::Cut => hi / (s as i32),
-            Choice::Inside => -first_index(-hi, s),
-        }
-    }
-}
-
 // How many whole numbers there are from i to j.
 fn how_many(i: i32, j: i32) -> u32
     requires i_bound { nat_abs i ≤ 1000000000 }
@@ -109,29 +90,73 @@ fn how_many(i: i32, j: i32) -> u32
     if n < 0 { 0 } else { n as u32 }
 }
 
-// The marks from lo to hi, unwritten.
-fn plan_sorted(choice: Choice, lo: i32, hi: i32, m: u32) -> Result<KeyPoints, Refusal>
-    requires lo_bound { nat_abs lo ≤ 1000000000 }
-    requires hi_bound { nat_abs hi ≤ 1000000000 }
-    requires hi_value { le_z lo hi ≡ true }
-    ensures { tell result ≡ lowest (3 when no_step_for lo hi m ∷ []) (given (plan_with choice lo hi m)) }
-{
-    let Some(k) = choose(hi.abs_diff(lo), m) else {
-        return Err(Refusal::NoStep);
-    };
-    let s = step_at(k);
-    let i = first_index(lo, s);
-    let n = how_many(i, choice.last(hi, s));
-    let step = s as i32;
-    let first = i * step;
-    Ok(KeyPoints {
-        first,
-        step,
-        count: n,
-    })
+impl Step {
+    // Which of its multiples is the least that is not below z.
+    fn first_from(self, z: i32) -> i32
+        requires { nat_abs z ≤ 1000000000 }
+        ensures { result ≡ first_index z self.by }
+    {
+        let t = self.by as i32;
+        if z < 0 { z / t } else { (z + (t - 1)) / t }
+    }
+}
+
+// The ends of an axis, both admitted, the lower one first.
+#[derive(Clone, Copy)]
+struct Sorted {
+    lo: i32,
+    hi: i32,
+    ghost lo_near: { nat_abs lo ≤ 1000000000 },
+    ghost hi_near: { nat_abs hi ≤ 1000000000 },
+    ghost rises: { le_z lo hi ≡ true },
+}
+
+impl Ends {
+    fn sorted(self) -> Sorted
+        ensures { (result.lo ≡ low self.a self.b) × (result.hi ≡ high self.a self.b) }
+    {
+        Sorted {
+            lo: self.a.min(self.b),
+            hi: self.a.max(self.b),
+        }
+    }
+}
+
+impl Sorted {
+    // Which multiple of s is the last mark. The source cuts hi toward zero by `range.1 - range.1 % scale`.
+    #[tactic(auto, using(crate::proofs::Inside::last_near_hi))]
+    fn last(self, choice: Choice, s: Step) -> i32
+        ensures value { result ≡ last_by choice self.hi s.by }
+        ensures near { nat_abs result ≤ 1000000000 }
+    {
+        match choice {
+            Choice::Cut => self.hi / (s.by as i32),
+            Choice::Inside => -s.first_from(-self.hi),
+        }
+    }
+
+    // The marks, unwritten.
+    fn plan(self, choice: Choice, m: u32) -> Result<KeyPoints, Refusal>
+        ensures { tell result ≡ lowest (3 when no_step_for self.lo self.hi m ∷ []) (given (plan_with choice self.lo self.hi m)) }
+    {
+        let Some(k) = choose(self.hi.abs_diff(self.lo), m) else {
+            return Err(Refusal::NoStep);
+        };
+        let s = step_at(k);
+        let i = s.first_from(self.lo);
+        let n = how_many(i, self.last(choice, s));
+        let step = s.by as i32;
+        let first = i * step;
+        Ok(KeyPoints {
+            first,
+            step,
+            count: n,
+        })
+    }
 }
 
 // Numbers from first on, a step apart, as `mark` has them.
+// Kept: first + k · step in place, as in ruler and linspace. A public function that asks that it fits would be called by a line as long.
 fn fill_marks<T: Copy, F: Fn(i32) -> T>(out: &mut [T], first: i32, step: i32, mark: F)
     requires callable { F.IsAlwaysCallable mark }
     requires few { length out.old ≤ 2147483648 }
@@ -165,29 +190,12 @@ impl RangedCoordi32 {
         self.plan_by(Choice::Cut, m)
     }
 
-    // The marks on the axis, likewise.
-    // Kept: by a name of its own beside `plan`. Each is a line, over one function with the choice.
-    pub fn plan_inside(self, m: u32) -> Result<KeyPoints, Refusal>
-        ensures { tell result ≡ inside_plan self.0 self.1 m }
-    {
-        self.plan_by(Choice::Inside, m)
-    }
-
-    // Either, by the choice.
+    // The marks, likewise, by the choice of the last.
     #[tactic(auto, unfolding(crate::specs::Calls::whole_plan, crate::specs::Calls::inside_plan))]
     pub fn plan_by(self, choice: Choice, m: u32) -> Result<KeyPoints, Refusal>
         ensures { tell result ≡ plan_by choice self.0 self.1 m }
     {
-        let a = self.0;
-        let b = self.1;
-        if !self.admitted() {
-            return Err(Refusal::WholeNotAdmitted);
-        }
-        if a <= b {
-            plan_sorted(choice, a, b, m)
-        } else {
-            plan_sorted(choice, b, a, m)
-        }
+        self.ends()?.sorted().plan(choice, m)
     }
 
     // The marks as `mark` has them, written to the start of out.

@@ -5,3 +5,5 @@ pub mod Parts
 pub mod Lowest
 pub mod Table
 pub mod Pieces
+pub mod Fits
+pub mod Handed

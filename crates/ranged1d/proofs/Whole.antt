@@ -107,25 +107,12 @@ fits64 z h = fits_abs w64 z 9223372036854775807 h (lit< tt)
 pub far32 : (z : ℤ) → SFits w32 z → nat_abs z ≤ 2147483648
 far32 z f = nat_abs-le z f.sfits
 
-pub range32 : (z : ℤ) → lt_z z (negsuc 2147483647) ≡ false → le_z z (pos 2147483647) ≡ true → SFits w32 z
-range32 (pos n) l u = record { sfits = omega (arith, leb-true n 2147483647 u) }
-range32 (negsuc n) l u = record { sfits = omega (arith, ltb-false 2147483647 n l) }
-
 -- an i32 that is read as an i64
 pub widens : (z : ℤ) → SFits w32 z → SFits w64 (to_z w32 (of_z w32 z))
 widens z f = rw (to_z-of_z f) (sfits_widen tt f)
 
 pub wide : (z : ℤ) → SFits w32 z → to_z w64 (of_z w64 (to_z w32 (of_z w32 z))) ≡ z
 wide z f = to_z-of_z (widens z f) ∙ to_z-of_z f
-
--- within k + 1 of 0, by one comparison on each side
-pub far_below : (z : ℤ) (k : ℕ) → lt_z z (negsuc k) ≡ true → leb (nat_abs z) (suc k) ≡ false
-far_below (pos n) k h = absurd (subst T (sym h) tt)
-far_below (negsuc n) k h = lt-leb (suc n) (suc k) (omega (arith, ltb-true k n h))
-
-pub not_far_below : (z : ℤ) (k : ℕ) → lt_z z (negsuc k) ≡ false → le_z z (pos (suc k)) ≡ leb (nat_abs z) (suc k)
-not_far_below (pos n) k h = refl
-not_far_below (negsuc n) k h = sym (le-leb (suc n) (suc k) (omega (arith, ltb-false k n h)))
 
 -- ---- order
 pub not_lt : (x y : ℤ) → lt_z x y ≡ false → le_z y x ≡ true
@@ -156,23 +143,11 @@ ordered (pos (suc a)) (negsuc b) h = absurd (subst T (sym h) tt)
 ordered (negsuc a) (pos b) h = tt
 ordered (negsuc a) (negsuc b) h = sub_cases (suc a) (suc b) (λ z. T (non_neg z)) (λ l. omega (arith, leb-true b a h)) (λ l. tt)
 
-pub neg_non_neg : (z : ℤ) → lt_z z (pos 0) ≡ true → T (non_neg (neg_ℤ z))
-neg_non_neg (pos n) h = absurd (omega (arith, ltb-true n 0 h))
-neg_non_neg (negsuc n) h = tt
-
 pub not_negative : (z : ℤ) → lt_z z (pos 0) ≡ false → T (non_neg z)
 not_negative (pos n) h = tt
 not_negative (negsuc n) h = subst T h tt
 
 -- ---- a number that is raised to zero
-pub raised_below : (z : ℤ) → lt_z z (pos 0) ≡ true → raised z ≡ 0
-raised_below (pos n) h = omega (arith, ltb-true n 0 h)
-raised_below (negsuc n) h = refl
-
-pub raised-above : (z : ℤ) → lt_z z (pos 0) ≡ false → raised z ≡ nat_abs z
-raised-above (pos n) h = refl
-raised-above (negsuc n) h = absurd (subst T h tt)
-
 pub raised-far : (z : ℤ) → raised z ≤ nat_abs z
 raised-far (pos n) = omega arith
 raised-far (negsuc n) = omega arith

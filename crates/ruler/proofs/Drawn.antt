@@ -13,8 +13,10 @@ use Rattle.numeric.proofs.Plans.{GoodBy, planned_good_by}
 use Rattle.numeric.proofs.Inside.{plan_by_lem}
 use Rattle.ruler.specs.declared.Drawing.{Drawing}
 use Rattle.ruler.specs.Bytes.{head_long, axis, laid, joined}
-use Rattle.ruler.specs.Rule.{no_ruler, mark_at, bytes_by, write_by, has_ruler, ruler_plan_by}
-use Rattle.ruler.specs.Steps.{first_of}
+use Rattle.numeric.specs.declared.Choice.{Choice}
+use Rattle.ruler.specs.declared.Twist.{Twist}
+use Rattle.ruler.specs.Rule.{plain_form, no_ruler, mark_at, bytes_by, write_by, has_ruler, ruler_plan_by}
+use Rattle.ruler.specs.Steps.{form_of, first_of}
 use Rattle.ruler.proofs.Records.{axis_long, head, marks_of, first_long, first_more}
 
 -- the numbers on the way to mark k fit an i32
@@ -24,7 +26,12 @@ pub record Reachable (p : KeyPoints) (k : ℕ) : Type 0 where
   pub sum : nat_abs (element p.first p.step k) ≤ 2147483647
 
 abbrev pub drawn_for : Form → ℤ → ℤ → Limit → ℕ → Drawing
-drawn_for f a b limit m = record { a = a; b = b; limit = limit; m = m; form = f }
+drawn_for f a b limit m = record { draft = record { a = a; b = b; limit = limit; m = m; choice = f.choice }; twist = f.twist }
+
+-- a twist changes nothing of a plan
+pub plan_plain : (c : Choice) (t : Twist) (a b : ℤ) (limit : Limit) (m : ℕ) → ruler_plan_by (record { choice = c; twist = t }) a b limit m ≡ ruler_plan_by (plain_form c) a b limit m
+unfolding ruler_plan_by
+plan_plain c t a b limit m = refl
 
 -- what is known of a ruler's plan that was given
 pub record Drawn (f : Form) (a b : ℤ) (limit : Limit) (m : ℕ) (p : KeyPoints) : Type 0 where
@@ -124,7 +131,7 @@ module _ (f : Form) (a b : ℤ) (limit : Limit) (m : ℕ) where
     ruler_whole l x y = sym (take-append-drop (head_long f) l) ∙ ap₂ (λ (t u : List ℕ). t ++ u) x y ∙ sym ruler_is
 
 -- all records of a ruler, put at the start of a list
-pub all_put : (d : Drawing) {p : KeyPoints} → ruler_plan_by d.form d.a d.b d.limit d.m ≡ given p → {l : List ℕ} (old : List ℕ)
-    → l ≡ joined (first_of d p (p.count + 1)) ++ drop (length (joined (first_of d p (p.count + 1)))) old → l ≡ bytes_by d.form d.a d.b d.limit d.m ++ drop (head_long d.form + 20 * p.count) old
+pub all_put : (d : Drawing) {p : KeyPoints} → ruler_plan_by (form_of d) d.draft.a d.draft.b d.draft.limit d.draft.m ≡ given p → {l : List ℕ} (old : List ℕ)
+    → l ≡ joined (first_of d p (p.count + 1)) ++ drop (length (joined (first_of d p (p.count + 1)))) old → l ≡ bytes_by (form_of d) d.draft.a d.draft.b d.draft.limit d.draft.m ++ drop (head_long (form_of d) + 20 * p.count) old
 all_put d {p} e old put =
-    put ∙ rw (first_more d p p.count, ← ruler_is d.form d.a d.b d.limit d.m e, ruler_long_lem d.form d.a d.b d.limit d.m e)
+    put ∙ rw (first_more d p p.count, ← ruler_is (form_of d) d.draft.a d.draft.b d.draft.limit d.draft.m e, ruler_long_lem (form_of d) d.draft.a d.draft.b d.draft.limit d.draft.m e)

@@ -29,12 +29,12 @@ words_put k a b p q m s old h =
     ∙ ap (λ (l : List ℕ). k ∷ (word a ++ word b ++ word p ++ word q ++ word m ++ word s ++ l)) rest
 
 -- and the twist behind them
-pub head_put : (f : Form) (a b : ℤ) (limit : Limit) (m : ℕ) (s : ℤ) (old : List ℕ) {x : List ℕ} → x ≡ kind_byte f ∷ (whole a ++ whole b ++ whole limit.0 ++ whole limit.1 ++ word m ++ whole s ++ drop 25 old)
-    → take 25 x ++ (twist_bytes f.twist ++ drop (25 + length (twist_bytes f.twist)) x) ≡ laid (axis f a b limit m s) ++ drop (head_long f) old
+pub head_put : (f : Form) (a b : ℤ) (limit : Limit) (m : ℕ) (s : ℤ) (old : List ℕ) {x t : List ℕ} {n : ℕ} → x ≡ kind_byte f ∷ (whole a ++ whole b ++ whole limit.0 ++ whole limit.1 ++ word m ++ whole s ++ drop 25 old)
+    → t ≡ twist_bytes f.twist → n ≡ length t → put_mid 25 n x t ≡ laid (axis f a b limit m s) ++ drop (head_long f) old
 unfolding laid axis_body
-head_put f a b limit m s old e = rw e (go f.twist)
+head_put f a b limit m s old e g h = rw (h, g, e) (go f.twist)
   where
-    go : (t : Twist) → take 25 (kind_byte f ∷ (whole a ++ whole b ++ whole limit.0 ++ whole limit.1 ++ word m ++ whole s ++ drop 25 old)) ++ (twist_bytes t ++ drop (25 + length (twist_bytes t)) (kind_byte f ∷ (whole a ++ whole b ++ whole limit.0 ++ whole limit.1 ++ word m ++ whole s ++ drop 25 old)))
+    go : (t : Twist) → put_mid 25 (length (twist_bytes t)) (kind_byte f ∷ (whole a ++ whole b ++ whole limit.0 ++ whole limit.1 ++ word m ++ whole s ++ drop 25 old)) (twist_bytes t)
         ≡ (kind_byte f ∷ (whole a ++ whole b ++ whole limit.0 ++ whole limit.1 ++ word m ++ whole s) ++ twist_bytes t) ++ drop (25 + length (twist_bytes t)) old
     go Plain = refl
     go S = ap (λ (l : List ℕ). kind_byte f ∷ (whole a ++ whole b ++ whole limit.0 ++ whole limit.1 ++ word m ++ whole s ++ (0 ∷ l))) (drop-drop 1 25 old)

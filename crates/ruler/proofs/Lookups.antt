@@ -19,7 +19,7 @@ use Rattle.ruler.specs.declared.Part.{Part}
 use Rattle.ruler.specs.Bytes.{head_long, whole, mark, mark_body, laid}
 use Rattle.ruler.specs.Place.{place_of}
 use Rattle.ruler.specs.Rule.{mark_at, form_in, a_in, b_in, limit_in, m_in, marks_in, is_ruler, index_of, has_mark, record_text, label_text, record_at, label_at, nowhere, record_in, label_in, part, further}
-use Rattle.ruler.specs.Steps.{Inside, drawing_in, index_within, record_found}
+use Rattle.ruler.specs.Steps.{form_of, Inside, drawing_in, index_within, record_found}
 use Rattle.std.proofs.lemmas.List.{drop-take}
 use Rattle.ruler.proofs.Records.{run_at}
 use Rattle.ruler.proofs.Index.{index_found}
@@ -35,9 +35,9 @@ module _ {l : List ℕ} {d : Drawing} {p : KeyPoints} (v : ℤ) (k : Known l d p
   unfolding has_mark
   has_is = rw (k.ruler, known-marks k, length_of (element p.first p.step) p.count)
 
-  pub found_some : place < p.count → record_found l v ≡ Some (record_at (head_long d.form) place)
+  pub found_some : place < p.count → record_found l v ≡ Some (record_at (head_long (form_of d)) place)
   unfolding record_found
-  found_some h = rw (has_is, lt-ltb place p.count h, known-marks k) (ap (λ (x : Drawing). Some (record_at (head_long x.form) place)) k.draft)
+  found_some h = rw (has_is, lt-ltb place p.count h, known-marks k) (ap (λ (x : Drawing). Some (record_at (head_long (form_of x)) place)) k.draft)
 
   pub found_none : p.count ≤ place → record_found l v ≡ None
   unfolding record_found

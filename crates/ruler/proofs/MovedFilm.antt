@@ -25,7 +25,7 @@ use Rattle.ruler.specs.Bytes.{whole, whole_at, head_long, axis, mark, mark_body,
 use Rattle.ruler.specs.Place.{place_in, place_of}
 use Rattle.ruler.specs.Rule.{mark_at, bytes_by, no_ruler, write_by, has_ruler, ruler_plan_by, twisted, twisted_write, form_in, a_in, b_in, limit_in, m_in, is_ruler, marks_in}
 use Rattle.ruler.specs.Shifting.{shifted_bytes, ruler_shift}
-use Rattle.ruler.specs.Steps.{drawing_in, added_at, added_to_places, added_to_film}
+use Rattle.ruler.specs.Steps.{form_of, drawing_in, added_at, added_to_places, added_to_film}
 use Rattle.ruler.specs.MovedFilm.{p_at, q_at, needle_at, place_at, Within, OnlyMoved, Stays, MovedFilm, Shifts}
 use Rattle.ruler.proofs.Records.{axis_long, records_long, run, one, run_suc, run_long, run_at}
 use Rattle.ruler.proofs.Drawn.{drawn_for, is_drawn, has_plan, ruler_is, ruler_long_lem}
@@ -397,8 +397,8 @@ shifts l c ruler ok =
     let did = shifted l c ruler ok in
     let held = ap (λ (x : Answer (Unit {0}) × List ℕ). x.1) did in
     let d = own l c ruler ok in
-    let limits = ap (λ (x : Drawing). shifted_limit (neg_ℤ c) x.limit) d.draft ∙ back_again c (limit_in l) in
-    let drawn : Drawing → Limit → Answer (Unit {0}) × List ℕ = λ x limit. (given tt, bytes_by x.form x.a x.b limit x.m) in
+    let limits = ap (λ (x : Drawing). shifted_limit (neg_ℤ c) x.draft.limit) d.draft ∙ back_again c (limit_in l) in
+    let drawn : Drawing → Limit → Answer (Unit {0}) × List ℕ = λ x limit. (given tt, bytes_by (form_of x) x.draft.a x.draft.b limit x.draft.m) in
     record {
       as_written = did;
       moved = subst (λ (t : List ℕ). OnlyMoved (form_in l) (a_in l) (b_in l) (limit_in l) c (length (marks_in l)) l t) (sym held) (all_moved l c ruler ok);

@@ -18,6 +18,7 @@ use Rattle.ruler.proofs.Drawn.{drawn_for, is_drawn}
 use Rattle.ruler.proofs.Reader.{Known, ruler_in, known_long}
 use Rattle.ruler.proofs.Theorems.{known}
 use Rattle.ruler.proofs.Moving.{form_by, over_long, back_long, list_fits, upgrade_moves, downgrade_moves}
+use Rattle.ruler.specs.Steps.{form_of}
 
 -- ---- a record of the axis with anything behind it, moved
 module _ (a b : ℤ) (limit : Limit) (m : ℕ) (s : ℤ) (rest : List ℕ) where
@@ -89,7 +90,7 @@ module _ (l : List ℕ) where
     own f = known f (a_in l) (b_in l) (limit_in l) (m_in l) small (is_drawn (form_in l) (a_in l) (b_in l) (limit_in l) (m_in l) (ruler_in l ruler).plan).has
 
     own_form : (f : Form) → form_in (drawn_as f) ≡ f
-    own_form f = ap (λ (d : Drawing). d.form) (own f).draft
+    own_form f = ap (λ (d : Drawing). (form_of d)) (own f).draft
 
     own_old : is_old (drawn_as (form_by c Plain)) ≡ true
     unfolding is_old

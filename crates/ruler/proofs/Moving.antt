@@ -1,5 +1,5 @@
 -- 02 (c): rulers with a twist, written, moved over and moved back. Assumes nothing.
-use Rattle.std.proofs.Common.{◌≡◌, ℕ, ◌+◌, ◌-◌, ◌*◌, ◌<◌, ◌≤◌, Bool, true, false, not, ltb, List, [], ◌∷◌, ◌++◌, length, take, drop, set, ℤ, sym, refl, ap, ◌∙◌, ap₂, arith, append_assoc, length-append, length-drop, length-take, le-ltb, lt-ltb, ne_eqb}
+use Rattle.std.proofs.Common.{◌⊎◌, inl, inr, ◌≡◌, ℕ, ◌+◌, ◌-◌, ◌*◌, ◌<◌, ◌≤◌, Bool, true, false, not, ltb, List, [], ◌∷◌, ◌++◌, length, take, drop, set, ℤ, sym, refl, ap, ◌∙◌, ap₂, arith, append_assoc, length-append, length-drop, length-take, le-ltb, lt-ltb, ne_eqb}
 use borrow.Rule.Slice.PartMut.{put_mid}
 use Rattle.ranged1d.specs.Answer.{Answer, given, refused, Reason, ◌when◌, lowest, written, list_written}
 use Rattle.ranged1d.specs.Admitted.{ends_admitted, limit_admitted}
@@ -15,7 +15,7 @@ use Rattle.ruler.specs.declared.Form.{Form}
 use Rattle.ruler.specs.declared.Drawing.{Drawing}
 use Rattle.ruler.specs.Bytes.{kind_for, twist_bytes, head_long}
 use Rattle.ruler.specs.Rule.{no_ruler, bytes_by, write_by, ruler_plan_by, has_ruler, twisted_write, form_in, is_ruler, plain, is_z, is_old, is_twisted, over, back, upgraded, downgraded, ruler_upgrade, ruler_downgrade}
-use Rattle.ruler.specs.Steps.{no_twist}
+use Rattle.ruler.specs.Steps.{form_of, no_twist}
 use Rattle.ruler.proofs.Places.{ends, film, served}
 use Rattle.ruler.proofs.Drawn.{is_drawn, ruler_long_lem}
 use Rattle.ruler.proofs.Lists.{put-part, kind_put}
@@ -103,37 +103,41 @@ pub list_fits : (new old : List ℕ) {n : ℕ} {x : List ℕ} → length new ≡
 list_fits new old {n} e h g = rw (e, le-ltb (length old) n h, e, g)
 
 -- ---- which bytes are moved
-module _ {l : List ℕ} {d : Drawing} {p : KeyPoints} (k : Known l d p) where
-  pub form_known : form_in l ≡ d.form
-  form_known = ap (λ (x : Drawing). x.form) k.draft
+pub not_plain : {t : Twist} → (t ≡ S) ⊎ (t ≡ Z) → plain t ≡ false
+not_plain (inl e) = ap plain e
+not_plain (inr e) = ap plain e
 
-  pub old_is : {t : Twist} → d.form.twist ≡ t → is_old l ≡ plain t
+module _ {l : List ℕ} {d : Drawing} {p : KeyPoints} (k : Known l d p) where
+  pub form_known : form_in l ≡ (form_of d)
+  form_known = ap (λ (x : Drawing). (form_of x)) k.draft
+
+  pub old_is : {t : Twist} → d.twist ≡ t → is_old l ≡ plain t
   unfolding is_old
   old_is e = rw k.ruler (ap (λ (f : Form). plain f.twist) form_known ∙ ap plain e)
 
-  pub twisted_is : {t : Twist} → d.form.twist ≡ t → is_twisted l ≡ not (plain t)
+  pub twisted_is : {t : Twist} → d.twist ≡ t → is_twisted l ≡ not (plain t)
   unfolding is_twisted
   twisted_is e = rw k.ruler (ap (λ (f : Form). not (plain f.twist)) form_known ∙ ap (λ (t : Twist). not (plain t)) e)
 
   pub long_old : 25 ≤ length l
   long_old = omega (arith, known_long k)
 
-  pub long_twisted : {t : Twist} → d.form.twist ≡ t → 25 + length (twist_bytes t) ≤ length l
+  pub long_twisted : {t : Twist} → d.twist ≡ t → 25 + length (twist_bytes t) ≤ length l
   long_twisted e = omega (arith, known_long k, ap (λ (t : Twist). length (twist_bytes t)) e)
 
-  pub upgraded_is : moved (kind_for d.form.choice S) l (0 ∷ []) 25 ≡ upgraded l
+  pub upgraded_is : moved (kind_for d.draft.choice S) l (0 ∷ []) 25 ≡ upgraded l
   unfolding upgraded
   upgraded_is = ap (λ (f : Form). over (kind_for f.choice S) l) (sym form_known)
 
-  pub downgraded_is : moved (kind_for d.form.choice Plain) l [] 26 ≡ downgraded l
+  pub downgraded_is : moved (kind_for d.draft.choice Plain) l [] 26 ≡ downgraded l
   unfolding downgraded
   downgraded_is = ap (λ (f : Form). back (kind_for f.choice Plain) l) (sym form_known)
 
   -- how long the ruler is without its twist
-  pub downgraded_long : d.form.twist ≡ Z → length (downgraded l) ≡ length l - 1
-  downgraded_long e = ap length (sym downgraded_is) ∙ omega (arith, back_long (kind_for d.form.choice Plain) l long_old, long_twisted e)
+  pub downgraded_long : d.twist ≡ Z → length (downgraded l) ≡ length l - 1
+  downgraded_long e = ap length (sym downgraded_is) ∙ omega (arith, back_long (kind_for d.draft.choice Plain) l long_old, long_twisted e)
 
-  pub z_is : {t : Twist} → d.form.twist ≡ t → is_z (form_in l).twist ≡ is_z t
+  pub z_is : {t : Twist} → d.twist ≡ t → is_z (form_in l).twist ≡ is_z t
   z_is e = ap (λ (f : Form). is_z f.twist) form_known ∙ ap is_z e
 
 module _ (l old : List ℕ) where

@@ -17,18 +17,18 @@ use Rattle.ruler.specs.declared.Drawing.{Drawing}
 use Rattle.ruler.specs.declared.Layout.{Layout}
 use Rattle.ruler.specs.Bytes.{head_long}
 use Rattle.ruler.specs.Rule.{form_in, a_in, b_in, limit_in, m_in, marks_in, bytes_by, has_ruler, is_ruler, read_as, ruler_read}
-use Rattle.ruler.specs.Steps.{plan_for, seen_by, drawing_in, seen_of}
+use Rattle.ruler.specs.Steps.{form_of, plan_for, seen_by, drawing_in, seen_of}
 use Rattle.ruler.proofs.Drawn.{Drawn, is_drawn, none_drawn, has_plan, ruler_long_lem}
 
 abbrev pub bytes_of : Drawing → List ℕ
-bytes_of d = bytes_by d.form d.a d.b d.limit d.m
+bytes_of d = bytes_by (form_of d) d.draft.a d.draft.b d.draft.limit d.draft.m
 
 -- ---- what a layout of d says of d
 pub laid_out : {d e : Drawing} {p : KeyPoints} → e ≡ d → plan_for e ≡ given p → plan_for d ≡ given p
 laid_out {d} {e} {p} f g = subst (λ (x : Drawing). plan_for x ≡ given p) f g
 
-pub long_out : {d e : Drawing} → e ≡ d → (p : KeyPoints) → head_long e.form + 20 * p.count ≡ head_long d.form + 20 * p.count
-long_out f p = ap (λ (x : Drawing). head_long x.form + 20 * p.count) f
+pub long_out : {d e : Drawing} → e ≡ d → (p : KeyPoints) → head_long (form_of e) + 20 * p.count ≡ head_long (form_of d) + 20 * p.count
+long_out f p = ap (λ (x : Drawing). head_long (form_of x) + 20 * p.count) f
 
 -- ---- bytes compared with the ruler of d
 module _ (l : List ℕ) (d : Drawing) where
@@ -46,10 +46,10 @@ module _ (l : List ℕ) (d : Drawing) where
 
   pub seen_short : length l < 25 → seen_by l d ≡ None
   unfolding seen_by
-  seen_short h = go (has_ruler d.a d.b d.limit d.m) refl
+  seen_short h = go (has_ruler d.draft.a d.draft.b d.draft.limit d.draft.m) refl
     where
-      go : (t : Bool) → has_ruler d.a d.b d.limit d.m ≡ t → cond {A = Option (Drawing × KeyPoints)} (t && same_bytes l (bytes_of d)) (Some (d, plan_with d.form.choice d.a d.b d.m)) None ≡ None
-      go true e = rw (same_no l (bytes_of d) (λ x. omega (arith, ap length x, ruler_long_lem d.form _ _ _ _ (has_plan d.form _ _ _ _ e))))
+      go : (t : Bool) → has_ruler d.draft.a d.draft.b d.draft.limit d.draft.m ≡ t → cond {A = Option (Drawing × KeyPoints)} (t && same_bytes l (bytes_of d)) (Some (d, plan_with d.draft.choice d.draft.a d.draft.b d.draft.m)) None ≡ None
+      go true e = rw (same_no l (bytes_of d) (λ x. omega (arith, ap length x, ruler_long_lem (form_of d) _ _ _ _ (has_plan (form_of d) _ _ _ _ e))))
       go false e = refl
 
 -- ---- bytes examined by themselves
@@ -87,22 +87,22 @@ unfolding KnownBy
 seen_nothing l e = subst (KnownBy l) e (all_known l)
 
 module _ {l : List ℕ} {d : Drawing} {p : KeyPoints} (k : Known l d p) where
-  pub known_drawn : Drawn d.form d.a d.b d.limit d.m p
+  pub known_drawn : Drawn (form_of d) d.draft.a d.draft.b d.draft.limit d.draft.m p
   known_drawn = is_drawn _ _ _ _ _ k.plan
 
-  pub known_long : length l ≡ head_long d.form + 20 * p.count
+  pub known_long : length l ≡ head_long (form_of d) + 20 * p.count
   known_long = ap length k.bytes ∙ ruler_long_lem _ _ _ _ _ k.plan
 
   pub known-marks : marks_in l ≡ list_of (element p.first p.step) p.count
-  known-marks = (subst (λ (d : Drawing). Drawn d.form d.a d.b d.limit d.m p) (sym k.draft) known_drawn).good.marks-are
+  known-marks = (subst (λ (d : Drawing). Drawn (form_of d) d.draft.a d.draft.b d.draft.limit d.draft.m p) (sym k.draft) known_drawn).good.marks-are
 
-  pub read_known : ruler_read l ≡ given (read_as d.form d.a d.b d.limit d.m p.step p.count)
+  pub read_known : ruler_read l ≡ given (read_as (form_of d) d.draft.a d.draft.b d.draft.limit d.draft.m p.step p.count)
   unfolding ruler_read
   read_known =
-      let plan = subst (λ (d : Drawing). plan_with d.form.choice d.a d.b d.m ≡ p) (sym k.draft) known_drawn.good.plan in
+      let plan = subst (λ (d : Drawing). plan_with d.draft.choice d.draft.a d.draft.b d.draft.m ≡ p) (sym k.draft) known_drawn.good.plan in
       rw k.ruler
       (ap (λ (q : KeyPoints). given (read_as (form_in l) (a_in l) (b_in l) (limit_in l) (m_in l) q.step q.count)) plan
-      ∙ ap (λ (d : Drawing). given (read_as d.form d.a d.b d.limit d.m p.step p.count)) k.draft)
+      ∙ ap (λ (d : Drawing). given (read_as (form_of d) d.draft.a d.draft.b d.draft.limit d.draft.m p.step p.count)) k.draft)
 
 pub read_nothing : (l : List ℕ) → is_ruler l ≡ false → ruler_read l ≡ refused 14
 unfolding ruler_read

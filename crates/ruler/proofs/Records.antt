@@ -1,5 +1,5 @@
 -- Records one behind another: how long they are, one more of them, one taken out. Assumes nothing.
-use Rattle.std.proofs.Common.{◌≡◌, ℕ, zero, suc, ◌+◌, ◌-◌, ◌*◌, ◌<◌, ◌≤◌, List, [], ◌∷◌, ◌++◌, map, length, take, drop, ℤ, sym, refl, ap, ◌∙◌, append_assoc, append-nil, add-one, arith, length-append, length-drop, take_all, drop_at}
+use Rattle.std.proofs.Common.{get_or, take-add, ap₂, drop-drop, ◌≡◌, ℕ, zero, suc, ◌+◌, ◌-◌, ◌*◌, ◌<◌, ◌≤◌, List, [], ◌∷◌, ◌++◌, map, length, take, drop, ℤ, sym, refl, ap, ◌∙◌, append_assoc, append-nil, add-one, arith, length-append, length-drop, take_all, drop_at}
 use mathlib.Core.List.{map-append}
 use native.Mathlib.Decide.{dec_lt}
 use borrow.Rule.Slice.PartMut.{put_mid}
@@ -17,7 +17,8 @@ use Rattle.ruler.specs.declared.Drawing.{Drawing}
 use Rattle.ruler.specs.Bytes.{head_long, Record, axis, mark, axis_body, mark_body, laid, joined}
 use Rattle.ruler.specs.Place.{place_of}
 use Rattle.ruler.specs.Rule.{mark_at}
-use Rattle.ruler.specs.Steps.{first_of}
+use Rattle.std.specs.Simd.{first_chunks}
+use Rattle.ruler.specs.Steps.{form_of, first_of}
 
 part_left : (xs ys : List ℕ) (a n : ℕ) → a + n ≤ length xs → take n (drop a (xs ++ ys)) ≡ take n (drop a xs)
 part_left xs ys a n h =
@@ -90,18 +91,36 @@ module _ (a b : ℤ) (limit : Limit) (f : ℕ → ℤ) where
       ∙ ap (λ (n : ℕ). (run k ++ one k) ++ drop n old) more
       ∙ ap (λ (l : List ℕ). l ++ drop (20 * (k + 1)) old) (sym (run_more k))
 
+  -- whether a list is the first n of them, by its parts of 20 bytes
+  pub runs_equal : (n : ℕ) (l : List ℕ) → length l ≡ 20 * n → ((k : ℕ) → k < n → take 20 (drop (20 * k) l) ≡ one k) → l ≡ run n
+  runs_equal n l h each = sym (take_all (20 * n) l (omega (arith, h))) ∙ go n (omega arith)
+    where
+      go : (k : ℕ) → k ≤ n → take (20 * k) l ≡ run k
+      go zero u = refl
+      go (suc k) u =
+          let e : 20 * suc k ≡ 20 * k + 20 = omega arith in
+          rw e (take-add (20 * k) 20 l) ∙ ap₂ (λ (x y : List ℕ). x ++ y) (go k (omega arith)) (each k (omega arith)) ∙ sym (run_suc k)
+
+-- part k of a list that is cut into parts of 20 bytes
+pub part_is : (n k : ℕ) (l : List ℕ) → k < n → get_or (first_chunks 20 n l) k [] ≡ take 20 (drop (20 * k) l)
+part_is zero k l h = absurd (omega arith)
+part_is (suc n) zero l h = refl
+part_is (suc n) (suc k) l h =
+    let e : 20 + 20 * k ≡ 20 * suc k = omega arith in
+    part_is n k (drop 20 l) (omega arith) ∙ ap (take 20) (drop-drop (20 * k) 20 l ∙ ap (λ (i : ℕ). drop i l) e)
+
 -- the first records of a ruler, at the start of a list
 module _ (d : Drawing) (p : KeyPoints) where
   abbrev pub head : List ℕ
-  head = laid (axis d.form d.a d.b d.limit d.m p.step)
+  head = laid (axis (form_of d) d.draft.a d.draft.b d.draft.limit d.draft.m p.step)
 
   abbrev pub marks_of : ℕ → List ℕ
-  marks_of n = run d.a d.b d.limit (element p.first p.step) n
+  marks_of n = run d.draft.a d.draft.b d.draft.limit (element p.first p.step) n
 
-  pub first_long : (n : ℕ) → length (head ++ marks_of n) ≡ head_long d.form + 20 * n
+  pub first_long : (n : ℕ) → length (head ++ marks_of n) ≡ head_long (form_of d) + 20 * n
   first_long n =
       length-append head (marks_of n)
-      ∙ omega (arith, axis_long d.form d.a d.b d.limit d.m p.step, run_long d.a d.b d.limit (element p.first p.step) n)
+      ∙ omega (arith, axis_long (form_of d) d.draft.a d.draft.b d.draft.limit d.draft.m p.step, run_long d.draft.a d.draft.b d.draft.limit (element p.first p.step) n)
 
   pub first_more : (n : ℕ) → joined (first_of d p (n + 1)) ≡ head ++ marks_of n
   unfolding first_of
@@ -111,5 +130,5 @@ module _ (d : Drawing) (p : KeyPoints) where
   unfolding first_of
   first-none old e = rw e
 
-  pub first_put : (k : ℕ) {n : ℕ} {x : List ℕ} (old : List ℕ) → n ≡ k + 1 → x ≡ (head ++ marks_of k) ++ drop (head_long d.form + 20 * k) old → x ≡ joined (first_of d p n) ++ drop (length (joined (first_of d p n))) old
+  pub first_put : (k : ℕ) {n : ℕ} {x : List ℕ} (old : List ℕ) → n ≡ k + 1 → x ≡ (head ++ marks_of k) ++ drop (head_long (form_of d) + 20 * k) old → x ≡ joined (first_of d p n) ++ drop (length (joined (first_of d p n))) old
   first_put k old e f = f ∙ rw (e, first_more k, first_long k)

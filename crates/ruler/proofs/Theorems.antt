@@ -60,7 +60,9 @@ numbers-back l f a b limit m s rest fa fb fl fm e =
     let p_is : whole_at l 9 ≡ limit.0 = rw e (number-back limit.0 fl.0) in
     let q_is : whole_at l 13 ≡ limit.1 = rw e (number-back limit.1 fl.1) in
     let m_is : m_in l ≡ m = rw e (word_back m fm) in
-    rw (f_is, a_is, b_is, p_is, q_is, m_is)
+    let c_is : (form_in l).choice ≡ f.choice = ap (λ (g : Form). g.choice) f_is in
+    let t_is : (form_in l).twist ≡ f.twist = ap (λ (g : Form). g.twist) f_is in
+    rw (c_is, t_is, a_is, b_is, p_is, q_is, m_is)
 
 -- ---- a ruler is read as what it is
 is_by_lem : (l : List ℕ) → is_ruler l ≡ is_by l (drawing_in l)

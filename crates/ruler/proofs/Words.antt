@@ -1,10 +1,8 @@
 -- Bytes that are compared four at a time. Assumes nothing.
-use Rattle.std.proofs.Common.{◌≡◌, ℕ, suc, ◌+◌, ◌*◌, ◌/◌, ◌%◌, ◌^◌, ◌<◌, ◌≤◌, Bool, true, false, eqb, List, [], ◌∷◌, ◌++◌, length, get_or, take, drop, ℤ, sym, ap, ◌∙◌, ap₂, true≢false, arith, length-drop, take-append-drop, drop_of_length-le, take_all, drop-cons, drop-drop, to_z-of_z, w32, SFits, to_z, of_z, eq-eqb, eqb-true}
-use Rattle.ranged1d.specs.declared.Limit.{Limit}
+use Rattle.std.proofs.Common.{◌≡◌, ℕ, suc, ◌+◌, ◌*◌, ◌/◌, ◌%◌, ◌^◌, ◌<◌, ◌≤◌, Bool, true, false, eqb, List, [], ◌∷◌, ◌++◌, length, get_or, take, drop, ℤ, sym, ap, ◌∙◌, ap₂, true≢false, arith, length-drop, take-append-drop, take_all, drop-cons, drop-drop, to_z-of_z, w32, SFits, to_z, of_z, eq-eqb, eqb-true}
 use Rattle.decimal.specs.Read.{same_bytes}
 use Rattle.decimal.proofs.Texts.{same-equal, same_yes, same_no, same_is}
-use Rattle.ruler.specs.declared.Form.{Form}
-use Rattle.ruler.specs.Bytes.{word, whole, word_at, kind_byte, twist_bytes, axis, axis_body, laid}
+use Rattle.ruler.specs.Bytes.{word, whole, word_at}
 use Rattle.ruler.specs.Steps.{four}
 use Rattle.ruler.proofs.Numbers.{word_back}
 
@@ -64,30 +62,7 @@ piece_other at l t n = same_no l t (λ e. n (ap (four at) e))
 pub first-other : (l t : List ℕ) → (get_or l 0 0 ≡ get_or t 0 0 → ⊥) → same_bytes l t ≡ false
 first-other l t n = same_no l t (λ e. n (ap (λ (x : List ℕ). get_or x 0 0) e))
 
--- what is behind the numbers of the axis: nothing, or a byte
-pub nothing_behind : (l : List ℕ) → length l ≡ 25 → true ≡ same_bytes (drop 25 l) []
-nothing_behind l h = let short : length l ≤ 25 = omega arith in sym (same_yes (drop 25 l) [] (drop_of_length-le l short))
-
-pub one-behind : (l : List ℕ) (x : ℕ) → length l ≡ 26 → eqb (get_or l 25 0) x ≡ same_bytes (drop 25 l) (x ∷ [])
-one-behind l x h =
-    let short : length l ≤ 26 = omega arith in
-    let is : drop 25 l ≡ get_or l 25 0 ∷ [] = drop-cons l 25 0 (omega arith) ∙ ap (λ (t : List ℕ). get_or l 25 0 ∷ t) (drop_of_length-le l short) in
-    same_is (eqb (get_or l 25 0) x) (drop 25 l) (x ∷ [])
-    (λ e. is ∙ ap (λ (y : ℕ). y ∷ []) (eqb-true (get_or l 25 0) x e))
-    (λ e. eq-eqb (get_or l 25 0) x (ap (λ (t : List ℕ). get_or t 0 0) (sym is ∙ e)))
-
--- the axis's record
-module _ (f : Form) (a b : ℤ) (limit : Limit) (m : ℕ) (s : ℤ) where
-  pub head_whole : (l : List ℕ) → 25 ≤ length l → get_or l 0 0 ≡ kind_byte f → four 1 l ≡ whole a → four 5 l ≡ whole b → four 9 l ≡ whole limit.0 → four 13 l ≡ whole limit.1 → four 17 l ≡ word m → four 21 l ≡ whole s
-      → drop 25 l ≡ twist_bytes f.twist → l ≡ laid (axis f a b limit m s)
-  unfolding laid axis_body
-  head_whole l h k ea eb ep eq em es et =
-      drop-cons l 0 0 (omega arith)
-      ∙ ap₂ (λ (x : ℕ) (t : List ℕ). x ∷ t) k
-      (next-four 1 l ∙ ap₂ (λ (x y : List ℕ). x ++ y) ea (next-four 5 l ∙ ap₂ (λ (x y : List ℕ). x ++ y) eb (next-four 9 l ∙ ap₂ (λ (x y : List ℕ). x ++ y) ep (next-four 13 l
-      ∙ ap₂ (λ (x y : List ℕ). x ++ y) eq (next-four 17 l ∙ ap₂ (λ (x y : List ℕ). x ++ y) em (next-four 21 l ∙ ap₂ (λ (x y : List ℕ). x ++ y) es et))))))
-
--- a mark's
+-- a mark's record
 pub mark-whole : (v x : ℤ) (l t : List ℕ) → 1 ≤ length l → get_or l 0 0 ≡ 2 → four 1 l ≡ whole v → four 5 l ≡ whole x → drop 9 l ≡ t → l ≡ 2 ∷ (whole v ++ (whole x ++ t))
 mark-whole v x l t h k ev ex et =
     drop-cons l 0 0 (omega arith)

@@ -19,29 +19,32 @@ use Rattle.ruler.specs.Rule.{no_ruler, ruler_plan_by, form_in, a_in, b_in, limit
 abbrev pub four : ℕ → List ℕ → List ℕ
 four at l = take 4 (drop at l)
 
--- a draft with its twist
+-- a draft with its twist, and the form of its ruler
 abbrev pub drawing : Draft → Twist → Drawing
-drawing d t = record { a = d.a; b = d.b; limit = d.limit; m = d.m; form = record { choice = d.choice; twist = t } }
+drawing d t = record { draft = d; twist = t }
+
+abbrev pub form_of : Drawing → Form
+form_of d = record { choice = d.draft.choice; twist = d.twist }
 
 -- its plan, the axis's record, that of the mark v, and those of the first n marks, one behind another
 abbrev pub plan_for : Drawing → Answer KeyPoints
-plan_for d = ruler_plan_by d.form d.a d.b d.limit d.m
+plan_for d = ruler_plan_by (form_of d) d.draft.a d.draft.b d.draft.limit d.draft.m
 
 abbrev pub axis_of : Drawing → ℤ → Record
-axis_of d s = axis d.form d.a d.b d.limit d.m s
+axis_of d s = axis (form_of d) d.draft.a d.draft.b d.draft.limit d.draft.m s
 
-abbrev pub mark_of : Drawing → ℤ → Record
+abbrev pub mark_of : Draft → ℤ → Record
 mark_of d = mark_at d.a d.b d.limit
 
-abbrev pub marks_laid : Drawing → KeyPoints → ℕ → List ℕ
+abbrev pub marks_laid : Draft → KeyPoints → ℕ → List ℕ
 marks_laid d p n = joined (map (mark_at d.a d.b d.limit) (list_of (element p.first p.step) n))
 
 -- the first n records of a ruler: the axis's, then those of marks
 unfoldable pub first_of : Drawing → KeyPoints → ℕ → List Record
 first_of d p zero = []
 first_of d p (suc n) =
-    axis d.form d.a d.b d.limit d.m p.step
-    ∷ map (mark_at d.a d.b d.limit) (list_of (element p.first p.step) n)
+    axis_of d p.step
+    ∷ map (mark_of d.draft) (list_of (element p.first p.step) n)
 
 -- why a ruler with an unknown twist is not written to so many bytes
 unfoldable pub no_twist : Form → ℤ → ℤ → Limit → ℕ → ℕ → Answer (ℕ × ℕ)
@@ -61,13 +64,13 @@ Inside l r = (r.start ≤ r.end) × (r.end ≤ length l)
 
 -- whether bytes are the ruler d; the ruler d, if they are
 abbrev pub is_by : List ℕ → Drawing → Bool
-is_by l d = has_ruler d.a d.b d.limit d.m && same_bytes l (bytes_by d.form d.a d.b d.limit d.m)
+is_by l d = has_ruler d.draft.a d.draft.b d.draft.limit d.draft.m && same_bytes l (bytes_by (form_of d) d.draft.a d.draft.b d.draft.limit d.draft.m)
 
 unfoldable pub seen_by : List ℕ → Drawing → Option (Drawing × KeyPoints)
-seen_by l d = cond (is_by l d) (Some (d, plan_with d.form.choice d.a d.b d.m)) None
+seen_by l d = cond (is_by l d) (Some (d, plan_with d.draft.choice d.draft.a d.draft.b d.draft.m)) None
 
 abbrev pub drawing_in : List ℕ → Drawing
-drawing_in l = record { a = a_in l; b = b_in l; limit = limit_in l; m = m_in l; form = form_in l }
+drawing_in l = record { draft = record { a = a_in l; b = b_in l; limit = limit_in l; m = m_in l; choice = (form_in l).choice }; twist = (form_in l).twist }
 
 -- the ruler that bytes are
 abbrev pub seen_of : List ℕ → Option (Drawing × KeyPoints)
@@ -91,4 +94,4 @@ added_to_places n h (suc k) l = added_at n (h + 20 * k + 5) (added_to_places n h
 abbrev pub added_to_film : Drawing → ℕ → ℕ → List ℕ → List ℕ
 added_to_film d k n l =
     let limits = added_at n 13 (added_at n 9 l) in
-    cond (same d.a d.b) limits (added_to_places n (head_long d.form) k limits)
+    cond (same d.draft.a d.draft.b) limits (added_to_places n (head_long (form_of d)) k limits)

@@ -15,7 +15,7 @@ ghost use Rattle.ruler.specs.Place.{place_of};
 ghost use Rattle.ruler.specs.Bytes.{word, word_at, kind_byte, twist_number, twist_bytes, head_long, form_for, laid, joined};
 ghost use Rattle.ruler.specs.Rule.{plain_form, twisted_write, ruler_upgrade, ruler_downgrade, ruler_plan_by, write_by, ruler_read, index_of, record_in, label_in, record_text, label_text, part, further, side_of};
 ghost use Rattle.ruler.specs.Shifting.{ruler_shift};
-ghost use Rattle.ruler.specs.Steps.{four, Inside, plan_for, mark_of, axis_of, marks_laid, first_of, no_twist, drawing, drawing_in, index_within, record_found, seen_by, seen_of, put_word, added_at, added_to_places, added_to_film};
+ghost use Rattle.ruler.specs.Steps.{four, Inside, plan_for, form_of, mark_of, axis_of, marks_laid, first_of, no_twist, drawing, drawing_in, index_within, record_found, seen_by, seen_of, put_word, added_at, added_to_places, added_to_film};
 
 use numeric::{Choice, KeyPoints, RangedCoordi32};
 use ranged1d::{Limit, Refusal};
@@ -31,6 +31,7 @@ pub struct Draft {
 }
 
 // A ruler that was read.
+// Kept: the numbers of a draft by themselves, as callers read them and the C interface hands them out; its choice stands in the form.
 #[derive(Clone, Copy)]
 pub struct Ruler {
     pub a: i32,
@@ -64,14 +65,11 @@ pub struct Form {
     pub twist: Twist,
 }
 
-// A draft whose form is settled.
+// A draft and its twist.
 #[derive(Clone, Copy)]
 struct Drawing {
-    a: i32,
-    b: i32,
-    limit: Limit,
-    m: u32,
-    form: Form,
+    draft: Draft,
+    twist: Twist,
 }
 
 // A drawing with its marks, as they are planned.
@@ -83,6 +81,7 @@ struct Layout {
 }
 
 // The kinds of records: what the body behind the kind is.
+// Kept: numbers, since a ruler's first byte is matched against them. An enum would take a match more, from the byte to the kind, for the same arms.
 const AXIS: u8 = 1;
 
 const MARK: u8 = 2;
@@ -99,9 +98,19 @@ impl Twist {
         ensures { result ≡ twist_number self }
     {
         match self {
-            Twist::Plain => 0,
-            Twist::S => 0,
+            Twist::Plain | Twist::S => 0,
             Twist::Z => 1,
+        }
+    }
+
+    // The bytes of the twist, behind the numbers of the axis's record.
+    fn bytes(self) -> &'static [u8]
+        ensures { (result.now ≡ twist_bytes self) × (length result.now ≤ 1) }
+    {
+        match self {
+            Twist::Plain => &[],
+            Twist::S => &[0],
+            Twist::Z => &[1],
         }
     }
 }
@@ -118,21 +127,11 @@ impl Form {
             (Choice::Inside, _) => INSIDE_TWISTED,
         }
     }
-
-    // How long the axis's record is.
-    fn head(self) -> usize
-        ensures { (result ≡ head_long self) × (25 ≤ result) × (result ≤ 26) }
-    {
-        match self.twist {
-            Twist::Plain => 25,
-            Twist::S => 26,
-            Twist::Z => 26,
-        }
-    }
 }
 
 // The form of a ruler with this kind and this twist byte.
-// Kept: total, as the rule's `form_for` is, since bytes that stand for no form differ from the ruler that is compared with them.
+// Kept: total, as the rule's `form_for` is: that bytes of no form are no ruler is told by the comparison of the axis's record, of which these two bytes
+// are a part. An Option would be a second test of them, and a second proof of the same.
 fn form_of(kind: u8, t: u8) -> Form
     ensures { result ≡ form_for kind t }
 {
@@ -158,6 +157,7 @@ fn form_of(kind: u8, t: u8) -> Form
 }
 
 // The number in four bytes at a place, the lowest first.
+// Kept: a place in a slice, since the axis's record has 25 or 26 bytes, and the places of marks lie behind either.
 fn word_at(l: &[u8], at: usize) -> u32
     requires { at + 4 ≤ length l.now }
     ensures { result ≡ word_at l.now at }
@@ -168,8 +168,8 @@ fn word_at(l: &[u8], at: usize) -> u32
 // Whether the four bytes at a place are those of x. So many at a time are compared as fast as one.
 // Kept: a record is compared by its words, since writing it anew to compare it whole takes longer: of a million marks, labels and all, 39.6 ns each where
 // words take 32.4, in a loop written for that.
-fn has_word(l: &[u8], at: usize, x: u32) -> bool
-    requires { at + 4 ≤ length l.now }
+fn has_word(l: &[u8; 20], at: usize, x: u32) -> bool
+    requires { at ≤ 16 }
     ensures { result ≡ same_bytes (four at l.now) (word x) }
 {
     word_at(l, at) == x
@@ -191,33 +191,8 @@ fn add_at(n: u32, at: usize, l: &mut [u8])
     put_word(word_at(l, at).wrapping_add(n), at, l);
 }
 
-// The twist behind the numbers of the axis's record, where it has one.
-fn put_twist(twist: Twist, out: &mut [u8])
-    requires { 25 + length (twist_bytes twist) ≤ length out.old }
-    ensures { out.new ≡ take 25 out.old ++ (twist_bytes twist ++ drop (25 + length (twist_bytes twist)) out.old) }
-{
-    match twist {
-        Twist::Plain => (),
-        Twist::S => out[25] = 0,
-        Twist::Z => out[25] = 1,
-    }
-}
-
-// Whether l ends as the axis's record does: with its twist, or with nothing behind the numbers.
-fn is_twist(twist: Twist, l: &[u8]) -> bool
-    requires { length l.now ≡ 25 + length (twist_bytes twist) }
-    ensures { result ≡ same_bytes (drop 25 l.now) (twist_bytes twist) }
-{
-    match twist {
-        Twist::Plain => true,
-        Twist::S => l[25] == 0,
-        Twist::Z => l[25] == 1,
-    }
-}
-
 // Whether a mark's record ends with this label. Its last four bytes begin with one that was compared before.
-fn is_label(t: [u8; 11], l: &[u8]) -> bool
-    requires { length l.now ≡ 20 }
+fn is_label(t: [u8; 11], l: &[u8; 20]) -> bool
     ensures { result ≡ same_bytes (drop 9 l.now) t }
 {
     if !has_word(l, 9, u32::from_le_bytes([t[0], t[1], t[2], t[3]])) {
@@ -247,9 +222,228 @@ fn is_multiple(n: u32, w: u32, k: u32, d: u32) -> bool
 }
 
 impl Drawing {
-    // The marks of a ruler, or why there is none.
-    fn plan(self) -> Result<KeyPoints, Refusal>
-        ensures { tell result ≡ plan_for self }
+    // Which marks it has, and its twist.
+    fn form(self) -> Form
+        ensures { result ≡ form_of self }
+    {
+        Form {
+            choice: self.draft.choice,
+            twist: self.twist,
+        }
+    }
+
+    // How long the axis's record is.
+    fn head(self) -> usize
+        ensures { (result ≡ head_long (form_of self)) × (25 ≤ result) × (result ≤ 26) }
+    {
+        25 + self.twist.bytes().len()
+    }
+
+    fn layout(self) -> Result<Layout, Refusal>
+        ensures { MatchResult result (λ x. x.drawing ≡ self) (λ r. plan_for self ≡ refused (number_of r)) }
+    {
+        let points = self.draft.plan()?;
+        Ok(Layout {
+            drawing: self,
+            points,
+        })
+    }
+
+    // The axis's record at the start of out.
+    fn put_head(self, step: i32, out: &mut [u8])
+        requires { head_long (form_of self) ≤ length out.old }
+        ensures { out.new ≡ laid (axis_of self step) ++ drop (head_long (form_of self)) out.old }
+    {
+        let d = self.draft;
+        let twist = self.twist.bytes();
+        out[0] = self.form().kind();
+        put_word(d.a.cast_unsigned(), 1, out);
+        put_word(d.b.cast_unsigned(), 5, out);
+        put_word(d.limit.0.cast_unsigned(), 9, out);
+        put_word(d.limit.1.cast_unsigned(), 13, out);
+        put_word(d.m, 17, out);
+        put_word(step.cast_unsigned(), 21, out);
+        out[25..25 + twist.len()].copy_from_slice(twist);
+    }
+
+    // Whether l is the axis's record.
+    fn is_head(self, step: i32, l: &[u8]) -> bool
+        ensures { result ≡ same_bytes l.now (laid (axis_of self step)) }
+    {
+        let mut own = [0; 26];
+        self.put_head(step, &mut own);
+        l == &own[0..self.head()]
+    }
+
+    // A ruler, written to the start of out.
+    fn write(self, out: &mut [u8]) -> Result<(usize, usize), Refusal>
+        ensures { (tell result, out.new) ≡ write_by (form_of self) self.draft.a self.draft.b self.draft.limit self.draft.m out.old }
+    {
+        let layout = self.layout()?;
+        let n = layout.points.count as usize;
+        let size = layout.size();
+        if out.len() < size {
+            return Err(Refusal::OutTooShort);
+        }
+        let records = n + 1;
+        layout.put_records(records, out);
+        Ok((size, n))
+    }
+
+    // Why a ruler with an unknown twist is not written to so many bytes.
+    fn unknown_twist(self, room: usize) -> Refusal
+        ensures { refused (number_of result) ≡ no_twist (form_of self) self.draft.a self.draft.b self.draft.limit self.draft.m room }
+    {
+        match self.layout() {
+            Err(r) => r,
+            Ok(layout) => {
+                let size = layout.size();
+                if room < size {
+                    return Refusal::OutTooShort;
+                }
+                Refusal::UnknownTwist
+            }
+        }
+    }
+
+    // The layout of the drawing, if the bytes are its ruler.
+    fn seen_in(self, l: &[u8]) -> Option<Layout>
+        ensures { option_map (λ x. (x.drawing, x.points)) result ≡ seen_by l.now self }
+    {
+        let layout = self.layout().ok()?;
+        if l.len() != layout.size() {
+            return None;
+        }
+        let head = self.head();
+        if !self.is_head(layout.points.step, &l[0..head]) {
+            return None;
+        }
+        if !layout.has_marks(&l[head..]) {
+            return None;
+        }
+        Some(layout)
+    }
+}
+
+impl Layout {
+    // How many bytes the ruler has.
+    fn size(self) -> usize
+        ensures { result ≡ head_long (form_of self.drawing) + 20 * self.points.count }
+    {
+        self.drawing.head() + 20 * (self.points.count as usize)
+    }
+
+    // Mark k, counted from 0.
+    // Kept: first + k · step in place. A public function that asks that it fits would be called by a line as long.
+    fn mark(self, k: usize) -> i32
+        requires { k < self.points.count }
+        ensures { result ≡ element self.points.first self.points.step k }
+    {
+        self.points.first + (k as i32) * self.points.step
+    }
+
+    // The records of the first n marks, one behind another.
+    // Kept: by index, since nothing is known of bytes that were written through `as_chunks_mut` or `chunks_exact_mut` once they are lent no more.
+    fn put_marks(self, n: usize, out: &mut [u8])
+        requires marks { n ≤ self.points.count }
+        requires in_bounds { 20 * n ≤ length out.old }
+        ensures { out.new ≡ marks_laid self.drawing.draft self.points n ++ drop (20 * n) out.old }
+    {
+        for k in 0..n {
+            self.drawing
+                .draft
+                .put_mark(self.mark(k), &mut out[20 * k..]);
+        }
+    }
+
+    // The first n records of a ruler: the axis's, then those of marks, of 20 bytes each.
+    fn put_records(self, n: usize, out: &mut [u8])
+        requires marks { n ≤ self.points.count + 1 }
+        requires in_bounds { head_long (form_of self.drawing) + 20 * n ≤ length out.old + 20 }
+        ensures { out.new ≡ joined (first_of self.drawing self.points n) ++ drop (length (joined (first_of self.drawing self.points n))) out.old }
+    {
+        if n == 0 {
+            return;
+        }
+        let head = self.drawing.head();
+        self.drawing.put_head(self.points.step, out);
+        self.put_marks(n - 1, &mut out[head..]);
+    }
+
+    // Whether x is the place of v, as far as whole numbers tell: so many pixels from p that the exact place leaves too little for one more (02 (e)).
+    // No is no answer: a place by floats may be x all the same.
+    fn is_counted(self, v: i32, x: i32) -> bool
+        ensures { result ≡ true → x ≡ place_of self.drawing.draft.a self.drawing.draft.b self.drawing.draft.limit v }
+    {
+        let first = self.drawing.draft.a;
+        let second = self.drawing.draft.b;
+        let Limit(p, q) = self.drawing.draft.limit;
+        if real::outside_limit(v, first, second) {
+            return false;
+        }
+        if real::outside_limit(x, p, q) {
+            return false;
+        }
+        let length = (q - p).unsigned_abs();
+        let way = (v - first).unsigned_abs();
+        let pixels = (x - p).unsigned_abs();
+        is_multiple(length, way, pixels, (second - first).unsigned_abs())
+    }
+
+    // The place of the mark v, which is worked out only where x cannot be told to be it.
+    fn place_at(self, v: i32, x: i32) -> i32
+        ensures { result ≡ place_of self.drawing.draft.a self.drawing.draft.b self.drawing.draft.limit v }
+    {
+        if self.is_counted(v, x) {
+            return x;
+        }
+        self.drawing.draft.place_of(v)
+    }
+
+    // Whether l is the record of the mark v.
+    fn is_mark(self, v: i32, l: &[u8; 20]) -> bool
+        ensures { result ≡ same_bytes l.now (laid (mark_of self.drawing.draft v)) }
+    {
+        if l[0] != MARK {
+            return false;
+        }
+        if !has_word(l, 1, v.cast_unsigned()) {
+            return false;
+        }
+        let x = word_at(l, 5).cast_signed();
+        if !has_word(l, 5, self.place_at(v, x).cast_unsigned()) {
+            return false;
+        }
+        is_label(decimal::label(v).bytes, l)
+    }
+
+    // Whether l is the records of the marks, one behind another.
+    fn has_marks(self, l: &[u8]) -> bool
+        requires { length l.now ≡ 20 * self.points.count }
+        ensures { result ≡ same_bytes l.now (marks_laid self.drawing.draft self.points self.points.count) }
+    {
+        let (records, _) = l.as_chunks::<20>();
+        for (k, record) in records.iter().enumerate() {
+            if !self.is_mark(self.mark(k), record) {
+                return false;
+            }
+        }
+        true
+    }
+
+    // Which of the marks v is.
+    fn index_of(self, v: i32) -> Option<usize>
+        ensures { result ≡ index_within self.points.count (index_of v (list_of (element self.points.first self.points.step) self.points.count)) }
+    {
+        let n = self.points.count as usize;
+        (0..n).position(|k| self.mark(k) == v)
+    }
+}
+
+impl Draft {
+    // The marks of the ruler, unwritten, for callers who stream: `ruler_plan` of the cut ones, `ruler_plan_inside` of those on the axis.
+    pub fn plan(self) -> Result<KeyPoints, Refusal>
+        ensures { tell result ≡ ruler_plan_by (plain_form self.choice) self.a self.b self.limit self.m }
     {
         let axis = RangedCoordi32(self.a, self.b);
         if !axis.admitted() {
@@ -258,17 +452,7 @@ impl Drawing {
         if !self.limit.admitted() {
             return Err(Refusal::LimitNotAdmitted);
         }
-        axis.plan_by(self.form.choice, self.m)
-    }
-
-    fn layout(self) -> Result<Layout, Refusal>
-        ensures { MatchResult result (λ x. x.drawing ≡ self) (λ r. plan_for self ≡ refused (number_of r)) }
-    {
-        let points = self.plan()?;
-        Ok(Layout {
-            drawing: self,
-            points,
-        })
+        axis.plan_by(self.choice, self.m)
     }
 
     // The place of the mark v. No mark is refused one.
@@ -293,238 +477,11 @@ impl Drawing {
         out[9..20].copy_from_slice(&label);
     }
 
-    // The axis's record at the start of out.
-    fn put_head(self, step: i32, out: &mut [u8])
-        requires { head_long self.form ≤ length out.old }
-        ensures { out.new ≡ laid (axis_of self step) ++ drop (head_long self.form) out.old }
-    {
-        let limit = self.limit;
-        out[0] = self.form.kind();
-        put_word(self.a.cast_unsigned(), 1, out);
-        put_word(self.b.cast_unsigned(), 5, out);
-        put_word(limit.0.cast_unsigned(), 9, out);
-        put_word(limit.1.cast_unsigned(), 13, out);
-        put_word(self.m, 17, out);
-        put_word(step.cast_unsigned(), 21, out);
-        put_twist(self.form.twist, out);
-    }
-
-    // Whether l is the axis's record.
-    fn is_head(self, step: i32, l: &[u8]) -> bool
-        requires { length l.now ≡ head_long self.form }
-        ensures { result ≡ same_bytes l.now (laid (axis_of self step)) }
-    {
-        let limit = self.limit;
-        if l[0] != self.form.kind() {
-            return false;
-        }
-        if !has_word(l, 1, self.a.cast_unsigned()) {
-            return false;
-        }
-        if !has_word(l, 5, self.b.cast_unsigned()) {
-            return false;
-        }
-        if !has_word(l, 9, limit.0.cast_unsigned()) {
-            return false;
-        }
-        if !has_word(l, 13, limit.1.cast_unsigned()) {
-            return false;
-        }
-        if !has_word(l, 17, self.m) {
-            return false;
-        }
-        if !has_word(l, 21, step.cast_unsigned()) {
-            return false;
-        }
-        is_twist(self.form.twist, l)
-    }
-
-    // A ruler, written to the start of out.
-    fn write(self, out: &mut [u8]) -> Result<(usize, usize), Refusal>
-        ensures { (tell result, out.new) ≡ write_by self.form self.a self.b self.limit self.m out.old }
-    {
-        let layout = self.layout()?;
-        let n = layout.points.count as usize;
-        let size = layout.size();
-        if out.len() < size {
-            return Err(Refusal::OutTooShort);
-        }
-        let records = n + 1;
-        layout.put_records(records, out);
-        Ok((size, n))
-    }
-
-    // Why a ruler with an unknown twist is not written to so many bytes.
-    fn unknown_twist(self, room: usize) -> Refusal
-        ensures { refused (number_of result) ≡ no_twist self.form self.a self.b self.limit self.m room }
-    {
-        match self.layout() {
-            Err(r) => r,
-            Ok(layout) => {
-                let size = layout.size();
-                if room < size {
-                    return Refusal::OutTooShort;
-                }
-                Refusal::UnknownTwist
-            }
-        }
-    }
-
-    // The layout of the drawing, if the bytes are its ruler.
-    fn seen_in(self, l: &[u8]) -> Option<Layout>
-        ensures { option_map (λ x. (x.drawing, x.points)) result ≡ seen_by l.now self }
-    {
-        let layout = self.layout().ok()?;
-        if l.len() != layout.size() {
-            return None;
-        }
-        let head = self.form.head();
-        if !self.is_head(layout.points.step, &l[0..head]) {
-            return None;
-        }
-        if !layout.has_marks(&l[head..]) {
-            return None;
-        }
-        Some(layout)
-    }
-}
-
-impl Layout {
-    // How many bytes the ruler has.
-    fn size(self) -> usize
-        ensures { result ≡ head_long self.drawing.form + 20 * self.points.count }
-    {
-        self.drawing.form.head() + 20 * (self.points.count as usize)
-    }
-
-    // Mark k, counted from 0.
-    fn mark(self, k: usize) -> i32
-        requires { k < self.points.count }
-        ensures { result ≡ element self.points.first self.points.step k }
-    {
-        self.points.first + (k as i32) * self.points.step
-    }
-
-    // The records of the first n marks, one behind another.
-    fn put_marks(self, n: usize, out: &mut [u8])
-        requires marks { n ≤ self.points.count }
-        requires in_bounds { 20 * n ≤ length out.old }
-        ensures { out.new ≡ marks_laid self.drawing self.points n ++ drop (20 * n) out.old }
-    {
-        for k in 0..n {
-            self.drawing.put_mark(self.mark(k), &mut out[20 * k..]);
-        }
-    }
-
-    // The first n records of a ruler: the axis's, then those of marks, of 20 bytes each.
-    fn put_records(self, n: usize, out: &mut [u8])
-        requires marks { n ≤ self.points.count + 1 }
-        requires in_bounds { head_long self.drawing.form + 20 * n ≤ length out.old + 20 }
-        ensures { out.new ≡ joined (first_of self.drawing self.points n) ++ drop (length (joined (first_of self.drawing self.points n))) out.old }
-    {
-        if n == 0 {
-            return;
-        }
-        let head = self.drawing.form.head();
-        self.drawing.put_head(self.points.step, out);
-        self.put_marks(n - 1, &mut out[head..]);
-    }
-
-    // Whether x is the place of v, as far as whole numbers tell: so many pixels from p that the exact place leaves too little for one more (02 (e)).
-    // No is no answer: a place by floats may be x all the same.
-    fn is_counted(self, v: i32, x: i32) -> bool
-        ensures { result ≡ true → x ≡ place_of self.drawing.a self.drawing.b self.drawing.limit v }
-    {
-        let first = self.drawing.a;
-        let second = self.drawing.b;
-        let p = self.drawing.limit.0;
-        let q = self.drawing.limit.1;
-        if real::outside_limit(v, first, second) {
-            return false;
-        }
-        if real::outside_limit(x, p, q) {
-            return false;
-        }
-        let length = (q - p).unsigned_abs();
-        let way = (v - first).unsigned_abs();
-        let pixels = (x - p).unsigned_abs();
-        is_multiple(length, way, pixels, (second - first).unsigned_abs())
-    }
-
-    // The place of the mark v, which is worked out only where x cannot be told to be it.
-    fn place_at(self, v: i32, x: i32) -> i32
-        ensures { result ≡ place_of self.drawing.a self.drawing.b self.drawing.limit v }
-    {
-        if self.is_counted(v, x) {
-            return x;
-        }
-        self.drawing.place_of(v)
-    }
-
-    // Whether l is the record of the mark v.
-    fn is_mark(self, v: i32, l: &[u8]) -> bool
-        requires { length l.now ≡ 20 }
-        ensures { result ≡ same_bytes l.now (laid (mark_of self.drawing v)) }
-    {
-        if l[0] != MARK {
-            return false;
-        }
-        if !has_word(l, 1, v.cast_unsigned()) {
-            return false;
-        }
-        let x = word_at(l, 5).cast_signed();
-        if !has_word(l, 5, self.place_at(v, x).cast_unsigned()) {
-            return false;
-        }
-        is_label(decimal::label(v).bytes, l)
-    }
-
-    // Whether l is the records of the marks, one behind another.
-    fn has_marks(self, l: &[u8]) -> bool
-        requires { length l.now ≡ 20 * self.points.count }
-        ensures { result ≡ same_bytes l.now (marks_laid self.drawing self.points self.points.count) }
-    {
-        let n = self.points.count as usize;
-        for k in 0..n {
-            let at = 20 * k;
-            if !self.is_mark(self.mark(k), &l[at..at + 20]) {
-                return false;
-            }
-        }
-        true
-    }
-
-    // Which of the marks v is.
-    fn index_of(self, v: i32) -> Option<usize>
-        ensures { result ≡ index_within self.points.count (index_of v (list_of (element self.points.first self.points.step) self.points.count)) }
-    {
-        let n = self.points.count as usize;
-        (0..n).position(|k| self.mark(k) == v)
-    }
-}
-
-impl Draft {
     // The drawing of this draft with this twist.
     fn drawing(self, twist: Twist) -> Drawing
         ensures { result ≡ drawing self twist }
     {
-        Drawing {
-            a: self.a,
-            b: self.b,
-            limit: self.limit,
-            m: self.m,
-            form: Form {
-                choice: self.choice,
-                twist,
-            },
-        }
-    }
-
-    // The marks of the ruler, unwritten, for callers who stream: `ruler_plan` of the cut ones, `ruler_plan_inside` of those on the axis.
-    pub fn plan(self) -> Result<KeyPoints, Refusal>
-        ensures { tell result ≡ ruler_plan_by (plain_form self.choice) self.a self.b self.limit self.m }
-    {
-        self.drawing(Twist::Plain).plan()
+        Drawing { draft: self, twist }
     }
 
     // The ruler of kind 1 or 3, written to the start of out; the number of its bytes and of its marks. `ruler_write` of the cut ones, `ruler_write_inside`
@@ -553,13 +510,15 @@ fn drawing_in(l: &[u8]) -> Drawing
     requires { 25 ≤ length l.now }
     ensures { result ≡ drawing_in l.now }
 {
-    Drawing {
+    let form = form_of(l[0], l.get(25).copied().unwrap_or(0));
+    let draft = Draft {
         a: word_at(l, 1).cast_signed(),
         b: word_at(l, 5).cast_signed(),
         limit: Limit(word_at(l, 9).cast_signed(), word_at(l, 13).cast_signed()),
         m: word_at(l, 17),
-        form: form_of(l[0], l.get(25).copied().unwrap_or(0)),
-    }
+        choice: form.choice,
+    };
+    draft.drawing(form.twist)
 }
 
 // The ruler that the bytes are: for the numbers in them the marks are planned anew, and the bytes compared with what would be written.
@@ -577,7 +536,7 @@ pub fn read(bytes: &[u8]) -> Result<Ruler, Refusal>
     ensures { tell result ≡ ruler_read bytes.now }
 {
     let layout = examine(bytes).ok_or(Refusal::NotARuler)?;
-    let d = layout.drawing;
+    let d = layout.drawing.draft;
     let p = layout.points;
     Ok(Ruler {
         a: d.a,
@@ -586,7 +545,7 @@ pub fn read(bytes: &[u8]) -> Result<Ruler, Refusal>
         m: d.m,
         step: p.step,
         marks: p.count as usize,
-        form: d.form,
+        form: layout.drawing.form(),
     })
 }
 
@@ -596,7 +555,7 @@ fn record_place(bytes: &[u8], v: i32) -> Option<Part>
 {
     let layout = examine(bytes)?;
     let k = layout.index_of(v)?;
-    let start = layout.drawing.form.head() + 20 * k;
+    let start = layout.drawing.head() + 20 * k;
     Some(Part {
         start,
         end: start + 20,
@@ -611,6 +570,7 @@ pub fn find_record(bytes: &[u8], v: i32) -> Part
 }
 
 // Where the label of v lies, without its blanks.
+// Kept: a match, since a closure for `map_or` would have to be told what is known of the part, for its two differences.
 pub fn find_label(bytes: &[u8], v: i32) -> Part
     ensures { result ≡ label_in bytes.now v }
 {
@@ -691,17 +651,13 @@ fn put_moved(
 pub fn upgrade(bytes: &[u8], out: &mut [u8]) -> Result<usize, Refusal>
     ensures { (tell result, out.new) ≡ ruler_upgrade bytes.now out.old }
 {
-    let form = examine(bytes).ok_or(Refusal::NotARuler)?.drawing.form;
-    match form.twist {
+    let drawing = examine(bytes).ok_or(Refusal::NotARuler)?.drawing;
+    match drawing.twist {
         Twist::Plain => {
-            let over = Form {
-                choice: form.choice,
-                twist: Twist::S,
-            };
+            let over = drawing.draft.drawing(Twist::S).form();
             put_moved(over.kind(), &[0], 25, bytes, out)
         }
-        Twist::S => Err(Refusal::NotARuler),
-        Twist::Z => Err(Refusal::NotARuler),
+        Twist::S | Twist::Z => Err(Refusal::NotARuler),
     }
 }
 
@@ -710,14 +666,11 @@ pub fn upgrade(bytes: &[u8], out: &mut [u8]) -> Result<usize, Refusal>
 pub fn downgrade(bytes: &[u8], out: &mut [u8]) -> Result<usize, Refusal>
     ensures { (tell result, out.new) ≡ ruler_downgrade bytes.now out.old }
 {
-    let form = examine(bytes).ok_or(Refusal::NotARuler)?.drawing.form;
-    match form.twist {
+    let drawing = examine(bytes).ok_or(Refusal::NotARuler)?.drawing;
+    match drawing.twist {
         Twist::Plain => Err(Refusal::NotARuler),
         Twist::S => {
-            let back = Form {
-                choice: form.choice,
-                twist: Twist::Plain,
-            };
+            let back = drawing.draft.drawing(Twist::Plain).form();
             put_moved(back.kind(), &[], 26, bytes, out)
         }
         Twist::Z => {
@@ -744,6 +697,7 @@ fn limits_admitted_on(limit: Limit, c: i32) -> bool
 }
 
 // The places in the records of so many marks, behind head bytes, n further on.
+// Kept: by index, as `put_marks`.
 fn add_to_places(n: u32, head: usize, count: usize, l: &mut [u8])
     requires { head + 20 * count ≤ length l.old }
     ensures { l.new ≡ added_to_places n head count l.old }
@@ -755,15 +709,15 @@ fn add_to_places(n: u32, head: usize, count: usize, l: &mut [u8])
 
 // The limits in the bytes of a ruler with so many marks, and its places, n further on; but equal ends have a place in which p has no part.
 fn add_to_film(d: Drawing, count: usize, n: u32, l: &mut [u8])
-    requires { head_long d.form + 20 * count ≤ length l.old }
+    requires { head_long (form_of d) + 20 * count ≤ length l.old }
     ensures { l.new ≡ added_to_film d count n l.old }
 {
     add_at(n, 9, l);
     add_at(n, 13, l);
-    if d.a == d.b {
+    if d.draft.a == d.draft.b {
         return;
     }
-    add_to_places(n, d.form.head(), count, l);
+    add_to_places(n, d.head(), count, l);
 }
 
 // Moves the limits of a ruler by c, and its places with them, where it lies: no place is worked out anew.
@@ -771,7 +725,7 @@ pub fn shift(bytes: &mut [u8], c: i32) -> Result<(), Refusal>
     ensures { (tell result, bytes.new) ≡ ruler_shift c bytes.old }
 {
     let layout = examine(bytes).ok_or(Refusal::NotARuler)?;
-    if !limits_admitted_on(layout.drawing.limit, c) {
+    if !limits_admitted_on(layout.drawing.draft.limit, c) {
         return Err(Refusal::LimitNotAdmitted);
     }
     let count = layout.points.count as usize;

@@ -16,6 +16,7 @@ pub trait Entry: Copy {
         ensures { result ≡ numbers.equal self other };
 
     // Whether it is nearer to x than to y, which lie around it in a list that rises or falls.
+    // Kept: told whether the list rises. By size (`abs_diff`, `abs`) each caller would have to show that it lies between x and y.
     fn is_closer(self, rises: bool, x: Self, y: Self) -> bool
         ensures { result ≡ closer numbers rises x self y };
 

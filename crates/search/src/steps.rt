@@ -3,13 +3,13 @@ ghost use Rattle.std.specs.Prelude.{◌≡◌, ℕ, suc, true, get_or};
 ghost use Rattle.ranged1d.specs.Told.{tell_option};
 ghost use Rattle.search.specs.Lists.{toward, ascends, searchable};
 ghost use Rattle.search.specs.Search.{search};
-ghost use Rattle.search.specs.Settled.{settled};
 ghost use Rattle.search.specs.Steps.{rises_first, PlaceOf};
 
-use crate::{Entry, RoundingMethod, settle};
+use crate::{Entry, Place, RoundingMethod};
 
 // Whether x comes before y in a list that rises or falls.
-// Kept: told whether the list rises, a truth that its first entries give. As a closure it would be written out for both ways in each caller.
+// Kept: told whether the list rises, which its first entries say. As a const each caller would be written
+// `if rises { position::<true>(…) } else { position::<false>(…) }`, and stand twice in the program.
 pub fn precedes<T: Entry>(rises: bool, x: T, y: T) -> bool
     ensures { result ≡ toward rises T.numbers.less x y }
 {
@@ -86,24 +86,6 @@ fn entry_before<T: Entry>(list: &[T], i: usize, t: T) -> T
     entry_or(list, i - 1, t)
 }
 
-// What a search answers once the target's place is known: of n entries the first i come before t, x the last of them; y is the next.
-pub fn settle_entry<T: Entry>(
-    method: RoundingMethod,
-    rises: bool,
-    n: usize,
-    i: usize,
-    x: T,
-    t: T,
-    y: T,
-) -> Option<u64>
-    ensures { tell_option result ≡ settled T.numbers method rises n i x t y }
-{
-    if i < n && y.is_equal(t) {
-        return Some(i as u64);
-    }
-    settle(method, rises, n, i, t.is_closer(rises, x, y))
-}
-
 // The index that the search finds in a list that can be searched.
 pub(crate) fn find<T: Entry>(list: &[T], t: T, method: RoundingMethod) -> Option<u64>
     requires list_value { searchable T.numbers list.now ≡ true }
@@ -114,5 +96,10 @@ pub(crate) fn find<T: Entry>(list: &[T], t: T, method: RoundingMethod) -> Option
     let i = position(rises, list, t);
     let x = entry_before(list, i, t);
     let y = entry_or(list, i, t);
-    settle_entry(method, rises, list.len(), i, x, t, y)
+    let place = Place {
+        rises,
+        n: list.len(),
+        i,
+    };
+    place.settle(method, x, t, y)
 }

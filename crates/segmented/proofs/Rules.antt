@@ -1,34 +1,21 @@
 -- The rules of the calls, return by return, over any axis. Assumes nothing.
-use Rattle.std.proofs.Common.{rules, ◌≡◌, ℕ, suc, ◌+◌, ◌<◌, ◌≤◌, Bool, true, false, cond, not, ◌&&◌, ◌||◌, eqb, ltb, ◌⊎◌, inl, inr, List, [], ◌∷◌, length, ℤ, ◌+ℤ◌, ◌-ℤ◌, nat_abs, sym, refl, ap, ◌∙◌, subst, true≢false, add-one, arith, ltb-false, ltb-true, le-ltb, lt-ltb, eq-eqb, ne_eqb, eqb-true}
-use Rattle.std.specs.Prelude.{Option, Some, None, Result, Ok, Err, IsErr, IsErrAnd}
+use Rattle.std.proofs.Common.{◌≡◌, ℕ, suc, ◌+◌, ◌≤◌, Bool, true, false, cond, not, ◌&&◌, ◌||◌, eqb, ◌⊎◌, inl, inr, List, [], ◌∷◌, ℤ, ◌+ℤ◌, ◌-ℤ◌, sym, refl, ap, ◌∙◌, subst, add-one, arith, le-ltb, lt-ltb, eq-eqb, ne_eqb}
+use Rattle.std.specs.Prelude.{Option, Some, None}
 use mathlib.Core.Bool.{and-false, and-true}
 use borrow.Author.Tests.{eqb-false, not-false}
-use lib.Ieee.{Float}
-use Rattle.ranged1d.specs.Answer.{Answer, given, none, refused, Reason, ◌when◌, lowest, written, and_then}
-use Rattle.ranged1d.specs.Admitted.{whole_admitted, limit_admitted, reading_admitted}
-use Rattle.ranged1d.specs.Refusals.{number_of}
-use Rattle.ranged1d.specs.Told.{tell, tell_found}
+use Rattle.ranged1d.specs.Answer.{Answer, given, none, refused, Reason, ◌when◌, lowest, and_then}
+use Rattle.ranged1d.specs.Admitted.{limit_admitted, reading_admitted}
 use Rattle.ranged1d.specs.declared.Limit.{Limit}
-use Rattle.ranged1d.specs.declared.Refusal.{Refusal}
 use Rattle.ranged1d.proofs.Answers.{one-refusal, given_is, not-both, not_none}
 use Rattle.ranged1d.proofs.Bools.{both_false}
 use Rattle.ranged1d.proofs.Lowest.{given_tests, either, stops}
 use Rattle.discrete.specs.Index.{index_for, pixel_index}
-use Rattle.real.specs.Place.{is_beyond, number, real_place, whole_place, spot_answer}
+use Rattle.real.specs.Place.{is_beyond, number, spot_answer}
 use Rattle.segmented.specs.Values.{Segment, exact, center_of, last}
-use Rattle.segmented.specs.Segments.{Axis, Finder, unlisted, half, margin, narrowed, start, entry_after, middle, placed, after_beyond, too_far, fit_in, unsought_place, segment_place, segment_size, index_in, unsought_in, segment_index_of, exactly, segment_at, segment_from_index, segment_of, segment_reading, segment_key_points, count_reasons}
-use Rattle.segmented.specs.Axes.{most_values, stepped_axis, stepped_finder}
-use Rattle.segmented.specs.Steps.{at_least_one, standing, Near, half_way, middle_by, count_answer, size_answer, entry_answer, index_answer, place_answer, Regular, Stands, next_answer, after_answer, placed_answer}
+use Rattle.segmented.specs.Segments.{Axis, Finder, unlisted, half, margin, narrowed, start, entry_after, middle, placed, after_beyond, too_far, fit_in, unsought_place, segment_place, segment_size, index_in, unsought_in, segment_index_of, exactly, segment_at, segment_from_index, segment_of, segment_reading, count_reasons}
+use Rattle.segmented.specs.Axes.{most_values}
+use Rattle.segmented.specs.Steps.{standing, half_way, middle_by, count_answer, size_answer, entry_answer, index_answer, place_answer, Regular, Stands, next_answer, after_answer, middle_answer, placed_answer}
 use Rattle.segmented.proofs.Margin.{moved_by}
-
--- ---- a refusal that is handed on
-pub handed : {A : Type 0} (r : Result A Refusal) (e : Refusal) → IsErr r × IsErrAnd r (λ x. x ≡ e) → tell r ≡ refused (number_of e)
-handed (Ok x) e h = search rules
-handed (Err x) e h = ap (λ (y : Refusal). refused (number_of y)) h.1
-
-pub handed-found : {A : Type 0} (r : Result (Option A) Refusal) (e : Refusal) → IsErr r × IsErrAnd r (λ x. x ≡ e) → tell_found r ≡ refused (number_of e)
-handed-found (Ok x) e h = search rules
-handed-found (Err x) e h = ap (λ (y : Refusal). refused (number_of y)) h.1
 
 -- ---- why there are no segments: u and z are 6 and 7, w that there are no entries or too many
 -- 4, 6 and 7, with 5 between them
@@ -156,11 +143,10 @@ module _ {A : Type 0} (axis : Axis A) where
           go false none = rw q refl
           go false (refused m) = refl
 
-      pub placed_center : {left right : Answer ℤ} → left ≡ spot_answer (axis.spot v l) → right ≡ after_answer axis find v l → middle_by (limit.1 -ℤ l.1) left right ≡ placed_answer axis find (center_of v) limit
-      placed_center {left} p r =
-          ap (middle_by (limit.1 -ℤ l.1) left) r
-          ∙ ap (λ (x : Answer ℤ). middle_by (limit.1 -ℤ l.1) x (after_answer axis find v l)) p
-          ∙ subst (λ (m : Limit). middle_by (limit.1 -ℤ m.1) (spot_answer (axis.spot v m)) (after_answer axis find v m) ≡ placed_answer axis find (center_of v) limit) (sym within_is)
+      pub placed_center : middle_answer axis find v limit l ≡ placed_answer axis find (center_of v) limit
+      unfolding middle_answer
+      placed_center =
+          subst (λ (m : Limit). middle_by (limit.1 -ℤ m.1) (spot_answer (axis.spot v m)) (after_answer axis find v m) ≡ placed_answer axis find (center_of v) limit) (sym within_is)
           (ap (λ (m : ℤ). middle_by m (spot_answer begun) (after_answer axis find v (narrowed axis.count limit))) (moved_by axis.count limit refl) ∙ centered begun refl)
 
   -- ---- `index_of`
@@ -197,6 +183,9 @@ module _ {A : Type 0} (axis : Axis A) where
           go true f = refl
           go false f = refl
 
+      pub next_entry : {n : ℕ} → Stands axis n → axis.fit v ≡ true → {k : ℕ} → given k ≡ index_answer axis find v → {r : Answer A} → r ≡ entry_answer axis (k + 1) → r ≡ next_answer axis find v
+      next_entry s h {k} i e = e ∙ ap (entry_answer axis) (add-one k) ∙ entry_is s (suc k) ∙ next_is s h i
+
       pub next_of : (P : A → Type 0) {w : A} → ((k : ℕ) → axis.entry k ≡ given w → P w) → given w ≡ next_answer axis find v → P w
       unfolding next_answer
       next_of P {w} each e = go (find.unsought v) (find.index v) (sym e)
@@ -212,15 +201,15 @@ module _ {A : Type 0} (axis : Axis A) where
     unfolding after_answer
     after_is v l e = ap (λ (r : Answer A). and_then r (λ w. spot_answer (axis.spot w l))) e
 
-    -- where every place is near 0, that of a successor is
-    pub after-near : (v : A) (l : Limit) → ((w : A) → Near (spot_answer (axis.spot w l))) → {z : ℤ} → given z ≡ after_answer axis find v l → nat_abs z ≤ 1_001_000_000
-    unfolding after_answer
-    after-near v l near {z} e = go (next_answer axis find v) (sym e)
-      where
-        go : (r : Answer A) → and_then r (λ w. spot_answer (axis.spot w l)) ≡ given z → nat_abs z ≤ 1_001_000_000
-        go (given w) e = near w z e
-        go none e = absurd (not_none e)
-        go (refused m) e = absurd (not-both (sym e))
+    pub after_next : (v : A) (l : Limit) {w : A} → given w ≡ next_answer axis find v → {behind : Axis A} → behind ≡ axis → {r : Answer ℤ} → r ≡ spot_answer (behind.spot w l) → r ≡ after_answer axis find v l
+    after_next v l {w} e p q = q ∙ ap (λ (x : Axis A). spot_answer (x.spot w l)) p ∙ after_is v l e
+
+    -- the middle, by places that are known
+    pub middle_of : (v : A) (limit l : Limit) {left right : Answer ℤ} → left ≡ spot_answer (axis.spot v l) → right ≡ after_answer axis find v l → middle_by (limit.1 -ℤ l.1) left right ≡ middle_answer axis find v limit l
+    unfolding middle_answer
+    middle_of v limit l {left} p r =
+        ap (middle_by (limit.1 -ℤ l.1) left) r
+        ∙ ap (λ (x : Answer ℤ). middle_by (limit.1 -ℤ l.1) x (after_answer axis find v l)) p
 
   -- ---- `from_index`
   pub last-at : {n : ℕ} → Stands axis n → (k : ℕ) → k ≡ n → given last ≡ segment_at axis k

@@ -1,20 +1,18 @@
 -- The rules of the calls over a stepped axis of either kind of numbers, by those of the axis. Assumes nothing.
-use Rattle.std.proofs.Common.{◌≡◌, ℕ, Bool, true, false, cond, not, ◌&&◌, ◌||◌, eqb, ltb, List, [], ◌∷◌, length, ℤ, sym, refl, ap, ◌∙◌, true≢false, arith, ltb-false, ltb-true, le-ltb, ne_eqb, eqb-true}
+use Rattle.std.proofs.Common.{◌≡◌, ℕ, Bool, true, false, not, ◌&&◌, ◌||◌, eqb, ltb, List, [], ◌∷◌, length, ℤ, sym, refl, ap, ◌∙◌, true≢false, arith, ltb-false, ltb-true, ne_eqb, eqb-true}
 use borrow.Author.Tests.{eqb-false}
 use lib.Ieee.{Float}
 use Rattle.ranged1d.specs.Answer.{Answer, given, refused, ◌when◌, lowest, written}
-use Rattle.ranged1d.specs.Admitted.{whole_admitted, limit_admitted}
+use Rattle.ranged1d.specs.Admitted.{whole_admitted}
 use Rattle.ranged1d.proofs.Bools.{both_true}
 use Rattle.ranged1d.specs.declared.Limit.{Limit}
-use Rattle.real.specs.Place.{real_place, whole_place, spot_answer}
+use Rattle.real.specs.Place.{real_place, whole_place}
 use Rattle.search.specs.declared.RoundingMethod.{RoundingMethod}
 use Rattle.linspace.specs.List.{Kind, whole, real, stepped, against, too_long, axis_admitted, most}
 use Rattle.linspace.specs.Calls.{step_size, step_from_index, step_index_of, step_marks, step_key_points, unserved}
 use Rattle.linspace.proofs.Marks.{marks-none, marks-some, some-marks}
-use Rattle.segmented.specs.Values.{exact}
-use Rattle.segmented.specs.Segments.{Axis, segment_index_of, segment_key_points}
-use Rattle.segmented.specs.Axes.{most_values, stepped_axis, stepped_finder}
-use Rattle.segmented.specs.Regular.{few_enough}
+use Rattle.segmented.specs.Segments.{Axis, segment_key_points}
+use Rattle.segmented.specs.Axes.{stepped_axis, stepped_finder}
 use Rattle.segmented.specs.Steps.{at_least_one, size_answer, entry_answer, index_answer, place_answer}
 
 module _ {A : Type 0} (kind : Kind A) (a b d : A) where

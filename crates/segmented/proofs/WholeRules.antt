@@ -1,22 +1,18 @@
 -- What is known of segments over a whole axis: its count, its entries and their places, and what its calls answer. Assumes nothing.
-use Rattle.std.proofs.Common.{◌≡◌, ℕ, ◌+◌, ◌<◌, ◌≤◌, Bool, true, false, cond, not, ◌||◌, eqb, ltb, List, [], ◌∷◌, length, ℤ, pos, ◌+ℤ◌, ◌-ℤ◌, nat_abs, sym, refl, ap, ◌∙◌, arith, ltb-false, le-ltb, lt-ltb, le-leb}
-use native.Mathlib.Decide.{dec_lt}
+use Rattle.std.proofs.Common.{◌≡◌, ℕ, ◌<◌, ◌≤◌, Bool, true, false, cond, not, ◌||◌, eqb, ltb, List, [], ◌∷◌, length, ℤ, pos, ◌+ℤ◌, nat_abs, sym, refl, ap, ◌∙◌, arith}
 use borrow.Author.Tests.{not-false}
-use lib.Signed.{lt_z}
 use Rattle.ranged1d.specs.Answer.{Answer, given, none, refused, Reason, ◌when◌, lowest, written, and_then}
-use Rattle.ranged1d.specs.Admitted.{whole_admitted, limit_admitted}
 use Rattle.ranged1d.specs.declared.Limit.{Limit}
-use Rattle.ranged1d.proofs.Answers.{given_is, not_none}
+use Rattle.ranged1d.proofs.Answers.{given_is}
 use Rattle.ranged1d.proofs.Lowest.{given_tests, stops}
-use Rattle.real.specs.Place.{whole_place, spot_answer}
+use Rattle.real.specs.Place.{whole_place}
 use Rattle.ranged1d.proofs.Whole.{minus-far}
 use Rattle.numeric.specs.declared.KeyPoints.{KeyPoints}
 use Rattle.numeric.specs.Marks.{marks, step_of, no_step}
 use Rattle.numeric.specs.Calls.{plan_reasons, plan_of, whole_plan, whole_key_points}
 use Rattle.numeric.proofs.Readings.{ends-near}
 use Rattle.numeric.specs.Whole.{count_of, ends_admitted, whole_size, whole_index_of}
-use Rattle.segmented.specs.Values.{exact}
-use Rattle.segmented.specs.Segments.{Axis, segment_index_of, segment_key_points}
+use Rattle.segmented.specs.Segments.{Axis, segment_key_points}
 use Rattle.segmented.specs.Axes.{most_values, whole_axis, whole_finder}
 use Rattle.segmented.specs.Steps.{standing, count_answer, size_answer, entry_answer, index_answer, place_answer, Stands}
 use Rattle.segmented.specs.Regular.{spans, value-near, whole-regular}

@@ -1,5 +1,5 @@
 -- What the steps of the calls on segments find, for the promises of private functions. Assumes nothing.
-use Rattle.std.specs.Prelude.{◌≡◌, ℕ, suc, ◌<◌, ◌≤◌, true, false, not, ◌&&◌, ◌||◌, [], ◌∷◌, ℤ, ◌+ℤ◌, ◌==◌, nat_eq, nat_lt, unsigned_abs}
+use Rattle.std.specs.Prelude.{◌≡◌, ℕ, suc, ◌<◌, ◌≤◌, true, false, not, ◌&&◌, ◌||◌, [], ◌∷◌, ℤ, ◌+ℤ◌, ◌-ℤ◌, ◌==◌, nat_eq, nat_lt, unsigned_abs}
 use Rattle.ranged1d.specs.Answer.{Answer, given, none, refused, ◌when◌, lowest, and_then}
 use Rattle.ranged1d.specs.Admitted.{limit_admitted}
 use Rattle.ranged1d.specs.declared.Limit.{Limit}
@@ -78,6 +78,10 @@ module _ {A : Type 0} (axis : Axis A) where
   -- the place of the successor of v between limits
   unfoldable pub after_answer : Finder A → A → Limit → Answer ℤ
   after_answer find v limit = and_then (next_answer find v) (λ w. spot_answer (axis.spot w limit))
+
+  -- the middle of the segment of v, whose margin is what the second limit was moved in by
+  unfoldable pub middle_answer : Finder A → A → Limit → Limit → Answer ℤ
+  middle_answer find v limit within = middle_by (limit.1 -ℤ within.1) (spot_answer (axis.spot v within)) (after_answer find v within)
 
   -- a place once the segments are counted
   unfoldable pub placed_answer : Finder A → Segment A → Limit → Answer ℤ

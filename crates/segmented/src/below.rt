@@ -1,14 +1,13 @@
 // What segments ask of the axis below them, and every call on segments, written once over that.
-ghost use Rattle.std.specs.Prelude.{◌≡◌, true, ◌&&◌, ℕ, ◌-ℤ◌, IfOk};
+ghost use Rattle.std.specs.Prelude.{◌≡◌, true, ◌&&◌, ℕ, ◌-ℤ◌, IfOk, IfSome};
 ghost use Rattle.ranged1d.specs.Answer.{given, and_then};
-ghost use Rattle.ranged1d.specs.Admitted.{limit_admitted};
 ghost use Rattle.ranged1d.specs.Told.{tell, tell_found};
 ghost use Rattle.real.specs.Place.{spot_answer};
 ghost use Rattle.segmented.specs.Values.{exact};
 ghost use Rattle.segmented.specs.Segments.{Axis, Finder, fit_in, segment_place, segment_size, segment_index_of, segment_at, segment_from_index, segment_reading, segment_key_points};
-ghost use Rattle.segmented.specs.Steps.{count_answer, size_answer, entry_answer, index_answer, place_answer, Regular, Stands, next_answer, after_answer, placed_answer, middle_by};
+ghost use Rattle.segmented.specs.Steps.{count_answer, size_answer, entry_answer, index_answer, place_answer, Regular, Stands, next_answer, middle_answer, placed_answer};
 
-use crate::shares::{Narrowed, Shares, between};
+use crate::shares::{Film, Narrowed, Shares, between};
 use crate::{SegmentValue, Segmented, some_entries};
 use ranged1d::{Limit, Refusal};
 use search::RoundingMethod;
@@ -77,70 +76,21 @@ fn stand<A: Axis>(axis: A) -> Result<Standing<A>, Refusal>
 }
 
 impl<A: Axis> Standing<A> {
-    // Where the segment of v begins.
-    #[tactic(auto, using(crate::proofs::Rules::place_at))]
-    fn start(&self, v: A::Value, film: &Narrowed) -> Result<i32, Refusal>
-        requires { (A.axis self.now.axis).fit v ≡ true }
-        ensures { tell result ≡ spot_answer ((A.axis self.now.axis).spot v film.now.within) }
-    {
-        self.axis.place(v, film.within)
-    }
-
-    // The entry behind that at the index of v.
-    fn next(&self, way: A::Way, v: A::Value) -> Result<Option<A::Value>, Refusal>
-        requires { (A.axis self.now.axis).fit v ≡ true }
-        ensures { tell_found result ≡ next_answer (A.axis self.now.axis) (A.finder self.now.axis way) v }
-    {
-        match self.axis.find(way, v)? {
-            None => Ok(None),
-            Some(k) => {
-                if self.n <= k {
-                    return Ok(None);
-                }
-                self.axis.entry(k + 1)
-            }
-        }
-    }
-
-    // The place of the entry behind that at the index of v.
-    fn place_after(&self, way: A::Way, v: A::Value, film: &Narrowed) -> Result<Option<i32>, Refusal>
-        requires { (A.axis self.now.axis).fit v ≡ true }
-        ensures { tell_found result ≡ after_answer (A.axis self.now.axis) (A.finder self.now.axis way) v film.now.within }
-    {
-        match self.next(way, v)? {
-            None => Ok(None),
-            Some(w) => Ok(Some(self.start(w, film)?)),
-        }
-    }
-
-    // The middle of the segment of v: half way to where the next one begins; where there is none, half the margin further.
-    fn middle(&self, way: A::Way, v: A::Value, film: &Narrowed) -> Result<i32, Refusal>
-        requires { (A.axis self.now.axis).fit v ≡ true }
-        ensures { tell result ≡ middle_by (film.now.limit.1 -ℤ film.now.within.1) (spot_answer ((A.axis self.now.axis).spot v film.now.within)) (after_answer (A.axis self.now.axis) (A.finder self.now.axis way) v film.now.within) }
-    {
-        let left = self.start(v, film)?;
-        match self.place_after(way, v, film)? {
-            None => Ok(film.beside(left)),
-            Some(right) => Ok(between(left, right)),
-        }
-    }
-
     // The place of a value.
     fn place_of(
-        &self,
+        self,
         way: A::Way,
         value: SegmentValue<A::Value>,
-        limit: Limit,
+        film: Film,
     ) -> Result<i32, Refusal>
-        requires value_value { fit_in (A.axis self.now.axis) value ≡ true }
-        requires limit_value { limit_admitted limit ≡ true }
-        ensures { tell result ≡ placed_answer (A.axis self.now.axis) (A.finder self.now.axis way) value limit }
+        requires { fit_in (A.axis self.axis) value ≡ true }
+        ensures { tell result ≡ placed_answer (A.axis self.axis) (A.finder self.axis way) value film.limit }
     {
-        let film = Shares { n: self.n as u32 }.narrow(limit);
+        let films = Shares { n: self.n as u32 }.narrow(film);
         match value {
-            SegmentValue::Exact(v) => self.start(v, &film),
-            SegmentValue::CenterOf(v) => self.middle(way, v, &film),
-            SegmentValue::Last => Ok(limit.1),
+            SegmentValue::Exact(v) => Segment { all: self, v }.start(&films),
+            SegmentValue::CenterOf(v) => Segment { all: self, v }.middle(way, &films),
+            SegmentValue::Last => Ok(film.limit.1),
         }
     }
 
@@ -151,10 +101,55 @@ impl<A: Axis> Standing<A> {
         if k == self.n {
             return Ok(Some(SegmentValue::Last));
         }
-        match self.axis.entry(k)? {
-            None => Ok(None),
-            Some(v) => Ok(Some(SegmentValue::Exact(v))),
+        Ok(self.axis.entry(k)?.map(|v| SegmentValue::Exact(v)))
+    }
+}
+
+// The segment that begins at an admitted value.
+#[derive(Drop)]
+struct Segment<A: Axis> {
+    all: Standing<A>,
+    v: A::Value,
+    ghost fit: { (A.axis all.axis).fit v ≡ true },
+}
+
+impl<A: Axis> Segment<A> {
+    // Where it begins.
+    #[tactic(auto, using(crate::proofs::Rules::place_at))]
+    fn start(&self, films: &Narrowed) -> Result<i32, Refusal>
+        ensures { tell result ≡ spot_answer ((A.axis self.now.all.axis).spot self.now.v films.now.within.limit) }
+    {
+        self.all.axis.place(self.v, films.within.limit)
+    }
+
+    // The segment of the entry behind that at the index of the value.
+    fn next(self, way: A::Way) -> Result<Option<Self>, Refusal>
+        ensures axis_is { IfOk result (λ o. IfSome o (λ s. s.all.axis ≡ self.all.axis)) }
+        ensures value_is { and_then (tell_found result) (λ s. given s.v) ≡ next_answer (A.axis self.all.axis) (A.finder self.all.axis way) self.v }
+    {
+        let Segment { all, v } = self;
+        let Some(k) = all.axis.find(way, v)? else {
+            return Ok(None);
+        };
+        if all.n <= k {
+            return Ok(None);
         }
+        let Some(v) = all.axis.entry(k + 1)? else {
+            return Ok(None);
+        };
+        Ok(Some(Segment { all, v }))
+    }
+
+    // Its middle: half way to where the next one begins; where there is none, half the margin further.
+    fn middle(self, way: A::Way, films: &Narrowed) -> Result<i32, Refusal>
+        ensures { tell result ≡ middle_answer (A.axis self.all.axis) (A.finder self.all.axis way) self.v films.now.film.limit films.now.within.limit }
+    {
+        let left = self.start(films)?;
+        let Some(next) = self.next(way)? else {
+            return Ok(films.beside(left));
+        };
+        let right = next.start(films)?;
+        Ok(between(left, right))
     }
 }
 
@@ -162,13 +157,11 @@ impl<A: Axis> Standing<A> {
 fn fits<A: Axis>(axis: A, value: SegmentValue<A::Value>) -> bool
     ensures { result ≡ ((A.axis axis).admitted && fit_in (A.axis axis) value) }
 {
-    if !axis.admitted() {
-        return false;
-    }
-    match value {
-        SegmentValue::Exact(v) | SegmentValue::CenterOf(v) => axis.fits(v),
-        SegmentValue::Last => true,
-    }
+    axis.admitted()
+        && match value {
+            SegmentValue::Exact(v) | SegmentValue::CenterOf(v) => axis.fits(v),
+            SegmentValue::Last => true,
+        }
 }
 
 // The index of v on an axis with segments.
@@ -194,10 +187,8 @@ pub(crate) fn map_by<A: Axis>(
     if !fits(axis, value) {
         return Err(Refusal::WholeNotAdmitted);
     }
-    if !limit.admitted() {
-        return Err(Refusal::LimitNotAdmitted);
-    }
-    stand(axis)?.place_of(way, value, limit)
+    let film = Film::of(limit)?;
+    stand(axis)?.place_of(way, value, film)
 }
 
 // The index of a value: that of its number, of a whole axis past the end too; `Last` stands behind all entries.
@@ -240,10 +231,10 @@ impl<A: Axis> Segmented<A> {
             return Err(Refusal::LimitNotAdmitted);
         }
         let all = stand(self.0)?;
-        match discrete::pixel_index(x, limit, all.n as u32 + 1)? {
-            None => Ok(None),
-            Some(k) => all.segment_at(k),
-        }
+        let Some(k) = discrete::pixel_index(x, limit, all.n as u32 + 1)? else {
+            return Ok(None);
+        };
+        all.segment_at(k)
     }
 
     // The marks of the axis, each standing for the middle of its segment, written to the start of out: m bounds their number.

@@ -41,10 +41,7 @@ pub type SegmentedLinspacef64 = Segmented<Linspacef64>;
 fn some_entries(count: u64) -> Result<u64, Refusal>
     ensures { tell result ≡ standing (given count) }
 {
-    if count == 0 {
-        return Err(Refusal::NoSegments);
-    }
-    if 16777216 < count {
+    if !(1..=16777216).contains(&count) {
         return Err(Refusal::NoSegments);
     }
     Ok(count)

@@ -1,5 +1,5 @@
 // Segments over a stepped axis of real numbers, all of which are admitted.
-// Kept: beside steps.rt. Each function is a line that hands a call on to the axis below, which is of another type with other rules.
+// Kept: beside steps.rt. Each axis below has calls of its own, so that one impl for both would need a trait with these functions, as `Axis` is.
 ghost use Rattle.std.specs.Prelude.{length};
 ghost use Rattle.linspace.specs.List.{real};
 ghost use Rattle.linspace.specs.Calls.{step_marks};

@@ -1,9 +1,10 @@
 // The film that segments share: how far one goes, and where between its limits the entries are placed.
-ghost use Rattle.std.specs.Prelude.{◌≡◌, ◌≤◌, true, pos, ◌+ℤ◌, ◌-ℤ◌, unsigned_abs};
+ghost use Rattle.std.specs.Prelude.{◌≡◌, ◌≤◌, true, false, pos, ◌+ℤ◌, ◌-ℤ◌, unsigned_abs, IfOk, IfErr};
 ghost use Rattle.ranged1d.specs.Admitted.{limit_admitted};
+ghost use Rattle.ranged1d.specs.Refusals.{number_of};
 ghost use Rattle.segmented.specs.Segments.{half, shared, margin, narrowed};
 
-use ranged1d::Limit;
+use ranged1d::{Limit, Refusal};
 
 // Among how many a film is shared.
 #[derive(Drop)]
@@ -13,13 +14,31 @@ pub(crate) struct Shares {
     ghost most: { n ≤ 16777216 },
 }
 
-// The limits of a film, and those between which entries are placed.
+// Admitted limits of a film.
+#[derive(Clone, Copy)]
+pub(crate) struct Film {
+    pub(crate) limit: Limit,
+    ghost admitted: { limit_admitted limit ≡ true },
+}
+
+// A film, and that between whose limits entries are placed.
 #[derive(Drop)]
 pub(crate) struct Narrowed {
-    pub(crate) limit: Limit,
-    pub(crate) within: Limit,
-    ghost outer: { limit_admitted limit ≡ true },
-    ghost inner: { limit_admitted within ≡ true },
+    pub(crate) film: Film,
+    pub(crate) within: Film,
+}
+
+impl Film {
+    // A film of these limits, or 2.
+    pub(crate) fn of(limit: Limit) -> Result<Film, Refusal>
+        ensures limit_is { IfOk result (λ f. f.limit ≡ limit) }
+        ensures refused { IfErr result (λ r. (number_of r ≡ 2) × (limit_admitted limit ≡ false)) }
+    {
+        if !limit.admitted() {
+            return Err(Refusal::LimitNotAdmitted);
+        }
+        Ok(Film { limit })
+    }
 }
 
 impl Shares {
@@ -43,21 +62,20 @@ impl Shares {
     }
 
     // The margin of a segment.
-    fn margin(self, limit: Limit) -> i32
-        requires { limit_admitted limit ≡ true }
-        ensures { result ≡ margin self.n limit }
+    fn margin(self, film: Film) -> i32
+        ensures { result ≡ margin self.n film.limit }
     {
-        self.share(limit.1 - limit.0)
+        self.share(film.limit.1 - film.limit.0)
     }
 
     // Entries are placed between limits that lie between those of the film, so that they are admitted too.
-    pub(crate) fn narrow(self, limit: Limit) -> Narrowed
-        requires { limit_admitted limit ≡ true }
-        ensures limit_is { result.limit ≡ limit }
-        ensures within_is { result.within ≡ narrowed self.n limit }
+    pub(crate) fn narrow(self, film: Film) -> Narrowed
+        ensures film_is { result.film.limit ≡ film.limit }
+        ensures within_is { result.within.limit ≡ narrowed self.n film.limit }
     {
-        let within = Limit(limit.0, limit.1 - self.margin(limit));
-        Narrowed { limit, within }
+        let limit = Limit(film.limit.0, film.limit.1 - self.margin(film));
+        let within = Film { limit };
+        Narrowed { film, within }
     }
 }
 
@@ -65,9 +83,9 @@ impl Narrowed {
     // Half the margin behind a place: the margin is what the second limit was moved in by.
     pub(crate) fn beside(&self, left: i32) -> i32
         requires { unsigned_abs left ≤ 1001000000 }
-        ensures { result ≡ left +ℤ half (self.now.limit.1 -ℤ self.now.within.1) }
+        ensures { result ≡ left +ℤ half (self.now.film.limit.1 -ℤ self.now.within.limit.1) }
     {
-        left + (self.limit.1 - self.within.1) / 2
+        left + (self.film.limit.1 - self.within.limit.1) / 2
     }
 }
 

@@ -1,5 +1,4 @@
 // Lines on the calls that answer with one number: the arguments, then 0 and the answer, or -1 for none, or the number of the refusal.
-// Kept: a line for each call, over whole and over real numbers, since each names another call of the library.
 ghost use Rattle.std.specs.Prelude.{◌<◌};
 
 use crate::bits::{Word, at};
@@ -11,10 +10,7 @@ const NOTHING: u64 = u64::MAX;
 
 // Whether the line has after its first `args` numbers these words and nothing more.
 fn ends(numbers: &[u64], args: usize, words: &[u64]) -> bool {
-    match numbers.get(args..) {
-        Some(answer) => answer == words,
-        None => false,
-    }
+    numbers.get(args..).is_some_and(|answer| answer == words)
 }
 
 pub(crate) fn same_nothing(numbers: &[u64], args: usize) -> bool {
@@ -53,6 +49,7 @@ pub(crate) fn same_found<T: Word>(
     }
 }
 
+// Kept: an axis of either kind of numbers, here and in searches.rt, segments.rt and steps.rt. Each is a line that names its type.
 pub(crate) fn whole_axis(numbers: &[u64]) -> RangedCoordi32 {
     RangedCoordi32(at(numbers, 0), at(numbers, 1))
 }
@@ -68,36 +65,18 @@ pub(crate) fn limit(numbers: &[u64], k: usize) -> Limit
     Limit(at(numbers, k), at(numbers, k + 1))
 }
 
-pub(crate) fn whole_map(numbers: &[u64]) -> bool {
-    let x = whole_axis(numbers).map(at(numbers, 2), limit(numbers, 3));
-    same(numbers, 5, x)
-}
-
-pub(crate) fn real_map(numbers: &[u64]) -> bool {
-    let x = real_axis(numbers).map(at(numbers, 2), limit(numbers, 3));
-    same(numbers, 5, x)
-}
-
-pub(crate) fn size(numbers: &[u64]) -> bool {
-    same(numbers, 2, whole_axis(numbers).size())
-}
-
-pub(crate) fn index_of(numbers: &[u64]) -> bool {
-    let k = whole_axis(numbers).index_of(at(numbers, 2));
-    same_found(numbers, 3, k)
-}
-
-pub(crate) fn from_index(numbers: &[u64]) -> bool {
-    let v = whole_axis(numbers).from_index(at(numbers, 2));
-    same_found(numbers, 3, v)
-}
-
-pub(crate) fn whole_unmap(numbers: &[u64]) -> bool {
-    let v = whole_axis(numbers).unmap(at(numbers, 2), limit(numbers, 3));
-    same_found(numbers, 5, v)
-}
-
-pub(crate) fn real_unmap(numbers: &[u64]) -> bool {
-    let v = real_axis(numbers).unmap(at(numbers, 2), limit(numbers, 3));
-    same_found(numbers, 5, v)
+// Whether the call of this name on an axis answers as the line has it.
+pub(crate) fn plain(call: &[u8], numbers: &[u64]) -> bool {
+    let whole = whole_axis(numbers);
+    let real = real_axis(numbers);
+    match call {
+        b"wmap" => same(numbers, 5, whole.map(at(numbers, 2), limit(numbers, 3))),
+        b"rmap" => same(numbers, 5, real.map(at(numbers, 2), limit(numbers, 3))),
+        b"size" => same(numbers, 2, whole.size()),
+        b"index_of" => same_found(numbers, 3, whole.index_of(at(numbers, 2))),
+        b"from_index" => same_found(numbers, 3, whole.from_index(at(numbers, 2))),
+        b"unmap" => same_found(numbers, 5, whole.unmap(at(numbers, 2), limit(numbers, 3))),
+        b"runmap" => same_found(numbers, 5, real.unmap(at(numbers, 2), limit(numbers, 3))),
+        _ => false,
+    }
 }

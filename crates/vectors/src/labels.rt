@@ -6,32 +6,40 @@ use ranged1d::Refusal;
 
 // Whether the last word of the line is this text, which has no blank.
 fn ends_with(line: &[u8], text: &[u8]) -> bool {
-    match line.strip_suffix(text) {
-        Some(rest) => rest.ends_with(b" "),
-        None => false,
-    }
+    line.strip_suffix(text)
+        .is_some_and(|rest| rest.ends_with(b" "))
 }
 
-// By the one call or the other.
-fn print(numbers: &[u64], scientific: bool, out: &mut [u8]) -> Result<usize, Refusal> {
+// Whether a call that prints answers as the line has it.
+fn same_label<F: FnOnce(FloatPrettyPrinter, f64, &mut [u8]) -> Result<usize, Refusal>>(
+    line: &[u8],
+    numbers: &[u64],
+    print: F,
+) -> bool
+    requires { F.IsAlwaysCallable print }
+{
     let printer = FloatPrettyPrinter {
         min_decimal: at(numbers, 2),
         max_decimal: at(numbers, 1),
     };
-    let x = at(numbers, 0);
-    if scientific {
-        return printer.print_scientific(x, out);
-    }
-    printer.print(x, out)
-}
-
-pub(crate) fn label(line: &[u8], numbers: &[u64], scientific: bool) -> bool {
     let mut out = [0u8; 38];
-    match print(numbers, scientific, &mut out) {
+    match print(printer, at(numbers, 0), &mut out) {
         Err(r) => same_refusal(numbers, 3, r),
         Ok(k) => match (numbers, out.get(..k)) {
             ([_, _, _, 0, _, ..], Some(text)) => ends_with(line, text),
             _ => false,
         },
     }
+}
+
+pub(crate) fn label(line: &[u8], numbers: &[u64]) -> bool {
+    same_label(line, numbers, |printer, x, out| printer.print(x, out))
+}
+
+pub(crate) fn scientific(line: &[u8], numbers: &[u64]) -> bool {
+    same_label(
+        line,
+        numbers,
+        |printer, x, out| printer.print_scientific(x, out),
+    )
 }

@@ -40,25 +40,22 @@ fn unset<T: Word>(list: &[T]) -> bool {
 
 // Whether the list begins with these entries, and is as it was behind them.
 fn holds<T: Word>(list: &[T], entries: &[u64]) -> bool {
-    match list.split_at_checked(entries.len()) {
-        Some((written, rest)) => {
-            written
-                .iter()
-                .zip(entries)
-                .all(|(x, word)| x.word() == *word)
-                && unset(rest)
-        }
-        None => false,
-    }
+    list.split_at_checked(entries.len()).is_some_and(|(written, rest)| {
+        written
+            .iter()
+            .zip(entries)
+            .all(|(x, word)| x.word() == *word)
+            && unset(rest)
+    })
 }
 
 // Whether the line has this after `args` arguments and nothing more, and the list holds its entries and no others.
 pub(crate) fn same_list<T: Word>(numbers: &[u64], args: usize, told: Told, list: &[T]) -> bool {
     match told {
-        Ok((step, count)) => match entries(numbers, args, step, count) {
-            Some(written) => written.len() == count && holds(list, written),
-            None => false,
-        },
+        Ok((step, count)) => {
+            entries(numbers, args, step, count).is_some_and(|written| written.len() == count
+                && holds(list, written))
+        }
         Err(r) => same_refusal(numbers, args, r) && unset(list),
     }
 }

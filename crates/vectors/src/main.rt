@@ -80,18 +80,11 @@ fn matched(call: &[u8], line: &[u8], numbers: &[u64]) -> bool {
         b"whole" => marks::whole(numbers),
         b"index" => marks::index(numbers),
         b"rmarks" => marks::real(numbers),
-        b"wmap" => calls::whole_map(numbers),
-        b"rmap" => calls::real_map(numbers),
-        b"size" => calls::size(numbers),
-        b"index_of" => calls::index_of(numbers),
-        b"from_index" => calls::from_index(numbers),
-        b"unmap" => calls::whole_unmap(numbers),
-        b"runmap" => calls::real_unmap(numbers),
         b"wsearch" => searches::whole_search(numbers),
         b"rsearch" => searches::real_search(numbers),
-        b"label" => labels::label(line, numbers, false),
-        b"slabel" => labels::label(line, numbers, true),
-        _ => axis_matched(call, numbers),
+        b"label" => labels::label(line, numbers),
+        b"slabel" => labels::scientific(line, numbers),
+        _ => calls::plain(call, numbers) || axis_matched(call, numbers),
     }
 }
 

@@ -6,14 +6,15 @@ use crate::calls::same_found;
 use ranged1d::Refusal;
 use search::RoundingMethod;
 
-// 0 exact, 1 up, 2 down, 3 nearest; the lines have no other.
-pub(crate) fn method(numbers: &[u64], k: usize) -> RoundingMethod {
-    let by: u64 = at(numbers, k);
-    match by {
-        0 => RoundingMethod::Exact,
-        1 => RoundingMethod::Ceil,
-        2 => RoundingMethod::Floor,
-        _ => RoundingMethod::Round,
+// Word k of the line: 0 exact, 1 up, 2 down, 3 nearest. With another number the line matches no call.
+// Kept: its own numbers beside those of culvraod, so that a line is read without what it is to judge.
+pub(crate) fn method(numbers: &[u64], k: usize) -> Option<RoundingMethod> {
+    match numbers.get(k)? {
+        0 => Some(RoundingMethod::Exact),
+        1 => Some(RoundingMethod::Ceil),
+        2 => Some(RoundingMethod::Floor),
+        3 => Some(RoundingMethod::Round),
+        _ => None,
     }
 }
 
@@ -29,9 +30,12 @@ fn same_search<T: Word, F: FnOnce(&[T], T, RoundingMethod) -> Result<Option<u64>
     for (k, place) in list.iter_mut().enumerate() {
         *place = at(numbers, k + 1);
     }
-    match list.get(..size) {
-        Some(entries) => {
-            let found = search(entries, at(numbers, size + 1), method(numbers, size + 2));
+    let Some(entries) = list.get(..size) else {
+        return false;
+    };
+    match method(numbers, size + 2) {
+        Some(by) => {
+            let found = search(entries, at(numbers, size + 1), by);
             same_found(numbers, size + 3, found)
         }
         None => false,

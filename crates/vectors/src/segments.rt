@@ -12,17 +12,23 @@ use ranged1d::Refusal;
 use search::RoundingMethod;
 use segmented::{Axis, SegmentValue, Segmented};
 
-// Words k and k + 1 of the line: 0 Exact, 1 CenterOf, 2 Last; the lines have no other.
-fn value<T: Word>(numbers: &[u64], k: usize) -> SegmentValue<T>
+// Words k and k + 1 of the line: 0 Exact, 1 CenterOf, 2 Last. With another number the line matches no call.
+// Kept: its own numbers beside those of culvraod, so that a line is read without what it is to judge.
+fn value<T: Word>(numbers: &[u64], k: usize) -> Option<SegmentValue<T>>
     requires { k < 64 }
 {
-    let kind: u64 = at(numbers, k);
     let carried = at(numbers, k + 1);
-    match kind {
-        0 => SegmentValue::Exact(carried),
-        1 => SegmentValue::CenterOf(carried),
-        _ => SegmentValue::Last,
+    match numbers.get(k)? {
+        0 => Some(SegmentValue::Exact(carried)),
+        1 => Some(SegmentValue::CenterOf(carried)),
+        2 => Some(SegmentValue::Last),
+        _ => None,
     }
+}
+
+// The method and the value that are words 3, 4 and 5.
+fn sought<T: Word>(numbers: &[u64]) -> Option<(RoundingMethod, SegmentValue<T>)> {
+    Some((method(numbers, 3)?, value(numbers, 4)?))
 }
 
 fn same_value<T: Word>(numbers: &[u64], args: usize, value: SegmentValue<T>) -> bool {
@@ -52,12 +58,12 @@ pub(crate) fn plain(call: &[u8], numbers: &[u64]) -> bool {
     match call {
         b"size" => same(numbers, 2, segments.size()),
         b"at" => same_segment(numbers, 3, segments.from_index(at(numbers, 2))),
-        b"idx" => same_found(numbers, 4, segments.index_of(value(numbers, 2))),
-        b"map" => same(
+        b"idx" => value(numbers, 2).is_some_and(|v| same_found(numbers, 4, segments.index_of(v))),
+        b"map" => value(numbers, 2).is_some_and(|v| same(
             numbers,
             6,
-            segments.map(value(numbers, 2), limit(numbers, 4)),
-        ),
+            segments.map(v, limit(numbers, 4)),
+        )),
         b"read" => same_segment(
             numbers,
             5,
@@ -81,16 +87,19 @@ pub(crate) fn stepped<T: Word, A: Axis<Value = T, Way = RoundingMethod, Told = u
     list: &mut [T],
 ) -> bool {
     let segments = Segmented(axis);
-    let by = method(numbers, 3);
     match call {
         b"size" => same(numbers, 3, segments.size()),
         b"at" => same_segment(numbers, 4, segments.from_index(at(numbers, 3))),
-        b"idx" => same_found(numbers, 6, segments.index_of(by, value(numbers, 4))),
-        b"map" => same(
+        b"idx" => sought(numbers).is_some_and(|(by, v)| same_found(
+            numbers,
+            6,
+            segments.index_of(by, v),
+        )),
+        b"map" => sought(numbers).is_some_and(|(by, v)| same(
             numbers,
             8,
-            segments.map(by, value(numbers, 4), limit(numbers, 6)),
-        ),
+            segments.map(by, v, limit(numbers, 6)),
+        )),
         b"read" => same_segment(
             numbers,
             6,

@@ -19,52 +19,31 @@ pub(crate) fn real_steps(numbers: &[u64]) -> Linspacef64 {
     }
 }
 
-// Whether the call of this name on whole steps answers as the line has it.
-// Kept: the same lines for reals, since a trait over both would have seven methods, each written out for either.
+// Whether the call of this name on these steps answers as the line has it. A macro, since steps of whole and of real numbers have calls
+// of the same names and no trait.
+macro_rules! same_steps {
+    ($call:expr, $numbers:expr, $steps:expr, $list:expr) => {{
+        let numbers = $numbers;
+        let steps = $steps;
+        match $call {
+            b"size" => same(numbers, 3, steps.size()),
+            b"at" => same_found(numbers, 4, steps.from_index(at(numbers, 3))),
+            b"idx" => method(numbers, 4).is_some_and(|by| same_found(numbers, 5, steps.index_of(at(numbers, 3), by))),
+            b"map" => same(numbers, 6, steps.map(at(numbers, 3), limit(numbers, 4))),
+            b"read" => same_found(numbers, 6, steps.unmap(at(numbers, 3), limit(numbers, 4))),
+            b"list" => same_lent(numbers, 4, $list, |out| counted(steps.values(out))),
+            b"marks" => same_lent(numbers, 5, $list, |out| counted(steps.key_points(at(numbers, 3), out))),
+            _ => false,
+        }
+    }};
+}
+
 pub(crate) fn whole(call: &[u8], numbers: &[u64]) -> bool {
-    let steps = whole_steps(numbers);
     let list = &mut [i32::UNSET; 64];
-    match call {
-        b"size" => same(numbers, 3, steps.size()),
-        b"at" => same_found(numbers, 4, steps.from_index(at(numbers, 3))),
-        b"idx" => same_found(
-            numbers,
-            5,
-            steps.index_of(at(numbers, 3), method(numbers, 4)),
-        ),
-        b"map" => same(numbers, 6, steps.map(at(numbers, 3), limit(numbers, 4))),
-        b"read" => same_found(numbers, 6, steps.unmap(at(numbers, 3), limit(numbers, 4))),
-        b"list" => same_lent(numbers, 4, list, |out| counted(steps.values(out))),
-        b"marks" => same_lent(
-            numbers,
-            5,
-            list,
-            |out| counted(steps.key_points(at(numbers, 3), out)),
-        ),
-        _ => false,
-    }
+    same_steps!(call, numbers, whole_steps(numbers), list)
 }
 
 pub(crate) fn real(call: &[u8], numbers: &[u64]) -> bool {
-    let steps = real_steps(numbers);
     let list = &mut [f64::UNSET; 64];
-    match call {
-        b"size" => same(numbers, 3, steps.size()),
-        b"at" => same_found(numbers, 4, steps.from_index(at(numbers, 3))),
-        b"idx" => same_found(
-            numbers,
-            5,
-            steps.index_of(at(numbers, 3), method(numbers, 4)),
-        ),
-        b"map" => same(numbers, 6, steps.map(at(numbers, 3), limit(numbers, 4))),
-        b"read" => same_found(numbers, 6, steps.unmap(at(numbers, 3), limit(numbers, 4))),
-        b"list" => same_lent(numbers, 4, list, |out| counted(steps.values(out))),
-        b"marks" => same_lent(
-            numbers,
-            5,
-            list,
-            |out| counted(steps.key_points(at(numbers, 3), out)),
-        ),
-        _ => false,
-    }
+    same_steps!(call, numbers, real_steps(numbers), list)
 }

@@ -3,10 +3,9 @@ ghost use Rattle.std.specs.Prelude.{◌≤◌, length};
 
 // v with one digit more; v itself where that is too large for a u64.
 fn push(v: u64, digit: u32) -> u64 {
-    match v.checked_mul(10) {
-        Some(tens) => tens.checked_add(u64::from(digit)).unwrap_or(v),
-        None => v,
-    }
+    v.checked_mul(10)
+        .and_then(|tens| tens.checked_add(u64::from(digit)))
+        .unwrap_or(v)
 }
 
 // The number that s begins with, 0 where it begins with no digit; and what follows it.

@@ -30,7 +30,7 @@ impl Counted {
     }
 
     // A running minute's clock minute, if it is one of the window's.
-    // Kept: beside `running`, of which it is the way back: one line each over `carried`.
+    // Kept: beside `running`, of which it is the way back: one method for both would be told which way.
     fn clock(self, running: u32) -> Option<u32>
         requires { OfTheWeek self }
         ensures { tell_option result ≡ clock_in running self }
@@ -51,13 +51,10 @@ fn carried(from: u32, n: u32, to: u32, x: u32) -> Option<u32>
     requires { to + n ≤ 4294967295 }
     ensures { tell_option result ≡ carried_to from n to x }
 {
-    if x < from {
-        return None;
+    if from <= x && x - from < n {
+        return Some(to + (x - from));
     }
-    if n <= x - from {
-        return None;
-    }
-    Some(to + (x - from))
+    None
 }
 
 // Once over the windows, never over minutes: whether they are a running week, and what `carry` finds in one of them.

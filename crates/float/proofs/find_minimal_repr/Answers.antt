@@ -16,7 +16,7 @@ returns c =
     let e : c.rfold-value.result ≡ fold climb d.result.value (reverse l) = grind (arith, common_steps) in
     let f = d.ensures.few in
     let m : length l ≡ d.result.levels = simp length-take (omega (arith, f)) in
-    let k : length (take c.args.h (replicate 10 zero_float)) ≡ c.args.h = simp (length-take, length-replicate) (omega arith) in
+    let k : length (take c.args.h.number (replicate 10 zero_float)) ≡ c.args.h.number = simp (length-take, length-replicate) (omega (arith, c.args.h.few)) in
     ap (λ (v : Float). found v d.result.levels) e ∙ ap (found (fold climb d.result.value (reverse l))) (sym m) ∙ sym (back_fold l d.result.value) ∙ d.ensures.found
     ∙ ap (λ (j : ℕ). shorten j c.args.n (div binary64 one (of_int binary64 (pos c.pow.result)))) k
-    ∙ ap (λ (p : ℕ). shorten c.args.h c.args.n (div binary64 one (of_int binary64 (pos p)))) c.pow.ensures
+    ∙ ap (λ (p : ℕ). shorten c.args.h.number c.args.n (div binary64 one (of_int binary64 (pos p)))) c.pow.ensures

@@ -20,20 +20,20 @@ use Rattle.float.proofs.put_either.Goals as goal
 use Rattle.float.proofs.put_either.Goals.{then-length-x-via-then-length-x, then-length-x-via-else-length-x+then-r}
 
 pub take_apart-t-requires-clause-few : goal.take_apart-t-requires-clause-few
-take_apart-t-requires-clause-few c = levels_few c.args.n c.args.h c.well_formed.0.1 (printable_at_most c.args.n c.requires.has_label) c.requires.few c.find_minimal_repr-r.result c.find_minimal_repr-r.ensures
+take_apart-t-requires-clause-few c = levels_few c.args.n c.args.h.number c.well_formed.0.1 (printable_at_most c.args.n c.requires.has_label) c.args.h.few c.find_minimal_repr-r.result c.find_minimal_repr-r.ensures
 
 pub take_apart-t-requires-clause-near : goal.take_apart-t-requires-clause-near
-take_apart-t-requires-clause-near c = value-near c.args.n c.args.h c.well_formed.0.1 (printable_at_most c.args.n c.requires.has_label) c.requires.few c.find_minimal_repr-r.result c.find_minimal_repr-r.ensures
+take_apart-t-requires-clause-near c = value-near c.args.n c.args.h.number c.well_formed.0.1 (printable_at_most c.args.n c.requires.has_label) c.args.h.few c.find_minimal_repr-r.result c.find_minimal_repr-r.ensures
 
 pub returns-then-unsigned_abs-lt3 : goal.returns-then-unsigned_abs-lt3
 returns-then-unsigned_abs-lt3 c =
     let n = c.args.n in
-    let h = c.args.h in
+    let h = c.args.h.number in
     let e = c.args.e in
     let short = short_is n c.abs.result c.abs.ensures.value c.scale-p.result.index c.scale-p.ensures.index c.scale-p.ensures.few c.unsigned_abs.result c.unsigned_abs.ensures.value in
     c.put_plain.ensures
     ∙ ap (λ (r : List ℕ). list_written r c.args.out.now)
-    (label-bytes n c.well_formed.0.1 c.requires.has_label h c.requires.few e c.find_minimal_repr-r.result c.find_minimal_repr-r.ensures c.take_apart-t.result c.take_apart-t.ensures
+    (label-bytes n c.well_formed.0.1 c.requires.has_label h c.args.h.few e c.find_minimal_repr-r.result c.find_minimal_repr-r.ensures c.take_apart-t.result c.take_apart-t.ensures
     ∙ sym (text-short n h e c.requires.nonzero (sym short ∙ lt-ltb c.unsigned_abs.result 3 c.if-unsigned_abs-lt3.true)))
 
 pub take_apart-u-requires-clause-few : goal.take_apart-u-requires-clause-few
@@ -55,14 +55,14 @@ take_apart-u-requires-clause-near c =
 pub returns-then-length-x : goal.returns-then-length-x
 returns-then-length-x c =
     let n = c.args.n in
-    let h = c.args.h in
+    let h = c.args.h.number in
     let e = c.args.e in
     let short = short_is n c.abs.result c.abs.ensures.value c.scale-p.result.index c.scale-p.ensures.index c.scale-p.ensures.few c.unsigned_abs.result c.unsigned_abs.ensures.value in
     let told = exponent_told n c.abs.result c.abs.ensures.value c.scale-p.result.index c.scale-p.ensures.index c.scale-p.ensures.few in
     let x = c.as_slice-x.result.now in
     let d : x ≡ decimal (exponent_of n) = text_kept 11 (decimal (exponent_of n)) (decimal-most (exponent_of n)) c.label-text.result (rw told at c.label-text.ensures) x c.as_slice-x.ensures in
     let b = long-bytes n c.abs.result c.scale-p.result.value c.abs.ensures.value c.scale-p.ensures.value c.requires.has_label c.requires.nonzero c.requires.large e c.find_minimal_repr.result c.find_minimal_repr.ensures c.take_apart-u.result c.take_apart-u.ensures in
-    let o = plain-bytes n c.well_formed.0.1 c.requires.has_label h c.requires.few e c.find_minimal_repr-r.result c.find_minimal_repr-r.ensures c.take_apart-t.result c.take_apart-t.ensures in
+    let o = plain-bytes n c.well_formed.0.1 c.requires.has_label h c.args.h.few e c.find_minimal_repr-r.result c.find_minimal_repr-r.ensures c.take_apart-t.result c.take_apart-t.ensures in
     let v = c.find_minimal_repr-r.result.value in
     let i = c.length.result in
     let j = c.length-2.result in
@@ -79,14 +79,14 @@ returns-then-length-x c =
 pub returns : goal.returns
 returns c =
     let n = c.args.n in
-    let h = c.args.h in
+    let h = c.args.h.number in
     let e = c.args.e in
     let short = short_is n c.abs.result c.abs.ensures.value c.scale-p.result.index c.scale-p.ensures.index c.scale-p.ensures.few c.unsigned_abs.result c.unsigned_abs.ensures.value in
     let told = exponent_told n c.abs.result c.abs.ensures.value c.scale-p.result.index c.scale-p.ensures.index c.scale-p.ensures.few in
     let x = c.as_slice-x.result.now in
     let d : x ≡ decimal (exponent_of n) = text_kept 11 (decimal (exponent_of n)) (decimal-most (exponent_of n)) c.label-text.result (rw told at c.label-text.ensures) x c.as_slice-x.ensures in
     let b = long-bytes n c.abs.result c.scale-p.result.value c.abs.ensures.value c.scale-p.ensures.value c.requires.has_label c.requires.nonzero c.requires.large e c.find_minimal_repr.result c.find_minimal_repr.ensures c.take_apart-u.result c.take_apart-u.ensures in
-    let o = plain-bytes n c.well_formed.0.1 c.requires.has_label h c.requires.few e c.find_minimal_repr-r.result c.find_minimal_repr-r.ensures c.take_apart-t.result c.take_apart-t.ensures in
+    let o = plain-bytes n c.well_formed.0.1 c.requires.has_label h c.args.h.few e c.find_minimal_repr-r.result c.find_minimal_repr-r.ensures c.take_apart-t.result c.take_apart-t.ensures in
     let v = c.find_minimal_repr-r.result.value in
     let i = c.length.result in
     let j = c.length-2.result in
@@ -94,5 +94,5 @@ returns c =
     let no : (ltb (i + 1 + length x + 1) j || Ieee.eq v zero_float) ≡ false = ap (λ (t : Bool). t || Ieee.eq v zero_float) (le-ltb (i + 1 + length x + 1) j c.if-length-x.false) ∙ c.if-r.false in
     c.put_plain-2.ensures
     ∙ ap (λ (r : List ℕ). list_written r c.args.out.now)
-    (label-bytes n c.well_formed.0.1 c.requires.has_label h c.requires.few e c.find_minimal_repr-r.result c.find_minimal_repr-r.ensures c.take_apart-t.result c.take_apart-t.ensures
+    (label-bytes n c.well_formed.0.1 c.requires.has_label h c.args.h.few e c.find_minimal_repr-r.result c.find_minimal_repr-r.ensures c.take_apart-t.result c.take_apart-t.ensures
     ∙ sym (text-kept n h e c.requires.nonzero (sym short ∙ le-ltb c.unsigned_abs.result 3 c.if-unsigned_abs-lt3.false) (sym picked ∙ no)))

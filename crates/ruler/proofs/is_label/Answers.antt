@@ -31,5 +31,5 @@ returns c =
     let second = told_by l t c.from_le_bytes-2.result 13 4 (omega (arith, long)) c.has_word-2.ensures (ap word c.from_le_bytes-2.ensures ∙ word_of (get_or t 4 0) (get_or t 5 0) (get_or t 6 0) (get_or t 7 0) (search rules) (search rules) (search rules) (search rules)) in
     let third = told_by l t c.from_le_bytes-3.result 16 7 (omega (arith, long)) c.has_word-3.ensures (ap word c.from_le_bytes-3.ensures ∙ word_of (get_or t 7 0) (get_or t 8 0) (get_or t 9 0) (get_or t 10 0) (search rules) (search rules) (search rules) (search rules)) in
     same_is c.has_word-3.result (drop 9 l) t
-    (λ e. label_whole l t c.requires long (well_told first c.if-not-has_word.false) (well_told second c.if-not-has_word-2.false) (same-equal _ _ (sym third ∙ e)))
+    (λ e. label_whole l t (search rules) long (well_told first c.if-not-has_word.false) (well_told second c.if-not-has_word-2.false) (same-equal _ _ (sym third ∙ e)))
     (λ e. third ∙ same_yes _ _ (sym (from_label 7 l) ∙ ap (four 7) e))

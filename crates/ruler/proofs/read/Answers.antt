@@ -15,7 +15,7 @@ returns c =
     let d = c.in_ok-layout.layout.drawing in
     let p = c.in_ok-layout.layout.points in
     let known = known_layout c.examine.ensures c.in_ok-layout.ensures.ok_part in
-    let a : SFits w32 d.a = search rules in
-    let b : SFits w32 d.b = search rules in
+    let a : SFits w32 d.draft.a = search rules in
+    let b : SFits w32 d.draft.b = search rules in
     let s : SFits w32 p.step = search rules in
-    rw (to_z-of_z a, to_z-of_z b, to_z-of_z s) (sym (read_known known))
+    rw (to_z-of_z a, to_z-of_z b, to_z-of_z s, c.form.ensures) (sym (read_known known))

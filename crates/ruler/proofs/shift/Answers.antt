@@ -6,7 +6,7 @@ use Rattle.ranged1d.specs.Admitted.{limit_admitted}
 use Rattle.real.specs.Shifting.{shifted_limit}
 use Rattle.ruler.specs.declared.Drawing.{Drawing}
 use Rattle.ruler.specs.Rule.{bytes_by, limit_in}
-use Rattle.ruler.specs.Steps.{added_to_film}
+use Rattle.ruler.specs.Steps.{form_of, added_to_film}
 use Rattle.ruler.proofs.Reader.{known_layout, known_none, no_ruler_14, known_drawn, known_long}
 use Rattle.ruler.proofs.Places.{film}
 use Rattle.ruler.proofs.MovedFilm.{film_added, shift_2, shift_14, shifted}
@@ -36,12 +36,12 @@ returns c =
     let p = c.in_ok-layout.layout.points in
     let z = c.args.c in
     let k = known_layout c.examine.ensures c.in_ok-layout.ensures.ok_part in
-    let ok-d : limit_admitted (shifted_limit z d.limit) ≡ true = sym (rw (to_z-of_z c.ranges.c) at c.limits_admitted_on.ensures) ∙ c.if-not-limits_admitted_on.false in
-    let ok : limit_admitted (shifted_limit z (limit_in l)) ≡ true = ap (λ (x : Drawing). limit_admitted (shifted_limit z x.limit)) k.draft ∙ ok-d in
-    let drawn : Drawing → List ℕ = λ x. bytes_by x.form x.a x.b (shifted_limit z x.limit) x.m in
+    let ok-d : limit_admitted (shifted_limit z d.draft.limit) ≡ true = sym (rw (to_z-of_z c.ranges.c) at c.limits_admitted_on.ensures) ∙ c.if-not-limits_admitted_on.false in
+    let ok : limit_admitted (shifted_limit z (limit_in l)) ≡ true = ap (λ (x : Drawing). limit_admitted (shifted_limit z x.draft.limit)) k.draft ∙ ok-d in
+    let drawn : Drawing → List ℕ = λ x. bytes_by (form_of x) x.draft.a x.draft.b (shifted_limit z x.draft.limit) x.draft.m in
     let put : c.add_to_film.new.l ≡ drawn d =
     c.add_to_film.ensures
     ∙ ap (λ (n : ℕ). added_to_film d p.count n l) (c.cast_unsigned.ensures ∙ ap (of_z w32) (to_z-of_z c.ranges.c))
     ∙ ap (added_to_film d p.count (of_z w32 z)) k.bytes
-    ∙ film_added d.form d.a d.b d.limit d.m z (film d.a d.b d.limit d.m (known_drawn k).has) ok-d k.plan c.ranges.c in
+    ∙ film_added (form_of d) d.draft.a d.draft.b d.draft.limit d.draft.m z (film d.draft.a d.draft.b d.draft.limit d.draft.m (known_drawn k).has) ok-d k.plan c.ranges.c in
     ap (λ (x : List ℕ). (given tt, x)) (put ∙ ap drawn (sym k.draft)) ∙ sym (shifted l z k.ruler ok)

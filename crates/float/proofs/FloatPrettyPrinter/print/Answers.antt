@@ -13,20 +13,15 @@ returns-in_err-decimals_for c =
     let p = err_from_is_err_and c.from_residual.result c.from_residual.ensures.1 in
     rw (p.1, p.2) (print_stops c.args.n c.args.self.max_decimal c.args.self.min_decimal _ c.args.out.now c.in_err-decimals_for.ensures)
 
-pub find_minimal_repr-r-requires : goal.find_minimal_repr-r-requires
-find_minimal_repr-r-requires c =
-    let w = admitted_from c.args.n c.args.self.max_decimal c.args.self.min_decimal c.in_ok-decimals_for.field-0 c.in_ok-decimals_for.ensures in
-    omega (arith, w.same, w.most)
-
 pub take_apart-requires-clause-few : goal.take_apart-requires-clause-few
 take_apart-requires-clause-few c =
-    let x = c.in_ok-decimals_for.field-0 in
+    let x = c.in_ok-decimals_for.field-0.number in
     let w = admitted_from c.args.n c.args.self.max_decimal c.args.self.min_decimal x c.in_ok-decimals_for.ensures in
     levels_few c.args.n x c.well_formed.1.0.1 (printable_at_most c.args.n w.has_label) (omega (arith, w.same, w.most)) c.find_minimal_repr-r.result c.find_minimal_repr-r.ensures
 
 pub take_apart-requires-clause-near : goal.take_apart-requires-clause-near
 take_apart-requires-clause-near c =
-    let x = c.in_ok-decimals_for.field-0 in
+    let x = c.in_ok-decimals_for.field-0.number in
     let w = admitted_from c.args.n c.args.self.max_decimal c.args.self.min_decimal x c.in_ok-decimals_for.ensures in
     value-near c.args.n x c.well_formed.1.0.1 (printable_at_most c.args.n w.has_label) (omega (arith, w.same, w.most)) c.find_minimal_repr-r.result c.find_minimal_repr-r.ensures
 
@@ -34,7 +29,7 @@ pub returns : goal.returns
 unfolding label_of plotters_text
 returns c =
     let a = c.args in
-    let x = c.in_ok-decimals_for.field-0 in
+    let x = c.in_ok-decimals_for.field-0.number in
     let w = admitted_from a.n a.self.max_decimal a.self.min_decimal x c.in_ok-decimals_for.ensures in
     c.put_plain.ensures
     ∙ ap (λ (r : List ℕ). list_written r a.out.now) (unsigned_bytes a.n x c.well_formed.1.0.1 (printable_at_most a.n w.has_label) (omega (arith, w.same, w.most)) c.find_minimal_repr-r.result c.find_minimal_repr-r.ensures c.take_apart.result c.take_apart.ensures a.self.min_decimal)

@@ -24,24 +24,19 @@ returns-in_err-most c =
 pub returns-then-n : goal.returns-then-n
 returns-then-n c =
     let a = c.args in
-    let w = admitted_from a.n a.self.max_decimal a.self.min_decimal c.in_ok-most.most c.in_ok-most.ensures in
-    c.put_zero.ensures
+    let w = admitted_from a.n a.self.max_decimal a.self.min_decimal c.in_ok-most.most.number c.in_ok-most.ensures in
+    c.put_text.ensures
     ∙ ap (λ (r : List ℕ). list_written r a.out.now) (sym (text_zero a.n a.self.max_decimal a.self.min_decimal c.if-n.true))
     ∙ sym (goes_on_lem a.n a.self.max_decimal a.self.min_decimal a.out.now w.has_label w.most w.least (zero_large a.n c.if-n.true))
 
 pub returns-then-abs : goal.returns-then-abs
 returns-then-abs c =
     let a = c.args in
-    let w = admitted_from a.n a.self.max_decimal a.self.min_decimal c.in_ok-most.most c.in_ok-most.ensures in
+    let w = admitted_from a.n a.self.max_decimal a.self.min_decimal c.in_ok-most.most.number c.in_ok-most.ensures in
     stops_28 a.n a.self.max_decimal a.self.min_decimal a.out.now w.has_label w.most w.least (small a.n c.abs.result c.if-n.false c.abs.ensures.value ∙ c.if-abs.true)
 
-pub put_either-requires-clause-few : goal.put_either-requires-clause-few
-put_either-requires-clause-few c =
-    let w = admitted_from c.args.n c.args.self.max_decimal c.args.self.min_decimal c.in_ok-most.most c.in_ok-most.ensures in
-    omega (arith, w.same, w.most)
-
 pub put_either-requires-clause-has_label : goal.put_either-requires-clause-has_label
-put_either-requires-clause-has_label c = (admitted_from c.args.n c.args.self.max_decimal c.args.self.min_decimal c.in_ok-most.most c.in_ok-most.ensures).has_label
+put_either-requires-clause-has_label c = (admitted_from c.args.n c.args.self.max_decimal c.args.self.min_decimal c.in_ok-most.most.number c.in_ok-most.ensures).has_label
 
 pub put_either-requires-clause-large : goal.put_either-requires-clause-large
 put_either-requires-clause-large c = small c.args.n c.abs.result c.if-n.false c.abs.ensures.value ∙ c.if-abs.false
@@ -49,7 +44,7 @@ put_either-requires-clause-large c = small c.args.n c.abs.result c.if-n.false c.
 pub returns : goal.returns
 returns c =
     let a = c.args in
-    let w = admitted_from a.n a.self.max_decimal a.self.min_decimal c.in_ok-most.most c.in_ok-most.ensures in
+    let w = admitted_from a.n a.self.max_decimal a.self.min_decimal c.in_ok-most.most.number c.in_ok-most.ensures in
     c.put_either.ensures
     ∙ ap (λ (h : ℕ). list_written (scientific_of a.n h a.self.min_decimal) a.out.now) w.same
     ∙ sym (goes_on_lem a.n a.self.max_decimal a.self.min_decimal a.out.now w.has_label w.most w.least (small a.n c.abs.result c.if-n.false c.abs.ensures.value ∙ c.if-abs.false))

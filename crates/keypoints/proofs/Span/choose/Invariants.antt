@@ -3,4 +3,4 @@ use Rattle.keypoints.specs.Scale.{chosen}
 use Rattle.keypoints.proofs.Span.choose.Given as goal
 
 abbrev pub invariant-loop : goal.invariant-loop
-invariant-loop l = chosen l.self.lo l.self.hi l.m 20 l.fn.first.step l.fn.first.grain ≡ chosen l.self.lo l.self.hi l.m (20 - l.counter) l.step l.grain
+invariant-loop l = chosen l.self.lo l.self.hi l.m 20 l.fn.first.step l.fn.first.grain ≡ chosen l.self.lo l.self.hi l.m (20 - l.counter) l.s.step l.s.grain

@@ -1,4 +1,4 @@
-use Rattle.std.proofs.Common.{◌≡◌, ℕ, ◌*◌, ◌≤◌, length}
+use Rattle.std.proofs.Common.{◌≡◌, ℕ, ◌*◌, length}
 use lib.Ieee.{Float, nan}
 use Rattle.linspace.specs.RealSteps.{plus_step, after}
 use Rattle.linspace.proofs.Runs.{Four}
@@ -11,7 +11,7 @@ abbrev pub invariant-loop-k : goal.invariant-loop-k
 invariant-loop-k l =
     let q = l.initial.y in
     let at = run l.d l.by in
-    (room : 4 * l.g ≤ length l.initial.out)
+    (room : length l.initial.out ≡ 4 * l.g)
     × Four nan l.initial.out l.g room (at q.x0) (at q.x1) (at q.x2) (at q.x3) l.k l.out
     × (l.y.x0 ≡ at q.x0 l.k)
     × (l.y.x1 ≡ at q.x1 l.k)

@@ -1,11 +1,12 @@
 use Rattle.std.proofs.Common.{ℕ, ◌≡◌, ◌*◌, ◌≤◌, refl, sym, ap, ◌∙◌, List, ◌++◌, drop, length, arith}
 use lib.Ieee.{Float}
+use lib.Seq.{length-take-le}
 use Rattle.ranged1d.specs.Answer.{Answer, given, refused}
 use Rattle.ranged1d.proofs.Answers.{too_short, all-written}
 use Rattle.numeric.proofs.Lists.{length_of}
 use Rattle.linspace.specs.List.{real, stepped}
 use Rattle.linspace.specs.Calls.{step_marks}
-use Rattle.linspace.specs.RealSteps.{plus_step, after}
+use Rattle.linspace.specs.RealSteps.{plus_step, after, sums_by}
 use Rattle.linspace.proofs.Rules.{handed, points_is}
 use Rattle.linspace.proofs.Counts.{sized}
 use Rattle.linspace.proofs.Marks.{some-marks, marks-none, marks_long, nothing_written}
@@ -44,6 +45,6 @@ returns c =
     let n = c.in-Some.p.count in
     let p = rw c.in-Some.is at c.in_ok-p.ensures in
     let marks = marks-are s.a s.b s.d c.args.m (sized s.a s.b s.d c.requires.d_value).all p.0 in
-    ap (λ (z : List Float). (given n, z)) (c.put_spaced.ensures ∙ ap (λ (l : List Float). l ++ drop n c.args.out.now) (sym marks))
+    ap (λ (z : List Float). (given n, z)) (ap (λ (l : List Float). l ++ drop n c.args.out.now) (c.put_spaced.ensures ∙ ap (sums_by (plus_step s.d) c.in-Some.p.by s.a) (length-take-le n c.args.out.now p.1) ∙ sym marks))
     ∙ all-written (step_marks real s.a s.b s.d c.args.m) c.args.out.now n (ap length marks ∙ length_of (λ k. after (plus_step s.d) (k * c.in-Some.p.by) s.a) n) p.1
     ∙ points_is real s.a s.b s.d refl c.args.m c.args.out.now c.requires.m_value c.requires.d_value

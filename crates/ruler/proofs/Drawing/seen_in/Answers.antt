@@ -9,6 +9,7 @@ use Rattle.ruler.specs.Bytes.{head_long}
 use Rattle.ruler.proofs.Drawn.{ruler_long_lem, ruler_head, ruler_rest, ruler_whole}
 use Rattle.ruler.proofs.Reader.{bytes_of, layout_given, layout_refused, laid_out, long_out, seen_none, seen_same, seen_other}
 use Rattle.ruler.proofs.Drawing.seen_in.Goals as goal
+use Rattle.ruler.specs.Steps.{form_of}
 
 pub returns-in_err-layout : goal.returns-in_err-layout
 returns-in_err-layout c = rw c.from_residual.ensures (let r = layout_refused c.args.self c.layout.result c.in_err-layout.ensures.value c.layout.ensures in sym (seen_none c.args.l.now c.args.self r.1))
@@ -30,7 +31,7 @@ returns-then-not-is_head c =
     let plan = laid_out e x.planned in
     let step : SFits w32 x.points.step = search rules in
     let told = (rw (sub-zero c.head-head.result, c.head-head.ensures.0, to_z-of_z step) at c.is_head.ensures) in
-    let agree : l ≡ bytes_of d → c.is_head.result ≡ true = λ f. told ∙ same_yes _ _ (ap (take (head_long d.form)) f ∙ ruler_head _ _ _ _ _ plan) in
+    let agree : l ≡ bytes_of d → c.is_head.result ≡ true = λ f. told ∙ same_yes _ _ (ap (take (head_long (form_of d))) f ∙ ruler_head _ _ _ _ _ plan) in
     sym (seen_other _ d plan (λ f. subst T (sym (agree f) ∙ c.if-not-is_head.true) tt))
 
 pub returns-then-not-has_marks : goal.returns-then-not-has_marks
@@ -41,7 +42,7 @@ returns-then-not-has_marks c =
     let e = layout_given c.layout.result c.in_ok-layout.ensures.value c.layout.ensures in
     let plan = laid_out e x.planned in
     let told = (rw (rest_is c.head-head.result l, c.head-head.ensures.0, e) at c.has_marks.ensures) in
-    let agree : l ≡ bytes_of d → c.has_marks.result ≡ true = λ f. told ∙ same_yes _ _ (ap (drop (head_long d.form)) f ∙ ruler_rest _ _ _ _ _ plan) in
+    let agree : l ≡ bytes_of d → c.has_marks.result ≡ true = λ f. told ∙ same_yes _ _ (ap (drop (head_long (form_of d))) f ∙ ruler_rest _ _ _ _ _ plan) in
     sym (seen_other _ d plan (λ f. subst T (sym (agree f) ∙ c.if-not-has_marks.true) tt))
 
 pub returns : goal.returns

@@ -24,21 +24,21 @@ less-told y z r hy hz g =
 -- where both tests were passed
 module _ (c : goal.Else-outside_limit-2) where
   abbrev a : ℤ
-  a = c.args.self.drawing.a
+  a = c.args.self.drawing.draft.a
 
   abbrev b : ℤ
-  b = c.args.self.drawing.b
+  b = c.args.self.drawing.draft.b
 
   abbrev p : ℤ
-  p = c.args.self.drawing.limit.0
+  p = c.args.self.drawing.draft.limit.0
 
   abbrev q : ℤ
-  q = c.args.self.drawing.limit.1
+  q = c.args.self.drawing.draft.limit.1
 
   ends_in : ends_admitted a b ≡ true
   ends_in = ends _ _ _ _ (is_drawn _ _ _ _ _ c.args.self.planned).has
 
-  film_in : limit_admitted c.args.self.drawing.limit ≡ true
+  film_in : limit_admitted c.args.self.drawing.draft.limit ≡ true
   film_in = film _ _ _ _ (is_drawn _ _ _ _ _ c.args.self.planned).has
 
   ends_near : (nat_abs a ≤ 1_000_000_000) × (nat_abs b ≤ 1_000_000_000)
@@ -60,7 +60,7 @@ module _ (c : goal.Else-outside_limit-2) where
       sym (rw (to_z-of_z c.ranges.x, to_z-of_z fp, to_z-of_z fq) at c.outside_limit-2.ensures) ∙ c.if-outside_limit-2.false
 
   all_near : (nat_abs a ≤ 1_000_000_000) × (nat_abs b ≤ 1_000_000_000) × (nat_abs c.args.v ≤ 1_000_000_000) × (nat_abs p ≤ 1_000_000) × (nat_abs q ≤ 1_000_000) × (nat_abs c.args.x ≤ 1_000_000)
-  all_near = near a b c.args.v c.args.x c.args.self.drawing.limit ends_in film_in inside shown
+  all_near = near a b c.args.v c.args.x c.args.self.drawing.draft.limit ends_in film_in inside shown
 
 pub overflow_sub-q : goal.overflow_sub-q
 overflow_sub-q c = less_fits (q c) (p c) (omega (arith, (all_near c).4)) (omega (arith, (all_near c).3))
@@ -84,4 +84,4 @@ returns c =
     let ends-are = less-told (b s) (a s) _ n.1 n.0 c.unsigned_abs.ensures.value in
     λ e.
     let told = rw (length_is, way-is, pixels-are, ends-are) at (c.is_multiple.ensures e) in
-    counted (a s) (b s) c.args.v c.args.x c.args.self.drawing.limit (ends_in s) (film_in s) (inside s) (shown s) told.0 told.1
+    counted (a s) (b s) c.args.v c.args.x c.args.self.drawing.draft.limit (ends_in s) (film_in s) (inside s) (shown s) told.0 told.1

@@ -12,23 +12,23 @@ use Rattle.ruler.proofs.Layout.is_mark.Goals as goal
 
 pub returns-then-l-ne-MARK : goal.returns-then-l-ne-MARK
 unfolding laid
-returns-then-l-ne-MARK c = sym (first-other c.args.l.now (laid (mark_of c.args.self.drawing c.args.v)) c.if-l-ne-MARK.true)
+returns-then-l-ne-MARK c = sym (first-other c.args.l.now (laid (mark_of c.args.self.drawing.draft c.args.v)) c.if-l-ne-MARK.true)
 
 pub returns-then-not-has_word : goal.returns-then-not-has_word
 unfolding laid mark_body
-returns-then-not-has_word c = sym (piece_other 1 c.args.l.now (laid (mark_of c.args.self.drawing c.args.v)) (not_told (by_bits c.args.l.now 1 c.args.v c.ranges.v c.has_word.ensures c.cast_unsigned.ensures) c.if-not-has_word.true))
+returns-then-not-has_word c = sym (piece_other 1 c.args.l.now (laid (mark_of c.args.self.drawing.draft c.args.v)) (not_told (by_bits c.args.l.now 1 c.args.v c.ranges.v c.has_word.ensures c.cast_unsigned.ensures) c.if-not-has_word.true))
 
 pub returns-then-not-has_word-2 : goal.returns-then-not-has_word-2
 unfolding laid mark_body
 returns-then-not-has_word-2 c =
     let x : SFits w32 c.place_at.result = search rules in
     let is = rw (to_z-of_z c.ranges.v) at c.place_at.ensures in
-    sym (piece_other 5 c.args.l.now (laid (mark_of c.args.self.drawing c.args.v)) (not_told (by_bits c.args.l.now 5 c.place_at.result x c.has_word-2.ensures c.cast_unsigned-2.ensures ∙ ap (λ (z : ℤ). same_bytes (four 5 c.args.l.now) (whole z)) is) c.if-not-has_word-2.true))
+    sym (piece_other 5 c.args.l.now (laid (mark_of c.args.self.drawing.draft c.args.v)) (not_told (by_bits c.args.l.now 5 c.place_at.result x c.has_word-2.ensures c.cast_unsigned-2.ensures ∙ ap (λ (z : ℤ). same_bytes (four 5 c.args.l.now) (whole z)) is) c.if-not-has_word-2.true))
 
 pub returns : goal.returns
 unfolding laid mark_body
 returns c =
-    let d = c.args.self.drawing in
+    let d = c.args.self.drawing.draft in
     let v = c.args.v in
     let l = c.args.l.now in
     let x : SFits w32 c.place_at.result = search rules in
@@ -36,5 +36,5 @@ returns c =
     let label_is : c.label.result.bytes ≡ label_of v = ap (λ (t : Text 11). t.bytes) c.label.ensures ∙ ap label_of (to_z-of_z c.ranges.v) in
     let told : c.is_label.result ≡ same_bytes (drop 9 l) (label_of v) = c.is_label.ensures ∙ ap (same_bytes (drop 9 l)) label_is in
     same_is c.is_label.result l (laid (mark_of d v))
-    (λ e. mark-whole v (place_of d.a d.b d.limit v) l (label_of v) (omega (arith, c.requires)) c.if-l-ne-MARK.false (well_told (by_bits c.args.l.now 1 c.args.v c.ranges.v c.has_word.ensures c.cast_unsigned.ensures) c.if-not-has_word.false) (well_told (by_bits c.args.l.now 5 c.place_at.result x c.has_word-2.ensures c.cast_unsigned-2.ensures ∙ ap (λ (z : ℤ). same_bytes (four 5 c.args.l.now) (whole z)) is) c.if-not-has_word-2.false) (same-equal _ _ (sym told ∙ e)))
+    (λ e. mark-whole v (place_of d.a d.b d.limit v) l (label_of v) (omega arith) c.if-l-ne-MARK.false (well_told (by_bits c.args.l.now 1 c.args.v c.ranges.v c.has_word.ensures c.cast_unsigned.ensures) c.if-not-has_word.false) (well_told (by_bits c.args.l.now 5 c.place_at.result x c.has_word-2.ensures c.cast_unsigned-2.ensures ∙ ap (λ (z : ℤ). same_bytes (four 5 c.args.l.now) (whole z)) is) c.if-not-has_word-2.false) (same-equal _ _ (sym told ∙ e)))
     (λ e. told ∙ same_yes _ _ (ap (drop 9) e))

@@ -8,7 +8,7 @@ use Rattle.ruler.proofs.Layout.put_marks.Goals as goal
 
 pub loop-k-preserved : goal.loop-k-preserved
 loop-k-preserved c =
-    let d = c.args.self.drawing in
+    let d = c.args.self.drawing.draft in
     let p = c.args.self.points in
     let out = c.loop-k.out in
     let v : SFits w32 c.mark.result = search rules in

@@ -10,5 +10,5 @@ returns g c =
     let n = g.T.Entry.numbers in
     let o = g.met.T.Entry.ordered in
     let l = c.args.list.now in
-    c.settle_entry.ensures
+    c.settle.ensures
     ∙ found n o c.rising-rises.result l c.args.t c.args.method c.position-i.result c.entry_before-x.result c.entry_or-y.result c.rising-rises.ensures c.requires.list_value c.requires.t_value c.position-i.ensures c.entry_before-x.ensures c.entry_or-y.ensures

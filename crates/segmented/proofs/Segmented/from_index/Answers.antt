@@ -1,11 +1,12 @@
 -- `segmented::Segmented::from_index` what the search leaves.
-use Rattle.std.proofs.Common.{◌≡◌, sym, ap, ◌∙◌, subst, refl}
-use Rattle.segmented.proofs.Rules.{handed-found, from-stopped, from_is}
+use Rattle.std.proofs.Common.{◌∙◌}
+use Rattle.ranged1d.proofs.Handed.{handed_found}
+use Rattle.segmented.proofs.Rules.{from-stopped, from_is}
 use Rattle.segmented.proofs.Segmented.from_index.Goals as goal
 
 pub returns-in_err-stand : goal.returns-in_err-stand
 returns-in_err-stand g c =
-    handed-found c.from_residual.result c.in_err-stand.field-0.0 c.from_residual.ensures
+    handed_found c.from_residual.result c.in_err-stand.field-0.0 c.from_residual.ensures
     ∙ from-stopped (g.A.Axis.axis c.args.self.0) c.args.k c.in_err-stand.ensures.n_is
 
 pub returns : goal.returns

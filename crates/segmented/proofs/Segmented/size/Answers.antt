@@ -1,6 +1,7 @@
 -- `segmented::Segmented::size` what the search leaves.
-use Rattle.std.proofs.Common.{◌≡◌, sym, ap, ◌∙◌, subst, refl}
-use Rattle.segmented.proofs.Rules.{handed, size-stopped, size_is}
+use Rattle.std.proofs.Common.{◌∙◌}
+use Rattle.ranged1d.proofs.Handed.{handed}
+use Rattle.segmented.proofs.Rules.{size-stopped, size_is}
 use Rattle.segmented.proofs.Segmented.size.Goals as goal
 
 pub returns-in_err-stand : goal.returns-in_err-stand

@@ -1,7 +1,8 @@
 -- `segmented::below::index_at` what the search leaves.
-use Rattle.std.proofs.Common.{◌≡◌, sym, ap, ◌∙◌}
+use Rattle.std.proofs.Common.{sym, ◌∙◌}
 use Rattle.segmented.specs.Values.{exact}
-use Rattle.segmented.proofs.Rules.{handed-found, index_unfit, index-stopped, index_is}
+use Rattle.ranged1d.proofs.Handed.{handed_found}
+use Rattle.segmented.proofs.Rules.{index_unfit, index-stopped, index_is}
 use Rattle.segmented.proofs.below.index_at.Goals as goal
 
 pub returns-then-not-fits : goal.returns-then-not-fits
@@ -10,7 +11,7 @@ returns-then-not-fits g c =
 
 pub returns-in_err-stand : goal.returns-in_err-stand
 returns-in_err-stand g c =
-    handed-found c.from_residual.result c.in_err-stand.field-0.0 c.from_residual.ensures
+    handed_found c.from_residual.result c.in_err-stand.field-0.0 c.from_residual.ensures
     ∙ index-stopped (g.A.Axis.axis c.args.axis) (g.A.Axis.finder c.args.axis c.args.way) (exact c.args.v) (sym c.fits.ensures ∙ c.if-not-fits.false) c.in_err-stand.ensures.n_is
 
 pub returns : goal.returns

@@ -1,7 +1,8 @@
 -- `segmented::below::stand` what the search leaves.
-use Rattle.std.proofs.Common.{◌≡◌, ap, ◌∙◌}
+use Rattle.std.proofs.Common.{ap, ◌∙◌}
 use Rattle.ranged1d.specs.Answer.{given, and_then}
-use Rattle.segmented.proofs.Rules.{handed, counted_by, stands}
+use Rattle.ranged1d.proofs.Handed.{handed}
+use Rattle.segmented.proofs.Rules.{counted_by, stands}
 use Rattle.segmented.proofs.below.stand.Goals as goal
 
 pub returns-in_err-count-clause-n_is : goal.returns-in_err-count-clause-n_is

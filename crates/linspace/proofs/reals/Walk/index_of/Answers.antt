@@ -32,6 +32,6 @@ returns c =
     let at = c.approach-at in
     let count : c.count_on-n.result ≡ length (stepped real s.a s.b s.d) = c.count_on-n.ensures ∙ walked-count s.a s.b s.d at.result.n at.result.right c.args.self.some at.ensures.going.walked in
     let few : length (stepped real s.a s.b s.d) ≤ 65536 = subst (λ (n : ℕ). n ≤ 65536) count c.if-n-gt65536.false in
-    rw c.rises-rises.ensures at c.settle_entry.ensures
+    rw c.rises.ensures at c.settle.ensures
     ∙ ap (λ (n : ℕ). settled reals c.args.method (lt s.a s.b) n at.result.n at.result.left c.args.v at.result.right) count
     ∙ index_found s.a s.b s.d (search rules) c.args.self.onward c.args.self.some few c.args.v (equals_itself c.args.v c.if-v.false) c.args.method at.result.n at.result.left at.result.right at.ensures

@@ -12,5 +12,5 @@ returns c =
     let next = c.entry_or-y in
     let x_is : to_z w32 (of_z w32 back.result) ≡ back.result = to_z-of_z {w = w32} (record { sfits = back.type_inv }) in
     let y_is : to_z w32 (of_z w32 next.result) ≡ next.result = to_z-of_z {w = w32} (record { sfits = next.type_inv }) in
-    rw (c.rises.ensures, x_is, v_is, y_is) at c.settle_entry.ensures
+    rw (c.rises.ensures, x_is, v_is, y_is) at c.settle.ensures
     ∙ found c.args.v c.args.method c.position-i.result back.result next.result c.args.self.known (rw v_is at c.position-i.ensures) (rw v_is at back.ensures) (rw v_is at next.ensures)

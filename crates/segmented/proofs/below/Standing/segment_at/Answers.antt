@@ -1,7 +1,10 @@
 -- `segmented::below::Standing::segment_at` what the search leaves.
-use Rattle.std.proofs.Common.{◌≡◌, sym, ap, ◌∙◌}
+use Rattle.std.proofs.Common.{◌≡◌, ◌∙◌, rules}
 use Rattle.ranged1d.specs.Told.{tell_option}
-use Rattle.segmented.proofs.Rules.{handed-found, last-at, exact-at, entry_is}
+use Rattle.linspace.proofs.Rules.{told_map}
+use Rattle.segmented.specs.Segments.{exactly}
+use Rattle.ranged1d.proofs.Handed.{handed_found}
+use Rattle.segmented.proofs.Rules.{last-at, exact-at, entry_is}
 use Rattle.segmented.proofs.below.Standing.segment_at.Goals as goal
 
 pub returns-then-k-self : goal.returns-then-k-self
@@ -10,13 +13,11 @@ returns-then-k-self g c = let s = c.args.self.now in last-at (g.A.Axis.axis s.ax
 pub returns-in_err-entry : goal.returns-in_err-entry
 returns-in_err-entry g c =
     let s = c.args.self.now in
-    handed-found c.from_residual.result c.in_err-entry.field-0.0 c.from_residual.ensures
+    handed_found c.from_residual.result c.in_err-entry.field-0.0 c.from_residual.ensures
     ∙ exact-at (g.A.Axis.axis s.axis) s.stands c.args.k c.if-k-self.false (c.in_err-entry.ensures ∙ entry_is (g.A.Axis.axis s.axis) s.stands c.args.k)
 
-pub returns-in-None : goal.returns-in-None
-returns-in-None g c =
-    let s = c.args.self.now in exact-at (g.A.Axis.axis s.axis) s.stands c.args.k c.if-k-self.false (ap tell_option (sym c.in-None.is) ∙ c.in_ok-entry.ensures ∙ entry_is (g.A.Axis.axis s.axis) s.stands c.args.k)
-
-pub returns-in-Some : goal.returns-in-Some
-returns-in-Some g c =
-    let s = c.args.self.now in exact-at (g.A.Axis.axis s.axis) s.stands c.args.k c.if-k-self.false (ap tell_option (sym c.in-Some.is) ∙ c.in_ok-entry.ensures ∙ entry_is (g.A.Axis.axis s.axis) s.stands c.args.k)
+pub returns : goal.returns
+returns g c =
+    let s = c.args.self.now in
+    let told : tell_option c.map.result ≡ exactly (g.A.Axis.axis s.axis) (tell_option c.in_ok-entry.field-0) = search (rules, told_map) in
+    told ∙ exact-at (g.A.Axis.axis s.axis) s.stands c.args.k c.if-k-self.false (c.in_ok-entry.ensures ∙ entry_is (g.A.Axis.axis s.axis) s.stands c.args.k)

@@ -1,7 +1,7 @@
 -- `segmented::reals::Linspacef64Axis::marks` what the search leaves.
-use Rattle.std.proofs.Common.{◌≡◌, sym, ap, ◌∙◌, refl}
+use Rattle.std.proofs.Common.{ap, ◌∙◌, refl}
 use Rattle.linspace.specs.List.{real}
-use Rattle.segmented.proofs.Rules.{handed}
+use Rattle.ranged1d.proofs.Handed.{handed}
 use Rattle.segmented.proofs.StepRules.{points_some}
 use Rattle.segmented.proofs.reals.Linspacef64Axis.marks.Goals as goal
 

@@ -1,5 +1,5 @@
 -- `segmented::shares::Narrowed::beside` what the search leaves.
-use Rattle.std.proofs.Common.{◌≡◌, ◌≤◌, ℤ, pos, ◌+ℤ◌, ◌-ℤ◌, nat_abs, arith, rules, to_z-of_z, w32, SFits}
+use Rattle.std.proofs.Common.{◌≤◌, pos, ◌+ℤ◌, ◌-ℤ◌, nat_abs, arith, rules, to_z-of_z, w32, SFits}
 use Rattle.ranged1d.proofs.Whole.{minus-far, quotient-far, fits32}
 use Rattle.real.proofs.Cases.{near-limits}
 use Rattle.segmented.specs.Segments.{half}
@@ -9,9 +9,9 @@ use Rattle.segmented.proofs.shares.Narrowed.beside.Goals as goal
 pub returns : goal.returns
 returns c =
     let s = c.args.self.now in
-    let q = s.limit.1 in
-    let e = s.within.1 in
-    let near : nat_abs (q -ℤ e) ≤ 2_000_000 = omega (arith, minus-far q e, (near-limits s.limit s.outer).1, (near-limits s.within s.inner).1) in
+    let q = s.film.limit.1 in
+    let e = s.within.limit.1 in
+    let near : nat_abs (q -ℤ e) ≤ 2_000_000 = omega (arith, minus-far q e, (near-limits s.film.limit s.film.admitted).1, (near-limits s.within.limit s.within.admitted).1) in
     let q-fits : SFits w32 q = search rules in
     let e-fits : SFits w32 e = search rules in
     let moved : SFits w32 (q -ℤ e) = fits32 (q -ℤ e) (omega (arith, near)) in

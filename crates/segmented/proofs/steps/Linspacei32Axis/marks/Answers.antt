@@ -1,7 +1,7 @@
 -- `segmented::steps::Linspacei32Axis::marks` what the search leaves.
-use Rattle.std.proofs.Common.{◌≡◌, sym, ap, ◌∙◌, refl}
+use Rattle.std.proofs.Common.{ap, ◌∙◌, refl}
 use Rattle.linspace.specs.List.{whole}
-use Rattle.segmented.proofs.Rules.{handed}
+use Rattle.ranged1d.proofs.Handed.{handed}
 use Rattle.segmented.proofs.StepRules.{points_some}
 use Rattle.segmented.proofs.steps.Linspacei32Axis.marks.Goals as goal
 

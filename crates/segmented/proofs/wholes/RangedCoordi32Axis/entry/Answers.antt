@@ -1,15 +1,15 @@
 -- `segmented::wholes::RangedCoordi32Axis::entry` what the search leaves.
-use Rattle.std.proofs.Common.{◌≡◌, Bool, cond, sym, ap, ◌∙◌, ℤ, pos, ◌+ℤ◌, arith, rules, lt-ltb, le-ltb, w32, SFits, to_z-of_z}
+use Rattle.std.proofs.Common.{Bool, cond, sym, ap, ◌∙◌, pos, ◌+ℤ◌, arith, rules, lt-ltb, le-ltb, w32, SFits, to_z-of_z}
 use mir.Facts.{to_z_pos}
 use Rattle.ranged1d.specs.Answer.{given, none}
 use Rattle.ranged1d.proofs.Whole.{fits32}
-use Rattle.segmented.proofs.Rules.{handed-found}
+use Rattle.ranged1d.proofs.Handed.{handed_found}
 use Rattle.segmented.proofs.WholeRules.{entry_by, entry-near}
 use Rattle.segmented.proofs.wholes.RangedCoordi32Axis.entry.Goals as goal
 
 pub returns-in_err-size : goal.returns-in_err-size
 returns-in_err-size c =
-    handed-found c.from_residual.result c.in_err-size.field-0.0 c.from_residual.ensures
+    handed_found c.from_residual.result c.in_err-size.field-0.0 c.from_residual.ensures
     ∙ entry_by c.args.self.0 c.args.self.1 c.args.k c.in_err-size.ensures
 
 pub overflow_cast-result : goal.overflow_cast-result

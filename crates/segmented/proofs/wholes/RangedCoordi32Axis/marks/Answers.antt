@@ -1,8 +1,9 @@
 -- `segmented::wholes::RangedCoordi32Axis::marks` what the search leaves.
-use Rattle.std.proofs.Common.{◌≡◌, ap, ◌∙◌}
+use Rattle.std.proofs.Common.{ap, ◌∙◌}
 use Rattle.segmented.specs.Axes.{whole_axis}
 use Rattle.segmented.specs.Regular.{whole-regular}
-use Rattle.segmented.proofs.Rules.{handed, stands}
+use Rattle.ranged1d.proofs.Handed.{handed}
+use Rattle.segmented.proofs.Rules.{stands}
 use Rattle.segmented.proofs.WholeRules.{counted, points_refused, points_stopped, points_is}
 use Rattle.segmented.proofs.wholes.RangedCoordi32Axis.marks.Goals as goal
 
