@@ -77,8 +77,9 @@ pub fn set(axis: Linspacei32, pin: i32, counts: &mut [u16]) -> Result<(), Refusa
 }
 
 // A pin less at its entry.
-// Kept: beside `set`. One function that is handed the sum as a closure was tried: that the count is below 65,536 is not known once the list is written,
-// and its proof did not close. What is shared is `count_of`.
+// Kept: beside `set`. One function that is handed the sum as a closure was tried: that the count is below 65,536 is not known once the list is
+// written, and its proof did not close. What is shared is `count_of`; to lend the count as `&mut u16` it would have to promise besides that the
+// memory ends with that count changed alone.
 pub fn pull(axis: Linspacei32, pin: i32, counts: &mut [u16]) -> Result<(), Refusal>
     ensures { (tell result, counts.new) ≡ chart_pull axis.inner.0 axis.inner.1 axis.step pin counts.old }
 {

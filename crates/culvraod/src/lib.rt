@@ -42,7 +42,8 @@ use ruler::{Draft, Part};
 use search::RoundingMethod;
 
 // A search as C chooses it.
-// Kept: a table, since search gives its methods no numbers, and an impl of TryFrom for its type cannot stand here.
+// Kept: a table. search shall know no numbers of C, and TryFrom cannot stand here: neither the trait nor the type is this crate's. Eight places match
+// Ok and Err of it or of case_of by hand: tried otherwise, each call needs an answer of its own in proofs/.
 fn method_of(method: u32) -> Result<RoundingMethod, Refusal>
     ensures value { result_ok result ≡ method_of method }
     ensures refusal { tell result ≡ by_method (method_of method) given }
@@ -688,6 +689,16 @@ pub extern "C" fn culv_chart_pull(a: i32, b: i32, d: i32, pin: i32, counts: &mut
     give_done(chart::pull(wholes, pin, counts))
 }
 
+// The printer of labels that C names by its decimals.
+fn printer(max_decimal: u32, min_decimal: u32) -> FloatPrettyPrinter
+    ensures { (result.max_decimal ≡ max_decimal) × (result.min_decimal ≡ min_decimal) }
+{
+    FloatPrettyPrinter {
+        min_decimal,
+        max_decimal,
+    }
+}
+
 #[unsafe(no_mangle)]
 pub extern "C" fn culv_label(
     n: f64,
@@ -698,11 +709,7 @@ pub extern "C" fn culv_label(
 ) -> i32
     ensures { (result, out.new, written.new) ≡ list_c (label_print n max_decimal min_decimal out.old) written.old }
 {
-    let printer = FloatPrettyPrinter {
-        min_decimal,
-        max_decimal,
-    };
-    give(printer.print(n, out), written)
+    give(printer(max_decimal, min_decimal).print(n, out), written)
 }
 
 #[unsafe(no_mangle)]
@@ -715,11 +722,10 @@ pub extern "C" fn culv_label_scientific(
 ) -> i32
     ensures { (result, out.new, written.new) ≡ list_c (label_scientific n max_decimal min_decimal out.old) written.old }
 {
-    let printer = FloatPrettyPrinter {
-        min_decimal,
-        max_decimal,
-    };
-    give(printer.print_scientific(n, out), written)
+    give(
+        printer(max_decimal, min_decimal).print_scientific(n, out),
+        written,
+    )
 }
 
 #[unsafe(no_mangle)]

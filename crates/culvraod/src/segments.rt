@@ -1,4 +1,5 @@
 // The C calls on segments: every call under its C name. include/culvraod.h documents them.
+// Kept: a call for each kind of axis, and numbers one by one: the head of lib.rt says why.
 ghost use Rattle.std.specs.Prelude.{◌≡◌, pos, length};
 ghost use Rattle.ranged1d.specs.Answer.{and_then};
 ghost use Rattle.ranged1d.specs.Told.{tell, tell_found};

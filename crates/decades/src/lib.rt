@@ -59,9 +59,6 @@ const POWERS: [f64; 616] = [
     1e308,
 ];
 
-// The entries from 10^-3 to 10^6, which are entries 304 to 313.
-const MIDDLE: [f64; 10] = [1e-3, 1e-2, 1e-1, 1e0, 1e1, 1e2, 1e3, 1e4, 1e5, 1e6];
-
 // Which entry of the table is the decade of a number, and the entry itself.
 #[derive(Clone, Copy)]
 pub struct Power {
@@ -89,7 +86,7 @@ fn find_in_all(x: f64) -> Power
 }
 
 // The decade of x.
-// Kept: the entries that the length of an axis comes to have an array of their own. It is searched in 6.0 ns, the whole table in 13.3.
+// The entries that the length of an axis comes to, 10^-3 to 10^6, are searched by themselves: in 6.0 ns, the whole table in 13.3.
 pub fn decade(x: f64) -> Power
     ensures { result ≡ decade_of x }
 {
@@ -97,7 +94,7 @@ pub fn decade(x: f64) -> Power
         return find_in_all(x);
     }
     if 1e-3 <= x {
-        return find(&MIDDLE, 304, x);
+        return find(&POWERS[304..314], 304, x);
     }
     find_in_all(x)
 }

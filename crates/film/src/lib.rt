@@ -54,6 +54,7 @@ impl Border {
     }
 
     // What the writer would answer for the border under the mark limit m, were it lent `room` bytes.
+    // Kept: 26 + 20 · count is worked out here as the writer of rulers does. A call of the ruler's crate for it would be public, and promise more.
     fn settle(self, m: u32, room: usize) -> Result<(usize, usize), Refusal>
         ensures { tell result ≡ settled self m room }
     {
@@ -62,7 +63,7 @@ impl Border {
         if room < size {
             return Err(Refusal::OutTooShort);
         }
-        // Kept: a twist stays a number up to here, since 15 comes behind 13.
+        // Kept: a twist stays a number up to here, as the public signature has it, and 15 comes behind 13: an `Option<Twist>` would say no more.
         if 1 < self.twist {
             return Err(Refusal::UnknownTwist);
         }

@@ -80,6 +80,7 @@ fn put_number(v: i32, last: u8, out: &mut [u8]) -> usize
 
 // The line of a mark at the start of out, and how many bytes it has. Two numbers, a blank and a newline are 24 bytes at most; where
 // there is no room for so many, nothing is written.
+// Kept: 0 where there is no room, not an Option: this is promised, and the rule of 01 (specs' `put_mark`) is a pair of number and bytes.
 pub fn put_mark(v: i32, x: i32, out: &mut [u8]) -> usize
     ensures { (result, out.new) ≡ put_mark v x out.old }
 {

@@ -1,5 +1,5 @@
 -- The rules of the calls, return by return, for both kinds of numbers. Assumes nothing.
-use mathlib.Core.Path.{◌≡◌, refl, sym, ap, ◌∙◌}
+use mathlib.Core.Path.{◌≡◌, refl, sym, ap, subst, ◌∙◌}
 use mathlib.Core.Bool.{Bool, true, false, cond, not, ◌||◌, and-false}
 use mathlib.Core.List.{List, [], ◌∷◌, ◌++◌}
 use Prim.Native.Nat.{ℕ, ◌≤◌, ◌<◌}
@@ -8,7 +8,7 @@ use borrow.Author.Tests.{lt-ltb, le-ltb, ltb-false}
 use lib.Dec.{ltb}
 use lib.IntN.{ℤ}
 use lib.ListN.{length, drop}
-use Rattle.std.specs.Prelude.{Option, Some, None, MatchOption, IsSomeAnd, Result, Ok, Err, IsErr, IsErrAnd}
+use Rattle.std.specs.Prelude.{Option, Some, None, MatchOption, IsSomeAnd, Result, Ok, Err, IsErr, IsErrAnd, MatchResult}
 use Rattle.std.proofs.Common.{rules}
 use Rattle.ranged1d.specs.Refusals.{number_of}
 use Rattle.ranged1d.specs.Told.{tell, tell_option, tell_found}
@@ -33,6 +33,10 @@ handed (Err x) e h = ap (λ (y : Refusal). refused (number_of y)) h.1
 pub handed_found : {A : Type 0} (r : Result (Option A) Refusal) (e : Refusal) → IsErr r × IsErrAnd r (λ x. x ≡ e) → tell_found r ≡ refused (number_of e)
 handed_found (Ok x) e h = search rules
 handed_found (Err x) e h = ap (λ (y : Refusal). refused (number_of y)) h.1
+
+pub handed_on : {A : Type 0} (P : A → Type 0) (Q : Refusal → Type 0) (r : Result A Refusal) (e : Refusal) → IsErr r × IsErrAnd r (λ x. x ≡ e) → Q e → MatchResult r P Q
+handed_on P Q (Ok x) e h q = search rules
+handed_on P Q (Err x) e h q = subst Q (sym h.1) q
 
 -- ---- what is found, with something beside it
 pub told_map : {A B : Type 0} (r : Option A) (q : Option B) (g : A → B) → MatchOption r (q ≡ None) (λ x. IsSomeAnd q (λ y. y ≡ g x)) → tell_option q ≡ and_then (tell_option r) (λ x. given (g x))
@@ -203,3 +207,22 @@ module _ {A : Type 0} (kind : Kind A) (a b d : A) where
 
       pub points_is : {n : ℕ} → step_size kind a b d ≡ given n → list_written (step_marks kind a b d m) old ≡ step_key_points kind a b d m old
       points_is e = sym (points_by_lem e m old some)
+
+  -- ---- why there is no list, of an axis that is admitted or of another
+  pub stops : {B : Type 0} (f : Answer ℕ → B) {s : Answer ℕ} {r : B} → step_size kind a b d ≡ s → (axis_admitted kind a b d ≡ true → f s ≡ r) → (axis_admitted kind a b d ≡ false → f (refused 1) ≡ r) → f s ≡ r
+  stops f {s} {r} q t u = go (axis_admitted kind a b d) refl
+    where
+      go : (x : Bool) → axis_admitted kind a b d ≡ x → f s ≡ r
+      go true h = t h
+      go false h = ap f (sym q ∙ sym (size-refused h)) ∙ u h
+
+  -- an axis whose entries are counted is admitted
+  pub counts_admitted : {n : ℕ} → step_size kind a b d ≡ given n → axis_admitted kind a b d ≡ true
+  counts_admitted {n} q = go (axis_admitted kind a b d) refl
+    where
+      apart : refused 1 ≡ given n → axis_admitted kind a b d ≡ true
+      apart e = search rules
+
+      go : (x : Bool) → axis_admitted kind a b d ≡ x → axis_admitted kind a b d ≡ true
+      go true h = h
+      go false h = apart (size-refused h ∙ q)

@@ -11,7 +11,7 @@ use mir.Syntax.{w32}
 use mir.Val.{SFits, to_z, of_z}
 use Rattle.ranged1d.specs.Answer.{given, refused}
 use Rattle.ranged1d.specs.declared.Limit.{Limit}
-use Rattle.ranged1d.proofs.Whole.{fits32, add-far, minus-far, pos_times_far}
+use Rattle.ranged1d.proofs.Whole.{fits32, add-far, pos_times_far}
 use Rattle.real.specs.Place.{whole_place}
 use Rattle.linspace.specs.List.{whole, most, against, axis_admitted}
 use Rattle.linspace.specs.Calls.{step_size}
@@ -32,12 +32,11 @@ bits_of {a} {b} {d} h =
     record { a_is = to_z-of_z (fits32 a (omega (arith, near.0))); b_is = to_z-of_z (fits32 b (omega (arith, near.1))); d_is = to_z-of_z (fits32 d (omega (arith, near.2))) }
 
 -- the sizes that a count is made of
-pub count_sizes : (a b d : ℤ) → axis_admitted whole a b d ≡ true → {p s : ℕ} → p ≡ nat_abs (to_z w32 (of_z w32 (to_z w32 (of_z w32 b) -ℤ to_z w32 (of_z w32 a)))) → s ≡ nat_abs (to_z w32 (of_z w32 d))
+pub count_sizes : (a b d : ℤ) → axis_admitted whole a b d ≡ true → {p s : ℕ} → p ≡ nat_abs (to_z w32 (of_z w32 b) -ℤ to_z w32 (of_z w32 a)) → s ≡ nat_abs (to_z w32 (of_z w32 d))
     → (p ≡ nat_abs (b -ℤ a)) × (s ≡ nat_abs d)
 count_sizes a b d h p s =
     let bits = bits_of {a = a} {b = b} {d = d} h in
-    let near = admitted-near a b d h in
-    (rw (bits.a_is, bits.b_is, to_z-of_z (fits32 (b -ℤ a) (omega (arith, minus-far b a, near.0, near.1)))) at p, rw bits.d_is at s)
+    (rw (bits.a_is, bits.b_is) at p, rw bits.d_is at s)
 
 module _ (a b d : ℤ) where
   -- ---- the count

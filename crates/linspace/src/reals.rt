@@ -126,7 +126,7 @@ impl Walk {
     fn index_of(self, v: f64, method: RoundingMethod) -> Result<Option<u64>, Refusal>
         ensures { tell_found result ≡ step_index_of real self.s.a self.s.b self.s.d v method }
     {
-        if v != v {
+        if v.is_nan() {
             return self.index_of_nan(method);
         }
         let at = approach(self.s, v);
@@ -275,10 +275,7 @@ fn told(n: usize, k: u64, x: f64) -> Result<Option<f64>, Refusal>
     if 65536 < n {
         return Err(Refusal::ListTooLong);
     }
-    if k < n as u64 {
-        return Ok(Some(x));
-    }
-    Ok(None)
+    Ok((k < n as u64).then_some(x))
 }
 
 impl Linspacef64 {

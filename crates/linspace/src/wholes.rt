@@ -30,11 +30,12 @@ fn count(s: Steps<i32>) -> u32
     requires { against whole s.a s.b s.d ≡ false }
     ensures { result ≡ whole_count s.a s.b s.d }
 {
-    let span = (s.b - s.a).unsigned_abs();
+    let span = s.b.abs_diff(s.a);
     let step = s.d.unsigned_abs();
     if span <= step {
         return 0;
     }
+    // Kept: rounded up by hand, here and where a position or a share is. `div_ceil` takes a remainder and a branch more.
     (span - 1) / step + 1
 }
 
@@ -179,14 +180,7 @@ impl Linspacei32 {
     pub fn admitted(self) -> bool
         ensures { result ≡ axis_admitted whole self.inner.0 self.inner.1 self.step }
     {
-        let inner = self.inner;
-        if !ranged1d::whole_admitted(inner.0) {
-            return false;
-        }
-        if !ranged1d::whole_admitted(inner.1) {
-            return false;
-        }
-        ranged1d::whole_admitted(self.step)
+        self.inner.admitted() && ranged1d::whole_admitted(self.step)
     }
 
     // The ends and the step, if they are admitted.
@@ -203,12 +197,19 @@ impl Linspacei32 {
         Err(Refusal::WholeNotAdmitted)
     }
 
+    // The list, or why it is refused.
+    fn entries(self) -> Result<Entries, Refusal>
+        ensures { MatchResult result (λ l. (step_size whole self.inner.0 self.inner.1 self.step ≡ given l.n) × (stepped whole self.inner.0 self.inner.1 self.step ≡ list_of (element l.s.a l.s.d) l.n)) (λ r. step_size whole self.inner.0 self.inner.1 self.step ≡ refused (number_of r)) }
+    {
+        let s = self.steps()?;
+        counted(s)
+    }
+
     // The list, written to the start of out.
     pub fn values(self, out: &mut [i32]) -> Result<usize, Refusal>
         ensures { (tell result, out.new) ≡ step_values whole self.inner.0 self.inner.1 self.step out.old }
     {
-        let s = self.steps()?;
-        let l = counted(s)?;
+        let l = self.entries()?;
         let size = l.n as usize;
         if out.len() < size {
             return Err(Refusal::ListTooLong);
@@ -221,8 +222,7 @@ impl Linspacei32 {
     pub fn size(self) -> Result<u64, Refusal>
         ensures { tell result ≡ step_size whole self.inner.0 self.inner.1 self.step }
     {
-        let s = self.steps()?;
-        let l = counted(s)?;
+        let l = self.entries()?;
         Ok(u64::from(l.n))
     }
 
@@ -230,8 +230,7 @@ impl Linspacei32 {
     pub fn from_index(self, k: u64) -> Result<Option<i32>, Refusal>
         ensures { tell_found result ≡ step_from_index whole self.inner.0 self.inner.1 self.step k }
     {
-        let s = self.steps()?;
-        let l = counted(s)?;
+        let l = self.entries()?;
         Ok(l.get(k))
     }
 
@@ -242,8 +241,7 @@ impl Linspacei32 {
         if !ranged1d::whole_admitted(v) {
             return Err(Refusal::WholeNotAdmitted);
         }
-        let s = self.steps()?;
-        let l = counted(s)?;
+        let l = self.entries()?;
         let n = u64::from(l.n);
         Ok(l.find(v, method).map(|k| (k, n)))
     }

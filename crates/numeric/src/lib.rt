@@ -62,6 +62,7 @@ fn step_at(k: usize) -> Step
 }
 
 // Whether step k serves the distance d. d + s - 1 stays below 2^32.
+// Kept: the sum before the division. d.div_ceil(s) takes the remainder too, and a branch on it, at each of up to 28 steps.
 fn serves_at(d: u32, m: u32, k: usize) -> bool
     requires k_bound { k < 28 }
     requires d_bound { d ≤ 2000000000 }
@@ -139,9 +140,7 @@ impl Sorted {
     fn plan(self, choice: Choice, m: u32) -> Result<KeyPoints, Refusal>
         ensures { tell result ≡ lowest (3 when no_step_for self.lo self.hi m ∷ []) (given (plan_with choice self.lo self.hi m)) }
     {
-        let Some(k) = choose(self.hi.abs_diff(self.lo), m) else {
-            return Err(Refusal::NoStep);
-        };
+        let k = choose(self.hi.abs_diff(self.lo), m).ok_or(Refusal::NoStep)?;
         let s = step_at(k);
         let i = s.first_from(self.lo);
         let n = how_many(i, self.last(choice, s));
@@ -156,7 +155,8 @@ impl Sorted {
 }
 
 // Numbers from first on, a step apart, as `mark` has them.
-// Kept: first + k · step in place, as in ruler and linspace. A public function that asks that it fits would be called by a line as long.
+// Kept: first + k · step in place, as in ruler and linspace. The fields of KeyPoints are public, so that a method for it tests of each mark, as `get`
+// does, that there is one and that it fits an i32.
 fn fill_marks<T: Copy, F: Fn(i32) -> T>(out: &mut [T], first: i32, step: i32, mark: F)
     requires callable { F.IsAlwaysCallable mark }
     requires few { length out.old ≤ 2147483648 }

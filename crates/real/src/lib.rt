@@ -56,6 +56,7 @@ fn end_at(p: i32, q: i32, t: f64) -> Option<i64>
 // The place at the share t of the film from p to q, which is l long. The 0.001 keeps a place on its pixel where the product comes out
 // just short of a whole number. A film that runs downward has the steps of its mirror, the other way: which way it runs is as good as
 // random, so that no branch turns on it. An infinite t leads beyond every bound, so that only there it is looked for.
+// Kept: handed the length too, as the rule is. Of a limit alone the length fits an i32 only where the limit is admitted, and this asks nothing.
 pub fn place_along(p: i32, q: i32, l: i32, t: f64) -> Option<i64>
     ensures { result ≡ along p q l t }
 {
@@ -79,6 +80,8 @@ pub fn outside_limit(x: i32, p: i32, q: i32) -> bool
 
 impl RangedCoordf64 {
     // The place of v on the film, or that it is too far. Where the ends are equal p is not added, as in the source.
+    // Kept: beside that of the whole axis. One function, public, would be handed whether the ends are equal, and the share as a closure, since
+    // there is none where they are.
     fn spot_of(self, v: f64, limit: Limit) -> Option<i64>
         requires { limit_admitted limit ≡ true }
         ensures { result ≡ spot self.0 self.1 v limit }
@@ -93,6 +96,8 @@ impl RangedCoordf64 {
     }
 
     // The place of v on the film.
+    // Kept: the test of the limit and its refusal in place, as in numeric, ruler and segmented. A method of Limit for both would tell the refusal
+    // by its number, from which each call would have to show again what it refuses.
     #[tactic(auto, using(crate::proofs::Calls::places))]
     pub fn map(self, v: f64, limit: Limit) -> Result<i32, Refusal>
         ensures { tell result ≡ real_place self.0 self.1 v limit }

@@ -1,13 +1,13 @@
 -- The tests that the code makes of x, and what they say of its floor, its nearest whole number and the whole number within a bound. Assumes nothing.
 use Rattle.std.specs.Prelude.{Some, None}
 use Rattle.std.proofs.Common.{◌≡◌, ℕ, zero, suc, ◌+◌, ◌-◌, ◌*◌, ◌/◌, ◌%◌, ◌^◌, ◌<◌, ◌≤◌, Bool, true, false, ◌&&◌, T, eqb, ltb, leb, ℤ, pos, negsuc, nat_abs, sym, refl, ap, ◌∙◌, subst, true≢false, lt_of_lt_of_le, add-zero, zero-lt-suc, mul_assoc, suc-mul, mul_comm, add-mul, lt_of_mul-lt-mul_right, mul-le-mul_left, mul-pos, one-mul, pow-suc, div-add-mod', zero-mul, mul-one, mul_left_comm, arith, lit≤, le→leb, ltb→lt, lt→ltb, pow_pos, pow_mono, shl_lt, ltb-false, eq-eqb, ne_eqb}
+use Rattle.std.proofs.lemmas.Bool.{false≢true}
 use native.Mathlib.Nat.{mod-one, mul-mod_left, pow-succ'}
-use lib.Ieee.{Float, nan, inf, fin, Format, binary32, binary64, prec, emax, low, up, down, lt, ne, of_int, round, add, sum, neg, fits, to_signed, in_float, in_signed}
+use lib.Ieee.{Float, nan, inf, fin, Format, binary32, binary64, prec, emax, low, up, down, lt, is_nan, of_int, round, add, sum, neg, fits, to_signed, in_float, in_signed}
 use lib.Ieee.Fits.{down_pos, and_l, and_r}
 use lib.Ieee.Exact.{HasValue, round_exact}
 use lib.Ieee.Scale.{round_same}
 use lib.Ieee.Back.{round_whole, positive_back, negative_back}
-use lib.Ieee.Compare.{differs_from_itself}
 use borrow.Author.Tests.{lt-leb}
 use Rattle.rounding.specs.Integral.{Way, floors, halves, integral, sized, upper}
 use Rattle.rounding.specs.Within.{signed, whole_of, kept, within}
@@ -271,9 +271,11 @@ within_small w b nan h = elim h [ ]
 within_small w b (inf _) h = elim h [ ]
 within_small w b (fin s m e) h = refl
 
-pub within_nan : (w : Way) (b : ℕ) (x : Float) → ne x x ≡ true → within w b x ≡ Some (pos 0)
-unfolding within
-within_nan w b x h = ap (within w b) (differs_from_itself x (subst T (sym h) tt))
+pub within_nan : (w : Way) (b : ℕ) (x : Float) → is_nan x ≡ true → within w b x ≡ Some (pos 0)
+unfolding within is_nan
+within_nan w b nan h = refl
+within_nan w b (inf s) h = absurd (false≢true h)
+within_nan w b (fin s m e) h = absurd (false≢true h)
 
 -- a bound below 2 ^ 52 is passed there
 past : (w : Way) (s : Bool) (n d b : ℕ) → 0 < d → b < 4503599627370496 → 4503599627370496 * d ≤ n → b < sized w s n d
@@ -281,8 +283,8 @@ past w s n d b p l h =
     let g : 4503599627370496 < suc (sized w s n d) = lt_of_mul-lt-mul_right d (omega (arith, sized-next w s n d p, suc-mul (sized w s n d) d)) in
     omega arith
 
-pub within_large : (w : Way) (b : ℕ) (x : Float) → b < 2 ^ 32 → ne x x ≡ false → Large x → within w b x ≡ None
-unfolding within whole_of ne
+pub within_large : (w : Way) (b : ℕ) (x : Float) → b < 2 ^ 32 → is_nan x ≡ false → Large x → within w b x ≡ None
+unfolding within whole_of is_nan
 within_large w b nan l g h = absurd (true≢false g)
 within_large w b (inf s) l g h = refl
 within_large w b (fin s m e) l g h =

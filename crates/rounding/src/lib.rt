@@ -61,7 +61,7 @@ pub fn floor_within(x: f64, bound: u32) -> Option<i64>
     if -4503599627370496.0 < x && x < 4503599627370496.0 {
         return keep(floor_small(x) as i64, bound);
     }
-    if x != x {
+    if x.is_nan() {
         return Some(0);
     }
     None
@@ -131,8 +131,5 @@ fn keep(n: i64, bound: u32) -> Option<i64>
     ensures { result ≡ kept bound n }
 {
     let b = bound as i64;
-    if n < -b || b < n {
-        return None;
-    }
-    Some(n)
+    (-b..=b).contains(&n).then_some(n)
 }

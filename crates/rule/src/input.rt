@@ -3,7 +3,7 @@
 ghost use Rattle.std.specs.Prelude.{◌≤◌};
 
 // The start of a line that has not ended, at the start of the bytes.
-// Kept: bytes with a count, since the program runs in memory of a fixed size.
+// Kept: bytes with a count. The kit's `ArrayVec` refuses a part that does not fit: `push` would still cut it, and meet an error that cannot be.
 #[derive(Drop)]
 pub(crate) struct Held {
     bytes: [u8; 64],

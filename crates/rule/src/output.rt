@@ -4,7 +4,9 @@ ghost use Rattle.std.specs.Prelude.{◌≡◌, ◌+◌, ◌≤◌, length, IfOk}
 use std::io;
 
 // What was not written yet stands at the start of the bytes. Each text has at most 24, and so has the line of a mark.
-// Kept: bytes with a count, since the program runs in memory of a fixed size.
+// Kept: bytes with a count. The kit's `ArrayVec` does not lend the room behind what it holds, so that each mark would be put elsewhere and then
+// copied, and its `clear` writes over every byte that was sent.
+// Kept: `rt` beside it in each call. An Output that holds the lent `rt` takes a lifetime and the type of `rt` into every signature in its place.
 #[derive(Drop)]
 pub(crate) struct Output<const N: usize> {
     bytes: [u8; N],

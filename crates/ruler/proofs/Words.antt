@@ -37,8 +37,9 @@ module _ (at : ℕ) (l : List ℕ) (h : at + 4 ≤ length l) where
       (λ e. eq-eqb (word_at l at) x (ap (λ (t : List ℕ). word_at t 0) (sym four_is ∙ e) ∙ word_back x s))
 
 -- a piece that was compared with four entries of a list
-pub told_by : {r : Bool} (l t : List ℕ) (x at i : ℕ) → i + 4 ≤ length t → r ≡ same_bytes (four at l) (word x) → word x ≡ get_or t i 0 ∷ get_or t (i + 1) 0 ∷ get_or t (i + 2) 0 ∷ get_or t (i + 3) 0 ∷ [] → r ≡ same_bytes (four at l) (four i t)
-told_by l t x at i h e f = e ∙ ap (same_bytes (four at l)) (f ∙ sym (four_is i t h))
+pub told_by : {r : Bool} (l t : List ℕ) (x at i : ℕ) → i + 4 ≤ length t → ((k : ℕ) → get_or t k 0 < 256) → r ≡ same_bytes (four at l) (word x) → x ≡ word_at t i → r ≡ same_bytes (four at l) (four i t)
+told_by l t x at i h small e f =
+    e ∙ ap (same_bytes (four at l)) (ap word f ∙ word_of (get_or t i 0) (get_or t (i + 1) 0) (get_or t (i + 2) 0) (get_or t (i + 3) 0) (small i) (small (i + 1)) (small (i + 2)) (small (i + 3)) ∙ sym (four_is i t h))
 
 -- a number that was compared, from the bits that it was handed as
 pub by_bits : {r : Bool} {x : ℕ} (l : List ℕ) (at : ℕ) (z : ℤ) → SFits w32 z → r ≡ same_bytes (four at l) (word x) → x ≡ of_z w32 (to_z w32 (of_z w32 z)) → r ≡ same_bytes (four at l) (whole z)

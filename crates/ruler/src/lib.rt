@@ -31,7 +31,8 @@ pub struct Draft {
 }
 
 // A ruler that was read.
-// Kept: the numbers of a draft by themselves, as callers read them and the C interface hands them out; its choice stands in the form.
+// Kept: these fields are what the public `read` and `ruler_read` of the C interface hand out. A `Draft` in their place would tell the choice twice,
+// as the form has it.
 #[derive(Clone, Copy)]
 pub struct Ruler {
     pub a: i32,
@@ -49,6 +50,9 @@ pub struct Part {
     pub start: usize,
     pub end: usize,
 }
+
+// Where what is not found lies.
+const NOWHERE: Part = Part { start: 0, end: 0 };
 
 // The thread's twist, which kinds 1 and 3 do not tell.
 #[derive(Clone, Copy)]
@@ -130,8 +134,8 @@ impl Form {
 }
 
 // The form of a ruler with this kind and this twist byte.
-// Kept: total, as the rule's `form_for` is: that bytes of no form are no ruler is told by the comparison of the axis's record, of which these two bytes
-// are a part. An Option would be a second test of them, and a second proof of the same.
+// Kept: total, as the rule's `form_for` is: that bytes of no form are no ruler is told by the comparison of the axis's record, of which these two
+// bytes are a part. With an `Option` the same would be shown once more, of the bytes that it leaves out.
 fn form_of(kind: u8, t: u8) -> Form
     ensures { result ≡ form_for kind t }
 {
@@ -157,7 +161,8 @@ fn form_of(kind: u8, t: u8) -> Form
 }
 
 // The number in four bytes at a place, the lowest first.
-// Kept: a place in a slice, since the axis's record has 25 or 26 bytes, and the places of marks lie behind either.
+// Kept: a place in a slice, since the axis's record has 25 or 26 bytes, and the places of marks lie behind either. For a `&[u8; 4]` each caller would
+// cut out the four bytes itself, and show `at + 4 ≤ length` there; here, in `put_word` and in `add_at` it is asked for by one line each.
 fn word_at(l: &[u8], at: usize) -> u32
     requires { at + 4 ≤ length l.now }
     ensures { result ≡ word_at l.now at }
@@ -166,8 +171,8 @@ fn word_at(l: &[u8], at: usize) -> u32
 }
 
 // Whether the four bytes at a place are those of x. So many at a time are compared as fast as one.
-// Kept: a record is compared by its words, since writing it anew to compare it whole takes longer: of a million marks, labels and all, 39.6 ns each where
-// words take 32.4, in a loop written for that.
+// Kept: a record is compared by its words, since writing it anew to compare it whole takes longer: of a million marks, labels and all, 39.6 ns each
+// where words take 32.4, in a loop written for that.
 fn has_word(l: &[u8; 20], at: usize, x: u32) -> bool
     requires { at ≤ 16 }
     ensures { result ≡ same_bytes (four at l.now) (word x) }
@@ -195,13 +200,9 @@ fn add_at(n: u32, at: usize, l: &mut [u8])
 fn is_label(t: [u8; 11], l: &[u8; 20]) -> bool
     ensures { result ≡ same_bytes (drop 9 l.now) t }
 {
-    if !has_word(l, 9, u32::from_le_bytes([t[0], t[1], t[2], t[3]])) {
-        return false;
-    }
-    if !has_word(l, 13, u32::from_le_bytes([t[4], t[5], t[6], t[7]])) {
-        return false;
-    }
-    has_word(l, 16, u32::from_le_bytes([t[7], t[8], t[9], t[10]]))
+    has_word(l, 9, word_at(&t, 0))
+        && has_word(l, 13, word_at(&t, 4))
+        && has_word(l, 16, word_at(&t, 7))
 }
 
 // Whether n times w is k times d, or more by less than 0.998 of d.
@@ -211,14 +212,7 @@ fn is_multiple(n: u32, w: u32, k: u32, d: u32) -> bool
     let all = (n as u64) * (w as u64);
     let most = d as u64;
     let whole = (k as u64) * most;
-    if all < whole {
-        return false;
-    }
-    let rest = all - whole;
-    if most <= rest {
-        return false;
-    }
-    1000 * rest < 998 * most
+    whole <= all && all - whole < most && 1000 * (all - whole) < 998 * most
 }
 
 impl Drawing {
@@ -276,6 +270,8 @@ impl Drawing {
     }
 
     // A ruler, written to the start of out.
+    // Kept: plan and room are tested here and in `unknown_twist`. One `fits(room)` for both would promise of its refusal that it is the first of two
+    // rules, `write_by` and `no_twist`, and each caller would show it again; what it would save is one `if`.
     fn write(self, out: &mut [u8]) -> Result<(usize, usize), Refusal>
         ensures { (tell result, out.new) ≡ write_by (form_of self) self.draft.a self.draft.b self.draft.limit self.draft.m out.old }
     {
@@ -344,6 +340,8 @@ impl Layout {
 
     // The records of the first n marks, one behind another.
     // Kept: by index, since nothing is known of bytes that were written through `as_chunks_mut` or `chunks_exact_mut` once they are lent no more.
+    // With the rest cut off anew in each pass (`split_first_chunk_mut`) the invariant would speak of the records and of a rest that is still lent; so
+    // it speaks of one list.
     fn put_marks(self, n: usize, out: &mut [u8])
         requires marks { n ≤ self.points.count }
         requires in_bounds { 20 * n ≤ length out.old }
@@ -378,16 +376,15 @@ impl Layout {
         let first = self.drawing.draft.a;
         let second = self.drawing.draft.b;
         let Limit(p, q) = self.drawing.draft.limit;
-        if real::outside_limit(v, first, second) {
+        if real::outside_limit(v, first, second) || real::outside_limit(x, p, q) {
             return false;
         }
-        if real::outside_limit(x, p, q) {
-            return false;
-        }
-        let length = (q - p).unsigned_abs();
-        let way = (v - first).unsigned_abs();
-        let pixels = (x - p).unsigned_abs();
-        is_multiple(length, way, pixels, (second - first).unsigned_abs())
+        is_multiple(
+            q.abs_diff(p),
+            v.abs_diff(first),
+            x.abs_diff(p),
+            second.abs_diff(first),
+        )
     }
 
     // The place of the mark v, which is worked out only where x cannot be told to be it.
@@ -404,20 +401,15 @@ impl Layout {
     fn is_mark(self, v: i32, l: &[u8; 20]) -> bool
         ensures { result ≡ same_bytes l.now (laid (mark_of self.drawing.draft v)) }
     {
-        if l[0] != MARK {
-            return false;
-        }
-        if !has_word(l, 1, v.cast_unsigned()) {
-            return false;
-        }
         let x = word_at(l, 5).cast_signed();
-        if !has_word(l, 5, self.place_at(v, x).cast_unsigned()) {
-            return false;
-        }
-        is_label(decimal::label(v).bytes, l)
+        l[0] == MARK
+            && has_word(l, 1, v.cast_unsigned())
+            && has_word(l, 5, self.place_at(v, x).cast_unsigned())
+            && is_label(decimal::label(v).bytes, l)
     }
 
     // Whether l is the records of the marks, one behind another.
+    // Kept: a loop. By `.enumerate().all(..)` the closure would have to be told that k is below the count, which `mark` asks for; the loop knows it.
     fn has_marks(self, l: &[u8]) -> bool
         requires { length l.now ≡ 20 * self.points.count }
         ensures { result ≡ same_bytes l.now (marks_laid self.drawing.draft self.points self.points.count) }
@@ -493,7 +485,8 @@ impl Draft {
     }
 
     // The ruler of kind 5 or 6, which is kind 1 or 3 with a twist, by its number: 0 for S, 1 for Z.
-    // Kept: a number, since an unknown twist is refused only where nothing else is, memory that is too short included.
+    // Kept: a number, as the public signature has it: 15, the unknown twist, comes after 13, memory that is too short. An `Option<Twist>` would say
+    // no more.
     pub fn write_twisted(self, twist: u32, out: &mut [u8]) -> Result<(usize, usize), Refusal>
         ensures { (tell result, out.new) ≡ twisted_write self.choice twist self.a self.b self.limit self.m out.old }
     {
@@ -566,24 +559,21 @@ fn record_place(bytes: &[u8], v: i32) -> Option<Part>
 pub fn find_record(bytes: &[u8], v: i32) -> Part
     ensures { result ≡ record_in bytes.now v }
 {
-    record_place(bytes, v).unwrap_or(Part { start: 0, end: 0 })
+    record_place(bytes, v).unwrap_or(NOWHERE)
 }
 
 // Where the label of v lies, without its blanks.
-// Kept: a match, since a closure for `map_or` would have to be told what is known of the part, for its two differences.
 pub fn find_label(bytes: &[u8], v: i32) -> Part
     ensures { result ≡ label_in bytes.now v }
 {
-    match record_place(bytes, v) {
-        None => Part { start: 0, end: 0 },
-        Some(r) => {
-            let t = decimal::label(v);
-            let end = r.end;
-            Part {
-                start: end - (11 - t.blanks),
-                end,
-            }
-        }
+    let Some(r) = record_place(bytes, v) else {
+        return NOWHERE;
+    };
+    let t = decimal::label(v);
+    let end = r.end;
+    Part {
+        start: end - t.as_slice().len(),
+        end,
     }
 }
 
@@ -686,8 +676,7 @@ pub fn downgrade(bytes: &[u8], out: &mut [u8]) -> Result<usize, Refusal>
 fn admitted_on(x: i32, c: i32) -> bool
     ensures { result ≡ pixel_admitted (x +ℤ c) }
 {
-    let y = i64::from(x) + i64::from(c);
-    y.unsigned_abs() <= 1000000
+    x.checked_add(c).is_some_and(ranged1d::pixel_admitted)
 }
 
 fn limits_admitted_on(limit: Limit, c: i32) -> bool
@@ -697,7 +686,7 @@ fn limits_admitted_on(limit: Limit, c: i32) -> bool
 }
 
 // The places in the records of so many marks, behind head bytes, n further on.
-// Kept: by index, as `put_marks`.
+// Kept: by index, as `put_marks`, and behind head bytes: of `&mut l[head..]` each place would be one of two lists, where moved films are told of one.
 fn add_to_places(n: u32, head: usize, count: usize, l: &mut [u8])
     requires { head + 20 * count ≤ length l.old }
     ensures { l.new ≡ added_to_places n head count l.old }

@@ -1,10 +1,13 @@
 -- The searches of lent lists, return by return. Assumes nothing.
 use mathlib.Core.Path.{◌≡◌, refl, sym, subst, ◌∙◌}
-use mathlib.Core.Bool.{Bool, true, false, ◌&&◌, and-false}
+use mathlib.Core.Bool.{Bool, true, false, ◌&&◌, and-false, true≢false}
+use mathlib.Core.Logic.{inl, inr}
+use lib.Dec.{T}
+use Rattle.std.proofs.lemmas.Float.{le_refl, lt_irrefl, lt-or-eq, T_from_false}
 use mathlib.Core.List.{List, [], ◌∷◌}
 use Prim.Native.Nat.{ℕ, suc, ◌-◌, ◌<◌}
 use native.Mathlib.Omega.{arith}
-use borrow.Author.Tests.{lt-ltb, not-false}
+use borrow.Author.Tests.{lt-ltb}
 use lib.IntN.{ℤ, pos}
 use lib.ListN.{length, get_or}
 use lib.Signed.{lt_z}
@@ -104,7 +107,16 @@ nan_answered Ceil (x ∷ xs) s = let n : 0 < length (x ∷ xs) = omega arith in 
 nan_answered Floor (x ∷ xs) s = let n : 0 < length (x ∷ xs) = omega arith in rw (s, nan_itself, lt-ltb 0 (length (x ∷ xs)) n) refl
 nan_answered Round (x ∷ xs) s = let n : 0 < length (x ∷ xs) = omega arith in rw (s, nan_itself, lt-ltb 0 (length (x ∷ xs)) n) refl
 
--- the test for a NaN failed
-pub equals_itself : (t : Float) → Ieee.ne t t ≡ false → Ieee.eq t t ≡ true
-unfolding Ieee.ne
-equals_itself t h = not-false (Ieee.eq t t) h
+-- the test for a NaN, and what does not meet it
+pub is_the_nan : (t : Float) → Ieee.is_nan t ≡ true → t ≡ nan
+unfolding Ieee.is_nan
+is_the_nan nan h = refl
+is_the_nan (inf s) h = absurd (true≢false (sym h))
+is_the_nan (fin s m e) h = absurd (true≢false (sym h))
+
+pub equals_itself : (t : Float) → Ieee.is_nan t ≡ false → Ieee.eq t t ≡ true
+equals_itself t h = elim (lt-or-eq t t (le_refl t (T_from_false (Ieee.is_nan t) h))) [ inl l ↦ absurd (lt_irrefl t l) | inr e ↦ from-T (Ieee.eq t t) e ]
+  where
+    from-T : (b : Bool) → T b → b ≡ true
+    from-T true y = refl
+    from-T false y = absurd y

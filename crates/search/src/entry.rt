@@ -9,6 +9,7 @@ ghost use Rattle.search.specs.Kinds.{whole-order, real-order};
 pub trait Entry: Copy {
     ghost numbers: { Numbers Self };
 
+    // Kept: this and the next have one body in both kinds. A bound `PartialOrd` would need a law that ties it to `numbers`, for two lines each.
     fn is_less(self, other: Self) -> bool
         ensures { result ≡ numbers.less self other };
 

@@ -32,12 +32,10 @@ pub fn settle_nan(method: RoundingMethod, n: usize) -> Result<Option<u64>, Refus
     ensures { tell_found result ≡ settled_nan method n }
 {
     if n == 0 {
-        let nowhere = Place {
-            rises: true,
-            n: 0,
-            i: 0,
+        return match method {
+            RoundingMethod::Round => Ok(Some(0)),
+            _ => Ok(None),
         };
-        return Ok(nowhere.settle_other(method, false));
     }
     match method {
         RoundingMethod::Exact => Ok(None),

@@ -19,22 +19,14 @@ impl Place {
     fn ahead(self) -> Option<u64>
         ensures { tell_option result ≡ ahead self.n self.i }
     {
-        if self.i < self.n {
-            Some(self.i as u64)
-        } else {
-            None
-        }
+        (self.i < self.n).then_some(self.i as u64)
     }
 
     // The last of those that come before the target, if there is one.
     fn behind(self) -> Option<u64>
         ensures { tell_option result ≡ behind self.i }
     {
-        if self.i == 0 {
-            None
-        } else {
-            Some((self.i - 1) as u64)
-        }
+        self.i.checked_sub(1).map(|i| i as u64)
     }
 
     fn nearest(self, closer: bool) -> u64
@@ -50,26 +42,14 @@ impl Place {
     }
 
     // What a search answers for a target that is no entry; closer says whether it is nearer to the last entry before it than to the next.
-    pub(crate) fn settle_other(self, method: RoundingMethod, closer: bool) -> Option<u64>
+    fn settle_other(self, method: RoundingMethod, closer: bool) -> Option<u64>
         ensures { tell_option result ≡ unequal method self.rises self.n self.i closer }
     {
-        match method {
-            RoundingMethod::Exact => None,
-            RoundingMethod::Ceil => {
-                if self.rises {
-                    self.ahead()
-                } else {
-                    self.behind()
-                }
-            }
-            RoundingMethod::Floor => {
-                if self.rises {
-                    self.behind()
-                } else {
-                    self.ahead()
-                }
-            }
-            RoundingMethod::Round => Some(self.nearest(closer)),
+        match (method, self.rises) {
+            (RoundingMethod::Exact, _) => None,
+            (RoundingMethod::Ceil, true) | (RoundingMethod::Floor, false) => self.ahead(),
+            (RoundingMethod::Ceil, false) | (RoundingMethod::Floor, true) => self.behind(),
+            (RoundingMethod::Round, _) => Some(self.nearest(closer)),
         }
     }
 

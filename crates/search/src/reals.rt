@@ -18,7 +18,7 @@ pub fn search_real(
     if !can_search(list) {
         return Err(Refusal::NotMonotone);
     }
-    if target != target {
+    if target.is_nan() {
         return settle_nan(method, list.len());
     }
     Ok(find(list, target, method))

@@ -1,5 +1,6 @@
 // Segments over a stepped axis of real numbers, all of which are admitted.
-// Kept: beside steps.rt. Each axis below has calls of its own, so that one impl for both would need a trait with these functions, as `Axis` is.
+// Kept: beside steps.rt. One impl for both would need a trait of linspace with what an axis is asked here, admitted, fits, size, from_index,
+// index_of, map and key_points: seven functions and their rules, each written out for either axis there, in place of the seven here.
 ghost use Rattle.std.specs.Prelude.{length};
 ghost use Rattle.linspace.specs.List.{real};
 ghost use Rattle.linspace.specs.Calls.{step_marks};

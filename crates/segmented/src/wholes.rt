@@ -63,6 +63,7 @@ impl Axis for RangedCoordi32 {
     ghost regular = { λ x. whole-regular x.0 x.1 };
 }
 
+// Kept: beside those of below.rt, which are handed a method. The search of a whole axis takes none, and a caller of one impl for all would write ().
 impl Segmented<RangedCoordi32> {
     // The place of a value.
     pub fn map(self, value: SegmentValue<i32>, limit: Limit) -> Result<i32, Refusal>

@@ -77,3 +77,8 @@ impl Word for f64 {
 pub(crate) fn at<T: Word>(numbers: &[u64], k: usize) -> T {
     T::of_word(numbers.get(k).copied().unwrap_or(0))
 }
+
+// What stands behind the first `args` words of the line.
+pub(crate) fn after(numbers: &[u64], args: usize) -> &[u64] {
+    numbers.get(args..).unwrap_or(&[])
+}

@@ -1,5 +1,5 @@
 // Lines on labels: N H E 0 TEXT, or N H E R where the call is refused with R.
-use crate::bits::at;
+use crate::bits::{after, at};
 use crate::calls::same_refusal;
 use float::FloatPrettyPrinter;
 use ranged1d::Refusal;
@@ -22,11 +22,12 @@ fn same_label<F: FnOnce(FloatPrettyPrinter, f64, &mut [u8]) -> Result<usize, Ref
         min_decimal: at(numbers, 2),
         max_decimal: at(numbers, 1),
     };
+    let words = after(numbers, 3);
     let mut out = [0u8; 38];
     match print(printer, at(numbers, 0), &mut out) {
-        Err(r) => same_refusal(numbers, 3, r),
-        Ok(k) => match (numbers, out.get(..k)) {
-            ([_, _, _, 0, _, ..], Some(text)) => ends_with(line, text),
+        Err(r) => same_refusal(words, r),
+        Ok(k) => match (words, out.get(..k)) {
+            ([0, _, ..], Some(text)) => ends_with(line, text),
             _ => false,
         },
     }

@@ -1,8 +1,6 @@
 // Lines on calls that write to a lent list: the arguments, then 0, the step where the call tells one, the count and the entries, or the
 // number of the refusal. What is not written has to be as it was.
-ghost use Rattle.std.specs.Prelude.{◌<◌};
-
-use crate::bits::{Word, at};
+use crate::bits::Word;
 use crate::calls::same_refusal;
 use ranged1d::Refusal;
 
@@ -19,14 +17,9 @@ pub(crate) fn marked<S: Word>(x: Result<(S, usize), Refusal>) -> Told {
     Ok((Some(step.word()), count))
 }
 
-// The entries that end the line, where it has after `args` arguments this step and this count.
-fn entries<'a>(
-    numbers: &'a [u64],
-    args: usize,
-    step: Option<u64>,
-    count: usize,
-) -> Option<&'a [u64]> {
-    let told = numbers.get(args..)?.strip_prefix(&[0])?;
+// The entries that end the words, where these begin with this step and this count.
+fn entries(words: &[u64], step: Option<u64>, count: usize) -> Option<&[u64]> {
+    let told = words.strip_prefix(&[0])?;
     let rest = match step {
         Some(s) => told.strip_prefix(&[s])?,
         None => told,
@@ -49,31 +42,31 @@ fn holds<T: Word>(list: &[T], entries: &[u64]) -> bool {
     })
 }
 
-// Whether the line has this after `args` arguments and nothing more, and the list holds its entries and no others.
-pub(crate) fn same_list<T: Word>(numbers: &[u64], args: usize, told: Told, list: &[T]) -> bool {
+// Whether the words are what was told and nothing more, and the list holds its entries and no others.
+pub(crate) fn same_list<T: Word>(words: &[u64], told: Told, list: &[T]) -> bool {
     match told {
         Ok((step, count)) => {
-            entries(numbers, args, step, count).is_some_and(|written| written.len() == count
+            entries(words, step, count).is_some_and(|written| written.len() == count
                 && holds(list, written))
         }
-        Err(r) => same_refusal(numbers, args, r) && unset(list),
+        Err(r) => same_refusal(words, r) && unset(list),
     }
 }
 
-// The same of a call that is lent as many places of the list as the last of its `args` arguments says.
+// The same of a call that is lent as many places of the list as its last argument says; `rest` begins with it.
 pub(crate) fn same_lent<T: Word, F: FnOnce(&mut [T]) -> Told>(
-    numbers: &[u64],
-    args: usize,
+    rest: &[u64],
     list: &mut [T],
     call: F,
 ) -> bool
-    requires positive { 0 < args }
-    requires callable { F.IsAlwaysCallable call }
+    requires { F.IsAlwaysCallable call }
 {
-    let size: usize = at(numbers, args - 1);
-    let told = match list.get_mut(..size) {
+    let Some((size, words)) = rest.split_first() else {
+        return false;
+    };
+    let told = match list.get_mut(..usize::of_word(*size)) {
         Some(out) => call(out),
         None => return false,
     };
-    same_list(numbers, args, told, list)
+    same_list(words, told, list)
 }

@@ -18,6 +18,7 @@ use std::io;
 use std::io::Read;
 
 // The calls in the order of the report: the word that a line begins with, and the name.
+// Kept: pairs, one on a line, where a struct with named fields is four lines each; the totals are apart, since these are static.
 static CALLS: [(&str, &str); 46] = [
     ("whole", "whole_key_points"),
     ("index", "index_key_points"),
@@ -116,7 +117,9 @@ fn judge(line: &[u8]) -> Option<usize> {
     if !matched(word, line, &space[..n]) {
         return None;
     }
-    CALLS.iter().position(|call| call.0.as_bytes() == word)
+    CALLS
+        .iter()
+        .position(|&(begins, _)| begins.as_bytes() == word)
 }
 
 // One more, up to the largest u32.
@@ -146,8 +149,7 @@ fn replay(text: &[u8], totals: &mut Totals) {
 }
 
 fn report(rt: &impl Print, totals: &Totals) -> io::Result<()> {
-    for (call, total) in CALLS.iter().zip(&totals.matched) {
-        let name = call.1;
+    for (&(_, name), total) in CALLS.iter().zip(&totals.matched) {
         println!(rt; "{name} matched: {total}")?;
     }
     let differ = totals.differ;

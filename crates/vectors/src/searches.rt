@@ -1,7 +1,7 @@
 // Lines on searches of a list: the number of entries, the entries, the target, the method, and what is returned.
 ghost use Rattle.std.specs.Prelude.{◌≤◌, length};
 
-use crate::bits::{Word, at};
+use crate::bits::{Word, after, at};
 use crate::calls::same_found;
 use ranged1d::Refusal;
 use search::RoundingMethod;
@@ -36,7 +36,7 @@ fn same_search<T: Word, F: FnOnce(&[T], T, RoundingMethod) -> Result<Option<u64>
     match method(numbers, size + 2) {
         Some(by) => {
             let found = search(entries, at(numbers, size + 1), by);
-            same_found(numbers, size + 3, found)
+            same_found(after(numbers, size + 3), found)
         }
         None => false,
     }

@@ -3,7 +3,7 @@
 // Kept: a function for each axis, which names the axis's type and its method alone.
 ghost use Rattle.std.specs.Prelude.{◌<◌};
 
-use crate::bits::{Word, at};
+use crate::bits::{Word, after, at};
 use crate::calls::{limit, same, same_found, same_nothing, same_refusal, same_two, whole_axis};
 use crate::lists::{counted, marked, same_lent};
 use crate::searches::method;
@@ -31,47 +31,44 @@ fn sought<T: Word>(numbers: &[u64]) -> Option<(RoundingMethod, SegmentValue<T>)>
     Some((method(numbers, 3)?, value(numbers, 4)?))
 }
 
-fn same_value<T: Word>(numbers: &[u64], args: usize, value: SegmentValue<T>) -> bool {
+fn same_value<T: Word>(words: &[u64], value: SegmentValue<T>) -> bool {
     match value {
-        SegmentValue::Exact(v) => same_two(numbers, args, 0, v.word()),
-        SegmentValue::CenterOf(v) => same_two(numbers, args, 1, v.word()),
-        SegmentValue::Last => same_two(numbers, args, 2, 0),
+        SegmentValue::Exact(v) => same_two(words, 0, v.word()),
+        SegmentValue::CenterOf(v) => same_two(words, 1, v.word()),
+        SegmentValue::Last => same_two(words, 2, 0),
     }
 }
 
-fn same_segment<T: Word>(
-    numbers: &[u64],
-    args: usize,
-    x: Result<Option<SegmentValue<T>>, Refusal>,
-) -> bool {
+fn same_segment<T: Word>(words: &[u64], x: Result<Option<SegmentValue<T>>, Refusal>) -> bool {
     match x {
-        Ok(Some(value)) => same_value(numbers, args, value),
-        Ok(None) => same_nothing(numbers, args),
-        Err(r) => same_refusal(numbers, args, r),
+        Ok(Some(value)) => same_value(words, value),
+        Ok(None) => same_nothing(words),
+        Err(r) => same_refusal(words, r),
     }
 }
 
 // Whether the call of this name on segments of a whole axis answers as the line has it.
+// Kept: beside `stepped`, which has the same six calls: plotters' whole segments take no method, and their marks tell a step.
 pub(crate) fn plain(call: &[u8], numbers: &[u64]) -> bool {
     let segments = Segmented(whole_axis(numbers));
     let list = &mut [i32::UNSET; 64];
     match call {
-        b"size" => same(numbers, 2, segments.size()),
-        b"at" => same_segment(numbers, 3, segments.from_index(at(numbers, 2))),
-        b"idx" => value(numbers, 2).is_some_and(|v| same_found(numbers, 4, segments.index_of(v))),
+        b"size" => same(after(numbers, 2), segments.size()),
+        b"at" => same_segment(after(numbers, 3), segments.from_index(at(numbers, 2))),
+        b"idx" => value(numbers, 2).is_some_and(|v| same_found(
+            after(numbers, 4),
+            segments.index_of(v),
+        )),
         b"map" => value(numbers, 2).is_some_and(|v| same(
-            numbers,
-            6,
+            after(numbers, 6),
             segments.map(v, limit(numbers, 4)),
         )),
         b"read" => same_segment(
-            numbers,
-            5,
+            after(numbers, 5),
             segments.unmap(at(numbers, 2), limit(numbers, 3)),
         ),
         b"marks" => same_lent(
-            numbers,
-            4,
+            after(numbers, 3),
             list,
             |out| marked(segments.key_points(at(numbers, 2), out)),
         ),
@@ -88,26 +85,22 @@ pub(crate) fn stepped<T: Word, A: Axis<Value = T, Way = RoundingMethod, Told = u
 ) -> bool {
     let segments = Segmented(axis);
     match call {
-        b"size" => same(numbers, 3, segments.size()),
-        b"at" => same_segment(numbers, 4, segments.from_index(at(numbers, 3))),
+        b"size" => same(after(numbers, 3), segments.size()),
+        b"at" => same_segment(after(numbers, 4), segments.from_index(at(numbers, 3))),
         b"idx" => sought(numbers).is_some_and(|(by, v)| same_found(
-            numbers,
-            6,
+            after(numbers, 6),
             segments.index_of(by, v),
         )),
         b"map" => sought(numbers).is_some_and(|(by, v)| same(
-            numbers,
-            8,
+            after(numbers, 8),
             segments.map(by, v, limit(numbers, 6)),
         )),
         b"read" => same_segment(
-            numbers,
-            6,
+            after(numbers, 6),
             segments.unmap(at(numbers, 3), limit(numbers, 4)),
         ),
         b"marks" => same_lent(
-            numbers,
-            5,
+            after(numbers, 4),
             list,
             |out| counted(segments.key_points(at(numbers, 3), out)),
         ),

@@ -1,5 +1,5 @@
 // Lines on stepped axes: the ends and the step, what the call takes besides, and what is returned.
-use crate::bits::{Word, at};
+use crate::bits::{Word, after, at};
 use crate::calls::{limit, real_axis, same, same_found, whole_axis};
 use crate::lists::{counted, same_lent};
 use crate::searches::method;
@@ -26,13 +26,13 @@ macro_rules! same_steps {
         let numbers = $numbers;
         let steps = $steps;
         match $call {
-            b"size" => same(numbers, 3, steps.size()),
-            b"at" => same_found(numbers, 4, steps.from_index(at(numbers, 3))),
-            b"idx" => method(numbers, 4).is_some_and(|by| same_found(numbers, 5, steps.index_of(at(numbers, 3), by))),
-            b"map" => same(numbers, 6, steps.map(at(numbers, 3), limit(numbers, 4))),
-            b"read" => same_found(numbers, 6, steps.unmap(at(numbers, 3), limit(numbers, 4))),
-            b"list" => same_lent(numbers, 4, $list, |out| counted(steps.values(out))),
-            b"marks" => same_lent(numbers, 5, $list, |out| counted(steps.key_points(at(numbers, 3), out))),
+            b"size" => same(after(numbers, 3), steps.size()),
+            b"at" => same_found(after(numbers, 4), steps.from_index(at(numbers, 3))),
+            b"idx" => method(numbers, 4).is_some_and(|by| same_found(after(numbers, 5), steps.index_of(at(numbers, 3), by))),
+            b"map" => same(after(numbers, 6), steps.map(at(numbers, 3), limit(numbers, 4))),
+            b"read" => same_found(after(numbers, 6), steps.unmap(at(numbers, 3), limit(numbers, 4))),
+            b"list" => same_lent(after(numbers, 3), $list, |out| counted(steps.values(out))),
+            b"marks" => same_lent(after(numbers, 4), $list, |out| counted(steps.key_points(at(numbers, 3), out))),
             _ => false,
         }
     }};

@@ -52,12 +52,12 @@ returns-then-x-2 c =
     ∙ ap (kept s.args.bound) (to_z-of_z (whole-fits k))
     ∙ sym (within_small floors s.args.bound s.args.x (held k.before))
 
-pub returns-then-x-3 : goal.returns-then-x-3
-returns-then-x-3 c = let s = c.before.before in sym (within_nan floors s.args.bound s.args.x c.if-x-3.true)
+pub returns-then-is_nan : goal.returns-then-is_nan
+returns-then-is_nan c = let s = c.before.before in sym (within_nan floors s.args.bound s.args.x (sym c.is_nan.ensures.value ∙ c.if-is_nan.true))
 
 far : (c : at-Joined1) → Large c.args.x
 unfolding of_bits neg
 far c = let x = c.args.x in elim c.else-x.branch [ else-x-via-then-x+else-x-2 w ↦ least_high 52 x w.if-x-2.false | else-x-via-else-x w ↦ least_low 52 x w.if-x.false ]
 
 pub returns : goal.returns
-returns c = let s = c.before.before in sym (within_large floors s.args.bound s.args.x (omega arith) c.if-x-3.false (far c.before))
+returns c = let s = c.before.before.before in sym (within_large floors s.args.bound s.args.x (omega arith) (sym c.is_nan.ensures.value ∙ c.if-is_nan.false) (far c.before.before))
