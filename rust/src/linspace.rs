@@ -17,7 +17,7 @@ use crate::{Limit, RangedCoordf64, RangedCoordi32, RoundingMethod};
 /// assert_eq!(out[..count], [0, 4, 8]);
 /// assert_eq!(axis.index_of(5, RoundingMethod::Floor), Ok(Some(1)));
 /// ```
-#[derive(Clone, Copy, Debug, PartialEq, Eq)]
+#[derive(Clone, Copy, PartialEq, Eq)]
 pub struct Linspace<A, T> {
     /// The axis.
     pub inner: A,
@@ -39,6 +39,13 @@ macro_rules! stepped {
         $values:ident, $size:ident, $from_index:ident, $index_of:ident, $map:ident, $unmap:ident,
         $key_points:ident
     ) => {
+        /// Under the name of the axis.
+        impl std::fmt::Debug for $axis {
+            fn fmt(&self, f: &mut std::fmt::Formatter<'_>) -> std::fmt::Result {
+                f.debug_struct(stringify!($axis)).field("inner", &self.inner).field("step", &self.step).finish()
+            }
+        }
+
         declare!(
             concat!(stringify!($axis), "::values`]"),
             $values((a: $number, b: $number, d: $number) out: *mut $number, len: usize, count: *mut usize)
@@ -173,6 +180,14 @@ mod tests {
     use super::*;
 
     const FILM: Limit = Limit(0, 100);
+
+    #[test]
+    fn printed_under_its_own_name() {
+        let whole = RangedCoordi32(0, 10).step(4);
+        assert_eq!(format!("{whole:?}"), "Linspacei32 { inner: RangedCoordi32(0, 10), step: 4 }");
+        let real = RangedCoordf64(0.0, 1.0).step(0.5);
+        assert_eq!(format!("{real:?}"), "Linspacef64 { inner: RangedCoordf64(0.0, 1.0), step: 0.5 }");
+    }
 
     #[test]
     fn whole_lists() {

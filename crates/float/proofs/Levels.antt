@@ -2,12 +2,12 @@
 use mathlib.Core.Path.{◌≡◌, refl, sym, ap, ◌∙◌}
 use mathlib.Core.Bool.{true, false}
 use mathlib.Core.List.{List, [], ◌∷◌, ◌++◌}
-use Prim.Native.Nat.{ℕ, ◌+◌, ◌-◌, ◌≤◌, ◌<◌}
+use Prim.Native.Nat.{ℕ, suc, ◌+◌, ◌-◌, ◌≤◌, ◌<◌}
 use native.Mathlib.Numerals.{add-one}
 use native.Mathlib.Omega.{arith}
-use lib.ListN.{length, take, set}
-use lib.Seq.{take-suc-set}
-use lib.Ieee.{Float, binary64, add, sub, mul, div, lt, le}
+use lib.ListN.{length, take, set, get_or}
+use lib.Seq.{take-suc, take-suc-set}
+use lib.Ieee.{Float, nan, binary64, add, sub, mul, div, lt, le}
 use Rattle.std.proofs.Common.{reverse}
 use Rattle.std.specs.List.{fold}
 use Rattle.std.proofs.lemmas.List.Sums.{fold-append}
@@ -63,6 +63,18 @@ module _ (l : List Float) (left k : ℕ) (x t : Float) (s : Shortened) (e : back
 -- ---- the way back
 abbrev pub found : Float → ℕ → Shortened
 found v n = record { value = v; levels = n }
+
+-- k floors are to go, and one is taken
+pub back_more : (l : List Float) (k n : ℕ) (v : Float) (s : Shortened) → 0 < k → k ≤ length l → k ≤ n → back (take k l) (found v (n - k)) ≡ s
+    → back (take (k - 1) l) (found (add binary64 (get_or l (k - 1) nan) (div binary64 v ten)) (n - (k - 1))) ≡ s
+back_more l k n v s h u w e =
+    let j : suc (k - 1) ≡ k = omega arith in
+    let i : n - (k - 1) ≡ n - k + 1 = omega arith in
+    ap (λ (m : ℕ). back (take (k - 1) l) (found (add binary64 (get_or l (k - 1) nan) (div binary64 v ten)) m)) i
+    ∙ sym (back_last (take (k - 1) l) (get_or l (k - 1) nan) (found v (n - k)))
+    ∙ ap (λ (m : List Float). back m (found v (n - k))) (sym (take-suc l (k - 1) nan (omega arith)))
+    ∙ ap (λ (m : ℕ). back (take m l) (found v (n - k))) j
+    ∙ e
 
 -- a fold over the floors, the last one first
 abbrev pub climb : Float → Float → Float

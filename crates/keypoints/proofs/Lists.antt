@@ -7,11 +7,12 @@ use native.Mathlib.Numerals.{add-one}
 use native.Mathlib.Omega.{arith}
 use borrow.Author.Tests.{lt-ltb, le-ltb}
 use lib.Dec.{ltb}
-use lib.ListN.{length, get_or, set, take, drop}
-use lib.Seq.{drop-cons, take_all}
+use lib.ListN.{length, get_or, set, take, drop, length-take}
+use lib.Seq.{drop-cons, take-suc, take_all}
 use lib.Ieee.{Float, nan}
 use Rattle.ranged1d.specs.Answer.{given, refused, list_written}
 use Rattle.ranged1d.proofs.Answers.{too_short, all-written}
+use Rattle.ranged1d.proofs.Pieces.{put_next}
 use Rattle.std.proofs.lemmas.List.{take_more, take_more_set}
 use Rattle.rounding.specs.Operations.{◌⊕◌}
 use Rattle.keypoints.specs.Marks.{passes, shifted, marks_from, put_unless}
@@ -65,8 +66,15 @@ module _ (r : Run) where
     pub rest_again : drop (k + 1) l ≡ marks_from r (2001 - (k + 1)) (shifted r y ⊕ r.step)
     rest_again = ap (λ (n : ℕ). drop n l) (add-one k) ∙ both.1
 
-    pub write_more : (o : List Float) → k < length o → take k o ≡ take k l → take (k + 1) (set o k (shifted r y ⊕ r.base)) ≡ take (k + 1) l
-    write_more o h e = take_more_set o k (shifted r y ⊕ r.base) h ∙ rw (e, sym both.0) (sym (take_more l k nan inside))
+    pub write_more : (z : Float) (o : List Float) → z ≡ shifted r y → k < length o → set (take k l ++ drop k o) k (z ⊕ r.base) ≡ take (k + 1) l ++ drop (k + 1) o
+    write_more z o e h =
+        let n : length (take k l) ≡ k = simp length-take (omega arith) in
+        put_next nan (take k l) (z ⊕ r.base) k o n h
+        ∙ ap (λ (t : List Float). t ++ drop (k + 1) o) (ap (λ (w : Float). take k l ++ (w ∷ [])) (ap (λ (w : Float). w ⊕ r.base) e ∙ sym both.0) ∙ sym (ap (λ (n : ℕ). take n l) (add-one k) ∙ take-suc l k nan inside))
+
+    -- of a list whose first k entries are those, whatever stands behind
+    pub front_more : (o : List Float) → k < length o → take k o ≡ take k l → take (k + 1) (set o k (shifted r y ⊕ r.base)) ≡ take (k + 1) l
+    front_more o h e = take_more_set o k (shifted r y ⊕ r.base) h ∙ rw (e, sym both.0) (sym (take_more l k nan inside))
 
 -- as many entries as the list has, the same as its first ones, are the list
 pub all_written : (k : ℕ) (o l : List Float) → take k o ≡ take k l → length o ≤ k → length l ≤ k → o ≡ l

@@ -114,7 +114,9 @@ impl Sums<'_> {
         put_entries(rest, self.next(), self.s.d, self.h);
     }
 
-    // Entries in all of out, `by` apart, from the first on.
+    // Entries in all of out, `by` apart, from the first on. Put in where it is called, so that the loops of a whole list know that they go by one: else
+    // a list of ten entries takes a quarter more instructions, and each turn of four runs nearly twice as many.
+    #[inline(always)]
     pub(crate) fn put_all(self, out: &mut [f64], by: usize)
         ensures { out.new ≡ sums_by (plus_step self.entry.s.d) by self.entry.s.a (length out.old) }
     {

@@ -2,9 +2,11 @@
 use Rattle.std.specs.Prelude.{Option, Some}
 use Rattle.std.proofs.Common.{◌≡◌, ℕ, ◌-◌, ◌*◌, ◌%◌, ◌^◌, ◌<◌, ◌≤◌, Bool, true, false, not, T, ℤ, nat_abs, sym, refl, ap, ◌∙◌, subst, true≢false, le_trans, lt_of_not-le, mul-one, arith, lit≤, eqb-true}
 use lib.Ieee.{Float, nan, inf, fin, Format, binary32, binary64, prec, up, down, fits, round, ne, is_nan}
-use lib.Ieee.Fits.{down_pos, cond-fits, round-fits}
+use lib.Ieee.Fits.{down_pos, cond-fits, round-fits, fits_widens}
+use lib.Ieee.Bits.{is_true}
+use lib.Ieee.Compare.{differs_from_itself}
 use lib.Ieee.Exact.{HasValue}
-use lib.Ieee.Back.{round_whole}
+use lib.Ieee.Back.{round_whole, whole_unique}
 use borrow.Author.Tests.{eqb-false}
 use Rattle.rounding.specs.Integral.{Way, integral, is_whole, sized}
 use Rattle.rounding.specs.Within.{signed, whole_of, kept, within}
@@ -38,12 +40,40 @@ integral_fits f w nan t = t
 integral_fits f w (inf s) t = t
 integral_fits f w (fin s m e) t = cond-fits f (is_whole m e) (fin s m e) (round f s (sized w s (m * up e) (down e)) 1) t (round-fits f s (sized w s (m * up e) (down e)) 1)
 
+-- an f32 has the same answer as the f64 of its value
+pub both_widths : (w : Way) (x : Float) → T (fits binary32 x) → integral binary64 w x ≡ integral binary32 w x
+unfolding integral
+both_widths w nan t = refl
+both_widths w (inf s) t = refl
+both_widths w (fin s m e) t =
+    whole_unique binary64 (integral binary64 w (fin s m e)) (integral binary32 w (fin s m e)) s (sized w s (m * up e) (down e))
+    (integral_fits binary64 w (fin s m e) (fits_widens (fin s m e) t))
+    (fits_widens (integral binary32 w (fin s m e)) (integral_fits binary32 w (fin s m e) t))
+    (integral-value binary64 w s m e (is_true (fits binary64 (fin s m e)) (fits_widens (fin s m e) t)))
+    (integral-value binary32 w s m e (is_true (fits binary32 (fin s m e)) t))
+
 -- ---- no answer but that of a NaN is one
 pub number : (x : Float) → ne x x ≡ false → T (not (is_nan x))
 unfolding ne is_nan
 number nan h = true≢false h
 number (inf s) h = tt
 number (fin s m e) h = tt
+
+valued_number : (y : Float) (s : Bool) (k : ℕ) → HasValue y s k 1 → T (not (is_nan y))
+unfolding is_nan
+valued_number nan s k v = elim v [ ]
+valued_number (inf _) s k v = elim v [ ]
+valued_number (fin u m e) s k v = tt
+
+pub integral-number : (f : Format) (w : Way) (x : Float) → fits f x ≡ true → T (not (is_nan x)) → T (not (is_nan (integral f w x)))
+unfolding integral
+integral-number f w nan t h = h
+integral-number f w (inf s) t h = h
+integral-number f w (fin s m e) t h = valued_number (integral f w (fin s m e)) s (sized w s (m * up e) (down e)) (integral-value f w s m e t)
+
+pub stays_nan : (f : Format) (w : Way) (x : Float) → ne x x ≡ true → integral f w x ≡ x
+unfolding integral
+stays_nan f w x h = let e = differs_from_itself x (subst T (sym h) tt) in ap (integral f w) e ∙ sym e
 
 -- ---- a float of a whole value is that whole number by every way
 pub within_of : (w : Way) (b : ℕ) (y : Float) (s : Bool) (k : ℕ) → HasValue y s k 1 → within w b y ≡ kept b (signed s k)

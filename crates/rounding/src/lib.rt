@@ -45,12 +45,15 @@ pub fn round(x: f64) -> f64
     r
 }
 
-// round of an f32.
-#[tactic(auto, using(crate::proofs::Rounded::rounds))]
+// round of an f32. An f32 with a fraction is below 2^23, so its answer is an f32 too.
+// Kept: the library's f32::round promises the same (`rounds` of proofs/Rounded), but rounding is worked out by the program, as the floor is.
 pub fn round_f32(x: f32) -> f32
     ensures { result ≡ round_of32 x }
 {
-    f32::round(x)
+    if x != x {
+        return x;
+    }
+    round(x as f64) as f32
 }
 
 // floor as a whole number, or that it lies beyond the bound. A bound is below 2^32, so what is 2^52 or more in size is beyond it. A

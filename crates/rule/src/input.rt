@@ -1,6 +1,16 @@
 // Lines of any length: a line that a ruler can be asked with has at most 63 bytes (`accepted-short` of line/proofs/Exact), so that 64 are
 // enough to tell that one is longer.
 ghost use Rattle.std.specs.Prelude.{◌≤◌};
+ghost use Rattle.memchr.specs.Find.{IsFirstByte, is_byte};
+
+use memchr::memchr;
+
+// Where the line ends that the bytes begin with: at the first newline, if there is one.
+pub(crate) fn line_end(bytes: &[u8]) -> Option<usize>
+    ensures { IsFirstByte (is_byte 10) bytes.now result }
+{
+    memchr(b'\n', bytes)
+}
 
 // The start of a line that has not ended, at the start of the bytes.
 // Kept: bytes with a count. The kit's `ArrayVec` refuses a part that does not fit: `push` would still cut it, and meet an error that cannot be.

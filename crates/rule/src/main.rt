@@ -7,16 +7,20 @@ mod output;
 
 use input::Held;
 use line::Request;
-use memchr::memchr;
 use numeric::{Choice, KeyPoints, RangedCoordi32};
+use output::Failed;
 use ruler::Draft;
-use std::io;
 use std::io::Read;
 
 type Output = output::Output<65536>;
 
 // All marks and their places. Each mark has a place.
-fn put_marks(rt: &impl Print, r: Request, points: KeyPoints, out: &mut Output) -> io::Result<()> {
+fn put_marks(
+    rt: &impl Print,
+    r: Request,
+    points: KeyPoints,
+    out: &mut Output,
+) -> Result<(), Failed> {
     // Kept: a chain over `get`, as in marks.
     for v in (0..points.count).filter_map(|i| points.get(i)) {
         if let Ok(x) = RangedCoordi32(r.a, r.b).map(v, r.limit) {
@@ -27,7 +31,7 @@ fn put_marks(rt: &impl Print, r: Request, points: KeyPoints, out: &mut Output) -
 }
 
 // What a line is answered with.
-fn answer(rt: &impl Print, line: &[u8], out: &mut Output) -> io::Result<()> {
+fn answer(rt: &impl Print, line: &[u8], out: &mut Output) -> Result<(), Failed> {
     let Some(r) = line::read_line(line) else {
         return out.text(rt, b"bad line\n");
     };
@@ -49,7 +53,7 @@ fn answer(rt: &impl Print, line: &[u8], out: &mut Output) -> io::Result<()> {
 }
 
 // A line's end was found: the line is what is held and this part.
-fn end_line(rt: &impl Print, part: &[u8], held: &mut Held, out: &mut Output) -> io::Result<()> {
+fn end_line(rt: &impl Print, part: &[u8], held: &mut Held, out: &mut Output) -> Result<(), Failed> {
     if held.is_empty() {
         return answer(rt, part, out);
     }
@@ -61,9 +65,9 @@ fn end_line(rt: &impl Print, part: &[u8], held: &mut Held, out: &mut Output) -> 
 
 // Everything that was read: the lines that ended are answered, and the rest is held.
 // Kept: `while let`. A `for` over `split_inclusive` asks each byte: built by rustc 27 ns for a line of 23 bytes, and 13 so.
-fn take(rt: &impl Print, read: &[u8], held: &mut Held, out: &mut Output) -> io::Result<()> {
+fn take(rt: &impl Print, read: &[u8], held: &mut Held, out: &mut Output) -> Result<(), Failed> {
     let mut rest = read;
-    while let Some(n) = memchr(b'\n', rest) {
+    while let Some(n) = input::line_end(rest) {
         let (part, behind) = rest.split_at(n);
         end_line(rt, part, held, out)?;
         rest = &behind[1..];
@@ -73,7 +77,7 @@ fn take(rt: &impl Print, read: &[u8], held: &mut Held, out: &mut Output) -> io::
 }
 
 // What is written goes out before the next read, which may wait. Where a write fails there is no more to do.
-fn run(rt: &impl Print, stdin: &mut impl Read) -> io::Result<()> {
+fn run(rt: &impl Print, stdin: &mut impl Read) -> Result<(), Failed> {
     let mut space = [0u8; 65536];
     let mut held = Held::new();
     let mut out = Output::new();

@@ -133,17 +133,35 @@ module _ (l : List ℕ) (v : ℤ) where
       go true = refl
       go false = refl
 
-  pub label_found : (r : Part) → record_found l v ≡ Some r → (label_in l v ≡ label_at r v) × (45 ≤ r.end)
+  -- a label's part, by its record's
+  pub label_found : (record_in l v).start < (record_in l v).end → (label_in l v ≡ label_at (record_in l v) v) × (45 ≤ (record_in l v).end)
+  unfolding record_in label_in
+  label_found = go (has_mark l v)
+    where
+      go : (t : Bool) → (cond t (record_at h k) nowhere).start < (cond t (record_at h k) nowhere).end → (cond t (label_at (cond t (record_at h k) nowhere) v) nowhere ≡ label_at (cond t (record_at h k) nowhere) v) × (45 ≤ (cond t (record_at h k) nowhere).end)
+      go true u = (refl, omega arith)
+      go false u = absurd (omega arith)
+
+  pub label_absent : (record_in l v).end ≤ (record_in l v).start → label_in l v ≡ nowhere
+  unfolding record_in label_in
+  label_absent = go (has_mark l v)
+    where
+      go : (t : Bool) → (cond t (record_at h k) nowhere).end ≤ (cond t (record_at h k) nowhere).start → cond t (label_at (cond t (record_at h k) nowhere) v) nowhere ≡ nowhere
+      go true u = absurd (omega arith)
+      go false u = refl
+
+  -- the same, as the record is found
+  pub label_some : (r : Part) → record_found l v ≡ Some r → (label_in l v ≡ label_at r v) × (45 ≤ r.end)
   unfolding record_in record_found label_in
-  label_found r e = go (has_mark l v) e
+  label_some r e = go (has_mark l v) e
     where
       go : (t : Bool) → cond t (Some (record_at h k)) None ≡ Some r → (cond t (label_at (cond t (record_at h k) nowhere) v) nowhere ≡ label_at r v) × (45 ≤ r.end)
       go true u = let is : record_at h k ≡ r = cc in (ap (λ (x : Part). label_at x v) is, omega (arith, ap (λ (x : Part). x.end) is))
       go false u = absurd (cc)
 
-  pub label_absent : record_found l v ≡ None → label_in l v ≡ nowhere
+  pub label_none : record_found l v ≡ None → label_in l v ≡ nowhere
   unfolding record_in record_found label_in
-  label_absent e = go (has_mark l v) e
+  label_none e = go (has_mark l v) e
     where
       go : (t : Bool) → cond t (Some (record_at h k)) None ≡ None → cond t (label_at (cond t (record_at h k) nowhere) v) nowhere ≡ nowhere
       go true u = absurd (cc)

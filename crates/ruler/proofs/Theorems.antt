@@ -18,12 +18,19 @@ use Rattle.numeric.specs.Calls.{plan_with}
 use Rattle.decimal.proofs.Texts.{same_yes}
 use Rattle.ruler.specs.declared.Ruler.{Ruler}
 use Rattle.ruler.specs.Bytes.{whole_at, kind_for, kind_byte, twist_number, head_long, form_for, axis, axis_body, laid}
-use Rattle.ruler.specs.Rule.{form_in, a_in, b_in, limit_in, m_in, bytes_by, write_by, read_as, ruler_read, has_ruler, is_ruler, ruler_plan_by}
+use Rattle.ruler.specs.Rule.{form_in, a_in, b_in, limit_in, m_in, bytes_by, write_by, read_as, ruler_read, has_ruler, is_ruler, plain_form, ruler_plan_by, ruler_plan, ruler_plan_inside}
 use Rattle.ruler.specs.Steps.{is_by, drawing_in}
 use Rattle.ruler.proofs.Numbers.{word_back, number-back}
 use Rattle.ruler.proofs.Drawn.{drawn_for, is_drawn, has_plan, ruler_is, ruler_long_lem, marks_long, write_refused, write_none, write_short, write_fits}
 use Rattle.ruler.proofs.Places.{film}
 use Rattle.ruler.proofs.Reader.{Known, ruler_in, known_long, read_known, read_nothing}
+
+-- ---- what is planned of a draft with either choice of marks
+pub plan_cut : (a b : ℤ) (limit : Limit) (m : ℕ) → ruler_plan_by (plain_form Cut) a b limit m ≡ ruler_plan a b limit m
+plan_cut a b limit m = refl
+
+pub plan_inside : (a b : ℤ) (limit : Limit) (m : ℕ) → ruler_plan_by (plain_form Inside) a b limit m ≡ ruler_plan_inside a b limit m
+plan_inside a b limit m = refl
 
 -- ---- the form and the numbers in a ruler are its own
 abbrev form_by : Choice → Twist → Form

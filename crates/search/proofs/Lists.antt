@@ -127,14 +127,23 @@ module _ {A : Type 0} (num : Numbers A) (o : Order A num.less num.equal) where
 
 -- ---- a walk along the pairs of neighbours of a list: ok says whether all passed were in order
 module _ {A : Type 0} (lt : A → A → Bool) where
-  pub walk_on : {b : Bool} (ok : Bool) (r r' w : List A) (n : ℕ) (x y : A) → n ≡ 2 → n ≤ length r → w ≡ take n r → r' ≡ drop 1 r → x ≡ get_or w 0 x → y ≡ get_or w 1 y
-      → b ≡ (ok && ascends lt r) → b ≡ ((ok && lt x y) && ascends lt r')
-  walk_on ok [] r' w n x y two h e f p q a = absurd (omega (arith, h, two))
-  walk_on ok (v ∷ []) r' w n x y two h e f p q a = absurd (omega (arith, h, two))
-  walk_on ok (u ∷ (v ∷ vs)) r' w n x y two h e f p q a =
-      let first : x ≡ u = rw (e, two) at p in
-      let second : y ≡ v = rw (e, two) at q in
-      rw (first, second, f) (a ∙ sym (and_assoc ok (lt u v) (goes_on lt v vs)))
+  pass : {b : Bool} (ok : Bool) (l : List A) (j : ℕ) (x y : A) → suc j < length l → x ≡ get_or l j x → y ≡ get_or l (suc j) y
+      → b ≡ (ok && ascends lt (drop j l)) → b ≡ ((ok && lt x y) && ascends lt (drop (suc j) l))
+  pass ok [] j x y h p q a = absurd (omega (arith, h))
+  pass ok (u ∷ []) j x y h p q a = absurd (omega (arith, h))
+  pass ok (u ∷ (v ∷ vs)) zero x y h p q a =
+      let first : x ≡ u = p in
+      let second : y ≡ v = q in
+      rw (first, second) (a ∙ sym (and_assoc ok (lt u v) (goes_on lt v vs)))
+  pass ok (u ∷ (v ∷ vs)) (suc j) x y h p q a = pass ok (v ∷ vs) j x y (omega (arith, h)) p q a
+
+  pub walk_on : {b : Bool} (ok : Bool) (l : List A) (k : ℕ) (x y : A) → 1 ≤ k → k < length l → x ≡ get_or l (k - 1) x → y ≡ get_or l k y
+      → b ≡ (ok && ascends lt (drop (k - 1) l)) → b ≡ ((ok && lt x y) && ascends lt (drop (k + 1 - 1) l))
+  walk_on ok l zero x y h m p q a = absurd (omega (arith, h))
+  walk_on ok l (suc j) x y h m p q a =
+      let less : suc j - 1 ≡ j = omega arith in
+      let more : suc j + 1 - 1 ≡ suc j = omega arith in
+      rw more (pass ok l j x y m (rw less at p) q (rw less at a))
 
   pub walk_done : {b : Bool} (ok : Bool) (r : List A) → length r < 2 → b ≡ (ok && ascends lt r) → ok ≡ b
   walk_done ok [] h a = sym (a ∙ and-true ok)

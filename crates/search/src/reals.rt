@@ -3,7 +3,7 @@ ghost use Rattle.std.specs.Prelude.{◌≡◌};
 ghost use Rattle.ranged1d.specs.Told.{tell_found};
 ghost use Rattle.search.specs.Lists.{real_search};
 
-use crate::steps::{can_search, find};
+use crate::steps::{can_search, find, rising};
 use crate::{RoundingMethod, settle_nan};
 use ranged1d::Refusal;
 
@@ -15,11 +15,12 @@ pub fn search_real(
 ) -> Result<Option<u64>, Refusal>
     ensures { tell_found result ≡ real_search list.now target method }
 {
-    if !can_search(list) {
+    let rises = rising(list);
+    if !can_search(rises, list) {
         return Err(Refusal::NotMonotone);
     }
     if target.is_nan() {
         return settle_nan(method, list.len());
     }
-    Ok(find(list, target, method))
+    Ok(find(rises, list, target, method))
 }

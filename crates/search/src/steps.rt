@@ -16,7 +16,8 @@ pub fn precedes<T: Entry>(rises: bool, x: T, y: T) -> bool
     if rises { x.is_less(y) } else { y.is_less(x) }
 }
 
-fn rising<T: Entry>(list: &[T]) -> bool
+// Whether the first two entries rise; a list without two counts as rising.
+pub(crate) fn rising<T: Entry>(list: &[T]) -> bool
     ensures { result ≡ rises_first T.numbers.less list.now }
 {
     match list {
@@ -26,12 +27,13 @@ fn rising<T: Entry>(list: &[T]) -> bool
 }
 
 // Whether each entry comes before the next. No pair is left out and none ends the loop, so that the compiler compares several at a time.
+// Kept: pairs by their index. Over `windows(2)` the compiler carries an entry from pair to pair, and a long list may take a third longer.
 fn in_line<T: Entry>(rises: bool, list: &[T]) -> bool
     ensures { result ≡ ascends (toward rises T.numbers.less) list.now }
 {
     let mut ok = true;
-    for w in list.windows(2) {
-        ok &= precedes(rises, w[0], w[1]);
+    for k in 1..list.len() {
+        ok &= precedes(rises, list[k - 1], list[k]);
     }
     ok
 }
@@ -51,13 +53,14 @@ fn ordered<T: Entry>(rises: bool, list: &[T]) -> bool
     in_line(rises, rest)
 }
 
-// Whether the list can be searched.
-pub(crate) fn can_search<T: Entry>(list: &[T]) -> bool
+// Whether the list can be searched; rises says whether its first two entries rise, which a caller asks once for this and for `find`.
+pub(crate) fn can_search<T: Entry>(rises: bool, list: &[T]) -> bool
+    requires { rises ≡ rises_first T.numbers.less list.now }
     ensures { result ≡ searchable T.numbers list.now }
 {
     match list {
         [x] => x.is_equal(*x),
-        _ => ordered(rising(list), list),
+        _ => ordered(rises, list),
     }
 }
 
@@ -87,12 +90,12 @@ fn entry_before<T: Entry>(list: &[T], i: usize, t: T) -> T
 }
 
 // The index that the search finds in a list that can be searched.
-pub(crate) fn find<T: Entry>(list: &[T], t: T, method: RoundingMethod) -> Option<u64>
+pub(crate) fn find<T: Entry>(rises: bool, list: &[T], t: T, method: RoundingMethod) -> Option<u64>
+    requires rises_value { rises ≡ rises_first T.numbers.less list.now }
     requires list_value { searchable T.numbers list.now ≡ true }
     requires t_value { T.numbers.equal t t ≡ true }
     ensures { tell_option result ≡ search T.numbers t method list.now }
 {
-    let rises = rising(list);
     let i = position(rises, list, t);
     let x = entry_before(list, i, t);
     let y = entry_or(list, i, t);

@@ -7,7 +7,7 @@ ghost use Rattle.search.specs.Lists.{searchable, whole_search};
 ghost use Rattle.search.specs.Search.{wholes};
 
 use crate::RoundingMethod;
-use crate::steps::{can_search, find};
+use crate::steps::{can_search, find, rising};
 use ranged1d::Refusal;
 
 // Whether every entry is admitted.
@@ -37,7 +37,8 @@ pub fn search_whole(
     if !ranged1d::whole_admitted(target) {
         return Err(Refusal::WholeNotAdmitted);
     }
-    if !can_search(list) {
+    let rises = rising(list);
+    if !can_search(rises, list) {
         // 1 comes before 8
         if !admitted(list) {
             return Err(Refusal::WholeNotAdmitted);
@@ -47,5 +48,5 @@ pub fn search_whole(
     if !ends_admitted(list) {
         return Err(Refusal::WholeNotAdmitted);
     }
-    Ok(find(list, target, method))
+    Ok(find(rises, list, target, method))
 }

@@ -26,6 +26,11 @@ pub enum SegmentValue<T> {
     Last,
 }
 
+// That of whole and of real numbers.
+pub type SegmentValuei32 = SegmentValue<i32>;
+
+pub type SegmentValuef64 = SegmentValue<f64>;
+
 // Segments over an axis.
 #[derive(Clone, Copy)]
 pub struct Segmented<A>(pub A);

@@ -111,6 +111,9 @@ fn axis_matched(call: &[u8], numbers: &[u64]) -> bool {
 
 // The place in CALLS of the call that answers as the line has it.
 fn judge(line: &[u8]) -> Option<usize> {
+    if line.is_empty() {
+        return None;
+    }
     let (word, rest) = text::split_word(line);
     let mut space = [0; 64];
     let n = text::numbers(rest, &mut space);

@@ -6,15 +6,14 @@ use crate::calls::same_found;
 use ranged1d::Refusal;
 use search::RoundingMethod;
 
-// Word k of the line: 0 exact, 1 up, 2 down, 3 nearest. With another number the line matches no call.
+// Word k of the line: 0 exact, 1 up, 2 down, 3 nearest, as any other number is read too. None where the line has no such word.
 // Kept: its own numbers beside those of culvraod, so that a line is read without what it is to judge.
 pub(crate) fn method(numbers: &[u64], k: usize) -> Option<RoundingMethod> {
     match numbers.get(k)? {
         0 => Some(RoundingMethod::Exact),
         1 => Some(RoundingMethod::Ceil),
         2 => Some(RoundingMethod::Floor),
-        3 => Some(RoundingMethod::Round),
-        _ => None,
+        _ => Some(RoundingMethod::Round),
     }
 }
 

@@ -12,7 +12,7 @@ use ranged1d::Refusal;
 use search::RoundingMethod;
 use segmented::{Axis, SegmentValue, Segmented};
 
-// Words k and k + 1 of the line: 0 Exact, 1 CenterOf, 2 Last. With another number the line matches no call.
+// Words k and k + 1 of the line: 0 Exact, 1 CenterOf, 2 Last, as any other number is read too. None where the line has no such word.
 // Kept: its own numbers beside those of culvraod, so that a line is read without what it is to judge.
 fn value<T: Word>(numbers: &[u64], k: usize) -> Option<SegmentValue<T>>
     requires { k < 64 }
@@ -21,8 +21,7 @@ fn value<T: Word>(numbers: &[u64], k: usize) -> Option<SegmentValue<T>>
     match numbers.get(k)? {
         0 => Some(SegmentValue::Exact(carried)),
         1 => Some(SegmentValue::CenterOf(carried)),
-        2 => Some(SegmentValue::Last),
-        _ => None,
+        _ => Some(SegmentValue::Last),
     }
 }
 

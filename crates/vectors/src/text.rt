@@ -1,5 +1,8 @@
 // Lines of text, and the numbers in them: base ten, a minus sign in front of a negative one, which becomes its two's complement.
 ghost use Rattle.std.specs.Prelude.{◌≤◌, length};
+ghost use Rattle.memchr.specs.Find.{IsFirstByte, is_byte};
+
+use memchr::memchr;
 
 // v with one digit more; v itself where that is too large for a u64.
 fn push(v: u64, digit: u32) -> u64 {
@@ -46,9 +49,16 @@ pub(crate) fn numbers(text: &[u8], out: &mut [u64]) -> usize
     out.len()
 }
 
+// Where this byte stands first.
+fn find(text: &[u8], byte: u8) -> Option<usize>
+    ensures { IsFirstByte (is_byte byte) text.now result }
+{
+    memchr(byte, text)
+}
+
 // What stands before the first blank, and what stands behind it.
 pub(crate) fn split_word(line: &[u8]) -> (&[u8], &[u8]) {
-    match line.iter().position(|b| *b == b' ') {
+    match find(line, b' ') {
         Some(end) => (&line[..end], &line[end + 1..]),
         None => (line, &[]),
     }

@@ -1,7 +1,7 @@
 -- `keypoints::Run::put` what the search leaves: the first marks are written, and those still to come are the rest of the list.
 use Rattle.std.proofs.Common.{◌<◌, ◌∙◌, length, arith, length-set}
 use Rattle.keypoints.specs.Marks.{marks_from}
-use Rattle.keypoints.proofs.Lists.{few, rest_again, write_more}
+use Rattle.keypoints.proofs.Lists.{few, rest_again, front_more}
 use Rattle.keypoints.proofs.Run.put.Goals as goal
 
 pub loop-mark-preserved : goal.loop-mark-preserved
@@ -17,6 +17,6 @@ loop-mark-preserved c =
     let left : k < 2001 = omega arith in
     rw c.shift-z.ensures (record {
       long = length-set o k _ ∙ inv.long;
-      written = write_more r l k y inside left inv.left o (omega (arith, inv.long, c.requires.n_value)) inv.written;
+      written = front_more r l k y inside left inv.left o (omega (arith, inv.long, c.requires.n_value)) inv.written;
       left = rest_again r l k y inside left inv.left;
     })

@@ -13,4 +13,4 @@ returns-in_default g c =
     let n = g.T.Entry.numbers in
     let l = c.args.list.now in
     let two : length l ≡ 1 → ⊥ = elim c.in_default.branch [ in_default-via-then-list-lt1 w ↦ λ e. absurd (search (rules, tests)) | in_default-via-else-list-lt1+else-list-lt2 w ↦ λ e. absurd (search (rules, tests)) ] in
-    c.ordered.ensures ∙ ap (λ (r : Bool). ascends (toward r n.less) l) c.rising.ensures ∙ sym (searchable_is n g.met.T.Entry.ordered l two)
+    c.ordered.ensures ∙ ap (λ (r : Bool). ascends (toward r n.less) l) c.requires ∙ sym (searchable_is n g.met.T.Entry.ordered l two)

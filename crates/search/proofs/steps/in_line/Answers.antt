@@ -1,18 +1,15 @@
--- ok says whether the entries passed are in order.
-use Rattle.std.proofs.Common.{◌∙◌, arith}
-use Rattle.std.specs.Slice.Iter.{windows_rest, windows_size}
+-- ok says whether the first k entries are in order.
+use Rattle.std.proofs.Common.{◌-◌, drop, length-drop, arith}
 use Rattle.search.specs.Lists.{toward}
 use Rattle.search.proofs.Lists.{walk_on, walk_done}
 use Rattle.search.proofs.steps.in_line.Goals as goal
 
-pub loop-w-preserved : goal.loop-w-preserved
-loop-w-preserved g c =
-    let s = c.in-Some.ensures.steps in
+pub loop-k-preserved : goal.loop-k-preserved
+loop-k-preserved g c =
     let lt = toward c.args.rises g.T.Entry.numbers.less in
-    record {
-      pairs = s.0 ∙ c.loop-w.invariant.pairs;
-      passed = rw c.precedes-ok.ensures (walk_on lt c.loop-w.ok (windows_rest c.loop-w.w-iterator) (windows_rest c.next.new.self) c.in-Some.w.now (windows_size c.loop-w.w-iterator) c.index-w-0.result c.index-w-1.result c.loop-w.invariant.pairs s.1.0 s.1.1 s.1.2 c.index-w-0.is c.index-w-1.is c.loop-w.invariant.passed);
-    }
+    rw c.precedes-ok.ensures (walk_on lt c.loop-k.ok c.args.list.now c.loop-k.k c.index-list-k.result c.index-list-k-in-loop-k.result (omega (arith, c.loop-k.auto.k)) c.loop-k-test.true c.index-list-k.is c.index-list-k-in-loop-k.is c.loop-k.invariant)
 
 pub returns : goal.returns
-returns g c = walk_done (toward c.args.rises g.T.Entry.numbers.less) c.loop-w.ok (windows_rest c.loop-w.w-iterator) (omega (arith, c.in-None.ensures.steps.1.0, c.loop-w.invariant.pairs)) c.loop-w.invariant.passed
+returns g c =
+    let l = c.args.list.now in
+    walk_done (toward c.args.rises g.T.Entry.numbers.less) c.loop-k.ok (drop (c.loop-k.k - 1) l) (omega (arith, length-drop (c.loop-k.k - 1) l, c.loop-k-test.false)) c.loop-k.invariant
