@@ -1,5 +1,8 @@
 //! Stepped axes: the list of an axis by a step, and what is found, placed, read and marked on it.
 
+use std::any::type_name;
+use std::fmt;
+
 use crate::refusal::{answered, answered_or_none, ask, declare, Refusal};
 use crate::{Limit, RangedCoordf64, RangedCoordi32, RoundingMethod};
 
@@ -31,6 +34,24 @@ pub type Linspacei32 = Linspace<RangedCoordi32, i32>;
 /// A real axis by a step. Each sum of its list is rounded, and with NaN the list is empty.
 pub type Linspacef64 = Linspace<RangedCoordf64, f64>;
 
+/// A whole or a real axis by a step under its own name; anything else as a `Linspace`.
+impl<A: fmt::Debug, T: fmt::Debug> fmt::Debug for Linspace<A, T> {
+    fn fmt(&self, f: &mut fmt::Formatter<'_>) -> fmt::Result {
+        let own = type_name::<Self>();
+        let name = if own == type_name::<Linspacei32>() {
+            "Linspacei32"
+        } else if own == type_name::<Linspacef64>() {
+            "Linspacef64"
+        } else {
+            "Linspace"
+        };
+        f.debug_struct(name)
+            .field("inner", &self.inner)
+            .field("step", &self.step)
+            .finish()
+    }
+}
+
 /// A stepped axis: the same calls for whole and for real numbers, by their C functions. `$also` is
 /// the refusal that whole numbers alone meet, `$search` are the others of a search.
 macro_rules! stepped {
@@ -39,13 +60,6 @@ macro_rules! stepped {
         $values:ident, $size:ident, $from_index:ident, $index_of:ident, $map:ident, $unmap:ident,
         $key_points:ident
     ) => {
-        /// Under the name of the axis.
-        impl std::fmt::Debug for $axis {
-            fn fmt(&self, f: &mut std::fmt::Formatter<'_>) -> std::fmt::Result {
-                f.debug_struct(stringify!($axis)).field("inner", &self.inner).field("step", &self.step).finish()
-            }
-        }
-
         declare!(
             concat!(stringify!($axis), "::values`]"),
             $values((a: $number, b: $number, d: $number) out: *mut $number, len: usize, count: *mut usize)
@@ -187,6 +201,30 @@ mod tests {
         assert_eq!(format!("{whole:?}"), "Linspacei32 { inner: RangedCoordi32(0, 10), step: 4 }");
         let real = RangedCoordf64(0.0, 1.0).step(0.5);
         assert_eq!(format!("{real:?}"), "Linspacef64 { inner: RangedCoordf64(0.0, 1.0), step: 0.5 }");
+    }
+
+    /// Holds any `Linspace`, so that its own `Debug` asks for that of each.
+    #[derive(Debug)]
+    struct Held<A, T>(Linspace<A, T>);
+
+    #[test]
+    fn printed_whatever_it_is_of() {
+        let held = Held(Linspace {
+            inner: 'a',
+            step: 1_u8,
+        });
+        assert_eq!(
+            format!("{held:?}"),
+            "Held(Linspace { inner: 'a', step: 1 })"
+        );
+        let mixed = Linspace {
+            inner: RangedCoordf64(0.0, 1.0),
+            step: 4_i32,
+        };
+        assert_eq!(
+            format!("{mixed:?}"),
+            "Linspace { inner: RangedCoordf64(0.0, 1.0), step: 4 }"
+        );
     }
 
     #[test]
